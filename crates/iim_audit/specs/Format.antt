@@ -1,33 +1,25 @@
 -- What an audit answers: the rows of envelopes, their ages and copies, and the text of a report.
 use Rattle.std.specs.Prelude.{ℤ, pos, ◌-ℤ◌, ◌*ℤ◌, ◌≤ℤ◌, Option, List, int_le, not, false, if◌then◌else◌, ℕ, ◌+◌, [], ◌∷◌, ◌++◌, map, slice_get, Some, None, ◌≡◌, ◌<◌, ◌⊎◌, length, ◌≤◌, take, slice_index, Bool, true, count_by, codes, decimal, is_some}
-use Rattle.std.specs.Int.{int_div_euclid}
+use Rattle.std.specs.{Int.int_div_euclid, Str.Parse.digits_value, Io.KnownBytes.IsAtEnd, Fmt.signed_decimal}
 use Rattle.std.specs.Option.{option_map, option_map_or, option_and_then, unwrap_or}
-use Rattle.std.specs.Str.Parse.{digits_value}
-use Rattle.std.specs.Io.KnownBytes.{IsAtEnd}
-use Rattle.std.specs.Fmt.{signed_decimal}
 use Rattle.iim_dataset.specs.Format.Datasets.{Dataset, shown, number_or_dash}
 use Rattle.iim_tables.specs.Format.Dates.{nanoseconds_in_second}
 use Rattle.iim_fields.specs.Format.Records.{instant_sent, instant_of_release, instant_of_expiration, Identity, id_eq, first_data}
 use Rattle.wire_story.specs.Format.Texts.{words, capped, StoryEvent, WordsSoFar, CountsWords}
-use Rattle.iim_places.specs.Format.Admitted.{Value}
-use Rattle.iim_dataset.specs.States.Devices.{Device, HasGiven, MissedAfter}
+use Rattle.iim_places.specs.Format.{Admitted.Value, Open.IsOpen, Open.Delivers, Causes.refusal_at}
 use Rattle.iim_places.specs.Format.Streams.{Listed, Divides, IsListing, Whole, RefusedBy, TooMany, values_of, raised, IsEnvelopeWithin, Kills}
-use Rattle.iim_places.specs.Format.Open.{IsOpen, Delivers}
+use Rattle.iim_places.specs.declared.fault.TokenFault.{TokenFault}
+use Rattle.iim_dataset.specs.States.Devices.{Device, HasGiven, MissedAfter}
 use Rattle.iim_unpack.specs.States.Unpacking.{failed_at, Stands}
-use Rattle.iim_places.specs.Format.Causes.{refusal_at}
 use Rattle.iim_dataset.specs.Format.Octets.{minus}
-use Rattle.iim_audit.specs.declared.copy.CopyState.{CopyState}
+use Rattle.iim_audit.specs.declared.{copy.CopyState.CopyState, pieces.PieceAudit.PieceAudit, pieces.PieceRow.PieceRow}
 use Rattle.iim_audit.specs.declared.copy.CopyState.TheVariants.{Held, Expired, Free}
-pub use Rattle.iim_audit.specs.declared.row.AuditRow.{AuditRow}
+pub use Rattle.iim_audit.specs.declared.{row.AuditRow.AuditRow, fault.AuditCause.AuditCause}
 pub use Rattle.iim_dataset.specs.declared.device.IoFault.{IoFault}
 use Rattle.iim_dataset.specs.declared.device.IoFault.TheVariants as io
 pub use Rattle.iim_fields.specs.declared.limits.Limits.{Limits}
 pub use Rattle.iim_places.specs.declared.refusal.Refusal.{Refusal}
-pub use Rattle.iim_audit.specs.declared.fault.AuditCause.{AuditCause}
 use Rattle.iim_audit.specs.declared.fault.AuditCause.TheVariants as causes
-use Rattle.iim_places.specs.declared.fault.TokenFault.{TokenFault}
-use Rattle.iim_audit.specs.declared.pieces.PieceAudit.{PieceAudit}
-use Rattle.iim_audit.specs.declared.pieces.PieceRow.{PieceRow}
 
 -- the whole seconds in `nanoseconds` nanoseconds, rounded down
 -- twins (with IsFloor): law `whole_seconds_are_floors`; "The age is the greatest whole number of seconds";

@@ -1,32 +1,23 @@
 -- The steps of an audit: what an envelope comes to, how its words are counted, and which rows repeat an earlier one.
 use Rattle.std.specs.Prelude.{◌≡◌, ◌≢◌, ℕ, ◌≤◌, List, length, None, ◌+◌, ◌*◌, ◌/◌, ◌%◌, ◌^◌, ◌<◌, [], ◌∷◌, map, take, slice_index_or, ℤ, Option, Some}
-use Rattle.std.specs.Option.{option_cmp}
+use Rattle.std.specs.{Option.option_cmp, List.Sorted.IsSortedBy, declared.cmp.Ordering.Ordering, Io.KnownBytes.IsAtEnd}
 use Rattle.std.specs.List.{All, Contains, slice_get}
-use Rattle.std.specs.List.Sorted.{IsSortedBy}
 use Rattle.std.specs.Ordering.{is_lt, nat_cmp, on, then_cmp}
-use Rattle.std.specs.declared.cmp.Ordering.{Ordering}
-use Rattle.std.specs.Io.KnownBytes.{IsAtEnd}
 use Rattle.wire_story.specs.Format.Texts.{StoryEvent, WordsSoFar, CountsWords}
 use Rattle.iim_unpack.specs.States.Unpacking.{Unpacking, Stands, Goes, IsDone, IsRefusedIn, limits_in, IsDoneWith}
+use Rattle.iim_unpack.specs.{Format.Pieces.ShowsParts, declared.unpacker.Progress.Progress}
+use Rattle.iim_unpack.specs.{declared.unpacker.Progress.TheVariants.Done, declared.intake.IntakeFault.IntakeFault}
 use Rattle.iim_fields.specs.Format.Records.{Identity, id_cmp}
 use Rattle.iim_audit.specs.Format.{first_same, row_with, counted_words, IoFault, Limits, AuditCause}
-use Rattle.iim_places.specs.Format.Admitted.{Value}
-use Rattle.iim_dataset.specs.States.Devices.{Device, HasGiven, MissedAfter}
+use Rattle.iim_audit.specs.declared.{row.AuditRow.AuditRow, ledger.Ledger.Ledger, row.Taken.Taken}
+use Rattle.iim_places.specs.Format.{Admitted.Value, Open.IsOpen}
 use Rattle.iim_places.specs.Format.Streams.{Listed, IsListed, IsRefusedAfter, raised}
-use Rattle.iim_places.specs.Format.Open.{IsOpen}
-use Rattle.iim_unpack.specs.Format.Pieces.{ShowsParts}
-use Rattle.iim_places.specs.declared.refusal.Cause.TheVariants.{Message}
+use Rattle.iim_places.specs.declared.refusal.{Cause.TheVariants.Message, Refusal.Refusal}
+use Rattle.iim_dataset.specs.States.Devices.{Device, HasGiven, MissedAfter}
 use Rattle.wire_message.specs.declared.fault.MessageCause.TheVariants.{Sink}
-use Rattle.iim_places.specs.declared.refusal.Refusal.{Refusal}
-use Rattle.iim_unpack.specs.declared.unpacker.Progress.{Progress}
-use Rattle.iim_unpack.specs.declared.unpacker.Progress.TheVariants.{Done}
-use Rattle.iim_audit.specs.declared.row.AuditRow.{AuditRow}
-use Rattle.iim_unpack.specs.declared.intake.IntakeFault.{IntakeFault}
 use Rattle.iim_unpack.specs.declared.intake.IntakeFault.TheVariants as intakes
 use Rattle.iim_audit.specs.declared.fault.AuditCause.TheVariants as causes
-use Rattle.iim_audit.specs.declared.ledger.Ledger.{Ledger}
 use Rattle.iim_dataset.specs.declared.device.IoFault.TheVariants as io
-use Rattle.iim_audit.specs.declared.row.Taken.{Taken}
 
 -- The unpacker went on by a piece, and the words that it delivers were counted. Where that is told an envelope has ended, and no more
 -- octets were used than the piece has.

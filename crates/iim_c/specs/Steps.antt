@@ -1,28 +1,24 @@
 -- What the steps of the calls come to: of saving a place, of feeding and auditing a piece, of looking at a place.
 use Rattle.std.specs.Prelude.{◌≡◌, ℕ, ◌<◌, ◌≤◌, ◌⊎◌, List, length, ◌≢◌, [], ◌∷◌, map, ◌+◌, ◌*◌, None, ℤ, ◌++◌, take, drop}
 use Rattle.iim_places.specs.Format.Tickets.{Phase, TagBegun, DataBegun, AllEnded, width}
+use Rattle.iim_places.specs.Format.Streams.{raised}
+use Rattle.iim_places.specs.declared.refusal.{Refusal.Refusal, Cause.TheVariants.Message}
 use Rattle.iim_unpack.specs.States.Unpacking.{Unpacking, Stands, limits_in, Goes, IsRefusedIn}
-use Rattle.iim_unpack.specs.declared.unpacker.Progress.{Progress}
-use Rattle.iim_unpack.specs.declared.unpacker.Progress.TheVariants.{More, Done}
+use Rattle.iim_unpack.specs.States.Restored.{IsRestored, HasTicketIn}
+use Rattle.iim_unpack.specs.declared.unpacker.Progress.{Progress, TheVariants.More, TheVariants.Done}
 use Rattle.iim_c.specs.Format.Answers.{status_answer, short_answer, IimAnswer, HasTaken}
+use Rattle.iim_c.specs.Format.Tickets.{no_span, IimSpan, bit_of}
+use Rattle.iim_c.specs.Format.Auditing.{AreRows, InHand, IimAuditRow, IimSoFar}
+use Rattle.iim_c.specs.declared.finding.Ending.TheVariants.{Used, Full, Refused}
+use Rattle.iim_c.specs.declared.finding.{Ending.Ending, Found.Found}
 use Rattle.iim_c.specs.Format.Packing as packing
 use Rattle.iim_c.specs.Format.Statuses as status
 use Rattle.iim_fields.specs.declared.limits.Limits.{Limits}
-use Rattle.iim_unpack.specs.States.Restored.{IsRestored, HasTicketIn}
 use Rattle.wire_story.specs.Format.Texts.{StoryEvent, octet_for}
-use Rattle.iim_places.specs.declared.refusal.Refusal.{Refusal}
-use Rattle.iim_places.specs.declared.refusal.Cause.TheVariants.{Message}
 use Rattle.wire_message.specs.declared.fault.MessageCause.TheVariants.{Sink}
-use Rattle.iim_c.specs.Format.Tickets.{no_span, IimSpan, bit_of}
-use Rattle.iim_places.specs.Format.Streams.{raised}
-use Rattle.iim_audit.specs.Format.{Refuses, StandsOn}
-use Rattle.iim_audit.specs.declared.pieces.PieceAudit.{PieceAudit}
+use Rattle.iim_audit.specs.{Format.Refuses, Format.StandsOn, declared.pieces.PieceAudit.PieceAudit}
 use Rattle.iim_pack_script.specs.declared.packing.PackFault.{PackFault}
 use Rattle.iim_pack_script.specs.declared.packing.PackFault.TheVariants as faults
-use Rattle.iim_c.specs.Format.Auditing.{AreRows, InHand, IimAuditRow, IimSoFar}
-use Rattle.iim_c.specs.declared.finding.Ending.{Ending}
-use Rattle.iim_c.specs.declared.finding.Ending.TheVariants.{Used, Full, Refused}
-use Rattle.iim_c.specs.declared.finding.Found.{Found}
 
 -- ---- What saving the place of an unpacker comes to.
 

@@ -2,8 +2,7 @@
 use Rattle.std.proofs.Common.{ℕ, List, [], ◌++◌, map, refl, sym, ap, subst, ◌∙◌, append-nil, append_assoc}
 use Rattle.std.proofs.lemmas.List.{map-append}
 use Rattle.wire_story.specs.Format.Texts.{StoryEvent, octet_for}
-use Rattle.iim_c.specs.declared.text_out.TextOut.{TextOut}
-use Rattle.iim_c.specs.Format.Answers.{HasTaken, WritesLines}
+use Rattle.iim_c.specs.{declared.text_out.TextOut.TextOut, Format.Answers.HasTaken, Format.Answers.WritesLines}
 
 pub writes_nothing : (sink : TextOut) → WritesLines sink [] sink
 writes_nothing sink = record {

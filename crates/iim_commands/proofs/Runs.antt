@@ -1,5 +1,5 @@
 -- How a run begins and ends.
-use Rattle.iim_commands.proofs.Words.{◌≡◌, ℕ, ◌⊎◌, inl, inr, refl, ap, ◌∙◌, List, [], Option, None, Some, Result, Ok, Err, IfOk, IfErr, Device, CommandFault, status_failed, in_line, Complained}
+use Rattle.iim_commands.proofs.Words.{◌≡◌, ℕ, ◌⊎◌, inl, inr, refl, ap, ◌∙◌, List, [], Option, None, Some, Result, Ok, Err, IfOk, IfErr, Device, CommandFault, status_failed, in_line, Complained, Ends}
 use Rattle.iim_unpack.specs.States.Blocks.{with_held, put_before}
 use Rattle.iim_unpack.specs.declared.intake.Intake.{Intake}
 
@@ -19,6 +19,6 @@ begun state intake reader none is = with_none_held intake.block (state intake.re
 -- with its answer, or a fault that is told
 pub ends : (P : ℕ → Type 0) (Q : CommandFault → Type 0) (old new : Device) (answer : Result ℕ CommandFault) (status : ℕ) → IfOk answer P → IfErr answer Q
     → IfOk answer (λ want. (status ≡ want) × (new ≡ old)) → IfErr answer (λ fault. (status ≡ status_failed) × Complained old new fault)
-    → (P status × (new ≡ old)) ⊎ ((fault : CommandFault) × Q fault × Complained old new fault × (status ≡ status_failed))
+    → Ends (P status × (new ≡ old)) (λ fault before. Q fault × (before ≡ old)) new status
 ends P Q old new (Ok want) status ok err same told = inl (rw same.0 ok, same.1)
-ends P Q old new (Err fault) status ok err same told = inr (fault, err, told.1, told.0)
+ends P Q old new (Err fault) status ok err same told = inr (fault, old, (err, refl), told.1, told.0)

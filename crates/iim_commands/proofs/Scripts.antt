@@ -9,7 +9,7 @@ use Rattle.iim_fields.specs.Format.Causes.{is_kept, kept}
 use Rattle.iim_fields.specs.Format.Records.{AreRecords, AreSections}
 use Rattle.iim_tables.specs.Format.Records.{IsGoodDataset}
 use Rattle.wire_story.specs.Format.Texts.{IsLine, IsText}
-use Rattle.iim_script.specs.Laws.{PrintedValuesAreScripts, ScriptsTellOneThing, ScriptsHaveNoFault, IsOneScript}
+use Rattle.iim_script.specs.Laws.{PrintedValuesAreScripts, ScriptsTellOneThing, ScriptsHaveNoFault}
 use Rattle.iim_script.specs.Format.Scripts.{value_lines, max_script}
 use Rattle.iim_places.specs.Format.Streams.{Listed, IsListed}
 use Rattle.iim_commands.specs.Laws.{told_of, TellsJust, ShownEnvelopesAreScripts}
@@ -57,14 +57,11 @@ printed law e is number short =
     law limits e.value.fields e.value.head e.value.trailer e.value.lines (story_of number e) (rw a.fields at (kept_of_sections a.datasets a.sections))
     (rw a.fields at is.within.kept) a.message.is_header a.message.is_trailer lines.0 lines.1 (inl refl) short
 
-same_told : (t other : ScriptContent) → IsOneScript t.fields other.fields t.head other.head t.trailer other.trailer t.lines other.lines t.text_line other.text_line → t ≡ other
-same_told t other one = λ i. record {
-  fields = one.same_fields i;
-  head = one.same_head i;
-  trailer = one.same_trailer i;
-  lines = one.same_lines i;
-  text_line = one.same_text_line i;
-}
+same_told : (t other : ScriptContent)
+    → (t.fields ≡ other.fields) × (t.head ≡ other.head) × (t.trailer ≡ other.trailer) × (t.lines ≡ other.lines) × (t.text_line ≡ other.text_line)
+    → t ≡ other
+same_told t other (fields, head, trailer, lines, number) =
+    λ i. record { fields = fields i; head = head i; trailer = trailer i; lines = lines i; text_line = number i }
 
 tells_just : ScriptsTellOneThing → ScriptsHaveNoFault → (script : List ℕ) (t : ScriptContent) → IsScriptOf script t → TellsJust script t
 tells_just once sound script t told = record {

@@ -1,7 +1,7 @@
 -- The names that several proofs bring in, passed on from one place.
 pub use Rattle.iim_audit.specs.Format.{FailsAt, lines_from, printed_report, row_line, sums_line}
 pub use Rattle.iim_audit.specs.declared.row.AuditRow.{AuditRow}
-pub use Rattle.iim_commands.specs.Format.{Audited, Complained, EndsPacking, IsAuditAnswer, IsUnaudited, Ran}
+pub use Rattle.iim_commands.specs.Format.{Audited, Complained, Ends, IsAuditAnswer, IsUnaudited, Ran}
 pub use Rattle.iim_dataset.proofs.Lists.{handed_on}
 pub use Rattle.iim_dataset.specs.States.Devices.{Device}
 pub use Rattle.iim_listing.specs.Format.{IsUnnarrated, Narrated, story_of}

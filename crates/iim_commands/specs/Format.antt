@@ -1,10 +1,9 @@
 -- What a run of a command leaves of its output and its errors, and its status.
 use Rattle.std.specs.Prelude.{◌≡◌, ℕ, ℤ, ◌⊎◌, List}
 use Rattle.iim_dataset.specs.States.Devices.{Device, Wrote, Stopped, HasGiven}
-use Rattle.iim_audit.specs.Format.{IsAudited, FailsAt, printed_report}
+use Rattle.iim_audit.specs.{Format.IsAudited, Format.FailsAt, Format.printed_report, declared.row.AuditRow.AuditRow}
 pub use Rattle.iim_audit.specs.declared.fault.AuditCause.{AuditCause}
 use Rattle.iim_audit.specs.declared.fault.AuditCause.TheVariants as causes
-use Rattle.iim_audit.specs.declared.row.AuditRow.{AuditRow}
 use Rattle.iim_output.specs.Format.{refused_line, too_many_line, fault_line, limits, status_accepted, status_refused, status_failed}
 pub use Rattle.iim_output.specs.declared.fault.CommandFault.{CommandFault}
 pub use Rattle.iim_output.specs.declared.fault.CommandFault.TheVariants.{CannotRead, CannotWrite, OutOfMemory}
@@ -13,7 +12,7 @@ use Rattle.iim_request.specs.declared.request.Job.TheVariants.{Check, Show, Stor
 use Rattle.iim_output.specs.States.Devices.{Devices}
 use Rattle.iim_places.specs.Format.Streams.{Listed}
 use Rattle.iim_listing.specs.Format.{line_of, IsUnnarrated, Narrated, WritesListing, FailsListing, shown_of}
-use Rattle.iim_pack_script.specs.Format.{Answered, Asked, IsUnanswered, asked}
+use Rattle.iim_pack_script.specs.Format.{Answered, IsUnanswered, asked}
 
 -- ---- What `audit` leaves.
 
@@ -46,34 +45,25 @@ IsUnaudited now source rest old new OutOfMemory = (input : List ℕ) × HasGiven
 abbrev pub Complained : Device → Device → CommandFault → Type 0
 Complained old new fault = Wrote old new (fault_line fault) ⊎ ((n : ℕ) × Stopped old new (fault_line fault) n)
 
--- The input was listed, without a word on the errors; or a fault came and was told there, and the status is 3.
--- twins (with ToldAsStory, Reviewed, EndsPacking): `tells_a_read_that_fails`, `tells_a_write_that_fails`,
---   `leaves_the_front_of_an_envelope_that_can_t_be_written`
+-- It ended as it should; or a fault came, and was told on the errors after what stood there, and the status is 3.
+abbrev pub Ends : Type 0 → (CommandFault → Device → Type 0) → Device → ℕ → Type 0
+Ends answered fails errors status = answered
+    ⊎ ((fault : CommandFault) × (before : Device) × fails fault before × Complained before errors fault × (status ≡ status_failed))
+
+-- The input was listed, without a word on the errors; or a fault came and was told there.
+-- twins (with Ends, Ran): `tells_a_read_that_fails`, `tells_a_write_that_fails`, `leaves_the_front_of_an_envelope_that_can_t_be_written`
 abbrev pub EndsListing : (ℕ → Listed → List ℕ) → Devices → Devices → ℕ → Type 0
-EndsListing text old new status = (WritesListing text old.input new.input old.output new.output status × (new.errors ≡ old.errors))
-    ⊎ ((fault : CommandFault) × FailsListing text old.input new.input old.output new.output fault × Complained old.errors new.errors fault × (status ≡ status_failed))
+EndsListing text old new status = Ends (WritesListing text old.input new.input old.output new.output status × (new.errors ≡ old.errors))
+    (λ fault errors. FailsListing text old.input new.input old.output new.output fault × (errors ≡ old.errors)) new.errors status
 
--- The stories of the input were told, with the lines of `check` on the errors; or a fault came and was told there after them, and the
--- status is 3.
-abbrev pub ToldAsStory : Devices → Devices → ℕ → Type 0
-ToldAsStory old new status = Narrated old.input new.input old.output new.output old.errors new.errors status
-    ⊎ ((fault : CommandFault) × (errors : Device) × IsUnnarrated old.input new.input old.output new.output old.errors errors fault
-    × Complained errors new.errors fault × (status ≡ status_failed))
-
--- The audit of the input was reported, without a word on the errors; or a fault came and was told there, and the status is 3.
-abbrev pub Reviewed : ℤ → Devices → Devices → ℕ → Type 0
-Reviewed now old new status = (Audited now old.input new.input old.output new.output status × (new.errors ≡ old.errors))
-    ⊎ ((fault : CommandFault) × IsUnaudited now old.input new.input old.output new.output fault × Complained old.errors new.errors fault × (status ≡ status_failed))
-
--- The script was answered; or a fault came and was told on the errors, and the status is 3.
-abbrev pub EndsPacking : Asked → Devices → Devices → ℕ → Type 0
-EndsPacking asked old new status = Answered asked old new status
-    ⊎ ((fault : CommandFault) × IsUnanswered asked old new fault × Complained old.errors new.errors fault × (status ≡ status_failed))
-
--- What each job leaves.
+-- What each job leaves: a listing; the stories, with the lines of `check` on the errors; the answer to a script; or the report of an
+-- audit, without a word on the errors.
 abbrev pub Ran : Job → Devices → Devices → ℕ → Type 0
 Ran Check old new status = EndsListing line_of old new status
 Ran Show old new status = EndsListing shown_of old new status
-Ran Story old new status = ToldAsStory old new status
-Ran (Pack request) old new status = EndsPacking (asked request.subfile request.unknown request.max) old new status
-Ran (Audit now) old new status = Reviewed now.nanosecond old new status
+Ran Story old new status = Ends (Narrated old.input new.input old.output new.output old.errors new.errors status)
+    (λ fault errors. IsUnnarrated old.input new.input old.output new.output old.errors errors fault) new.errors status
+Ran (Pack request) old new status = Ends (Answered (asked request.subfile request.unknown request.max) old new status)
+    (λ fault errors. IsUnanswered (asked request.subfile request.unknown request.max) old new fault × (errors ≡ old.errors)) new.errors status
+Ran (Audit now) old new status = Ends (Audited now.nanosecond old.input new.input old.output new.output status × (new.errors ≡ old.errors))
+    (λ fault errors. IsUnaudited now.nanosecond old.input new.input old.output new.output fault × (errors ≡ old.errors)) new.errors status

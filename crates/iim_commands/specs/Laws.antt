@@ -1,12 +1,9 @@
 -- What `show` and `story` print of an envelope makes a script of it.
 use Rattle.std.specs.Prelude.{◌≡◌, ℕ, ◌+◌, ◌≤◌, List, ◌++◌, length, codes}
-use Rattle.iim_script.specs.Format.Causes.{IsScriptFault}
-use Rattle.iim_script.specs.declared.fault.ScriptCause.{ScriptCause}
-use Rattle.iim_script.specs.declared.fault.ScriptCause.TheVariants.{OutOfMemory}
-use Rattle.iim_script.specs.Format.Scripts.{max_script}
-use Rattle.iim_places.specs.Format.Admitted.{Value}
+use Rattle.iim_script.specs.Format.{Causes.IsScriptFault, Scripts.max_script}
+use Rattle.iim_script.specs.declared.fault.ScriptCause.{ScriptCause, TheVariants.OutOfMemory}
+use Rattle.iim_places.specs.Format.{Admitted.Value, Streams.Listed, Streams.IsListed}
 use Rattle.iim_output.specs.Format.{limits}
-use Rattle.iim_places.specs.Format.Streams.{Listed, IsListed}
 use Rattle.iim_listing.specs.Format.{story_of, number_line, sizes_line, shown_of}
 use Rattle.iim_pack_script.specs.Format.{ScriptContent, IsScriptOf}
 

@@ -2,8 +2,7 @@
 
 ghost use Rattle.std.specs.Prelude.{◌≡◌, ℕ, List, IfOk, IfErr};
 ghost use Rattle.iim_unpack.specs.States.Blocks.{with_held};
-ghost use Rattle.iim_commands.specs.Format.{Complained, EndsListing, EndsPacking, Ran, Reviewed, ToldAsStory};
-ghost use Rattle.iim_pack_script.specs.Format.{asked};
+ghost use Rattle.iim_commands.specs.Format.{Complained, EndsListing, Ran};
 ghost use Rattle.iim_output.specs.States.Devices.{devices};
 ghost use Rattle.iim_output.specs.Format.{status_failed};
 
@@ -71,7 +70,7 @@ fn tell<R: Source + Drop, W: Target, E: Target>(
     errors: E,
 ) -> (u8, W, E)
     ensures { (last : R) × (held : List ℕ) × R.leads reader last
-        × ToldAsStory (devices (R.state reader) (W.state output) (E.state errors))
+        × Ran Job.Story (devices (R.state reader) (W.state output) (E.state errors))
         (devices (with_held held (R.state last)) (W.state result.1) (E.state result.2)) result.0 }
 {
     let mut intake = Intake::new(reader);
@@ -91,7 +90,7 @@ fn review<R: Source + Drop, W: Target, E: Target>(
     errors: E,
 ) -> (u8, W, E)
     ensures { (last : R) × (held : List ℕ) × R.leads reader last
-        × Reviewed now.nanosecond (devices (R.state reader) (W.state output) (E.state errors))
+        × Ran (Job.Audit now) (devices (R.state reader) (W.state output) (E.state errors))
         (devices (with_held held (R.state last)) (W.state result.1) (E.state result.2)) result.0 }
 {
     let mut intake = Intake::new(reader);
@@ -111,8 +110,7 @@ fn pack<R: Source + Drop, W: Target, E: Target>(
     errors: E,
 ) -> (u8, W, E)
     ensures { (last : R) × R.leads reader last
-        × EndsPacking (asked request.subfile request.unknown request.max)
-        (devices (R.state reader) (W.state output) (E.state errors))
+        × Ran (Job.Pack request) (devices (R.state reader) (W.state output) (E.state errors))
         (devices (R.state last) (W.state result.1) (E.state result.2)) result.0 }
 {
     let mut reader = reader;

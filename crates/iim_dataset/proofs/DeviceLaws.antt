@@ -1,18 +1,17 @@
 -- Faults after calls that went well.
-use Rattle.std.proofs.Common.{ℕ, List, ◌++◌, inl, inr, arith, ◌∙◌}
-use Rattle.iim_dataset.specs.States.Devices.{BrokeFor, Device, HasGiven, MissedAfter, Unfailed, Broke, max_interruptions}
-use Rattle.iim_dataset.specs.Steps.{consumes_consumes, rose_after}
+use Rattle.std.proofs.Common.{ℕ, List, ◌++◌, arith, ◌∙◌}
+use Rattle.iim_dataset.specs.States.Devices.{BrokeFor, Device, HasGiven, MissedAfter, Unfailed, Broke}
+use Rattle.iim_dataset.specs.Steps.{consumes_consumes}
 use Rattle.iim_dataset.specs.declared.device.IoFault.{IoFault}
 use Rattle.iim_dataset.specs.declared.device.IoFault.TheVariants.{Interrupted, Failed}
 
 -- what broke later broke
 pub broke_later : (a b c : Device) → Unfailed a b → Broke b c → Broke a c
-broke_later a b c h (inl f) = inl (rw h.0 at f.0, omega (arith, h.1, f.1))
-broke_later a b c h (inr i) = inr (i.0 ∙ h.0, omega (arith, h.1, i.1), rose_after max_interruptions a.interruptions b.interruptions c.interruptions h.1 i.2)
+broke_later a b c h k = grind arith
 
 pub broke_for_later : (a b c : Device) (fault : IoFault) → Unfailed a b → BrokeFor b c fault → BrokeFor a c fault
-broke_for_later a b c Failed h f = (rw h.0 at f.0, omega (arith, h.1, f.1))
-broke_for_later a b c Interrupted h i = (i.0 ∙ h.0, omega (arith, h.1, i.1), rose_after max_interruptions a.interruptions b.interruptions c.interruptions h.1 i.2)
+broke_for_later a b c Failed h f = grind arith
+broke_for_later a b c Interrupted h i = grind arith
 
 -- what was missed after octets that were given
 pub missed_later : (a b c : Device) (xs ys : List ℕ) (fault : IoFault) → HasGiven a b xs → MissedAfter b c ys fault → MissedAfter a c (xs ++ ys) fault

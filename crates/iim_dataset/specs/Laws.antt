@@ -2,12 +2,10 @@
 use Rattle.std.specs.Prelude.{◌≡◌, ℕ, List, [], ◌∷◌, ◌++◌, ◌+◌, length, ◌^◌, ◌<◌, ◌≤◌, ◌↔◌}
 use Rattle.iim_dataset.specs.Format.Datasets.{Dataset, SpellsTag, count_octets, SpellsDataset, SpellsStream, canonical_tag, canonical_stream, written_number, Head, InTag, InData, Reads, Begun, SplitsInto, IsBegun, CompletesData, BeginsTag, BeginsNoTag, HasTag, HasNoTag, HeadFault}
 use Rattle.iim_dataset.specs.States.Reading.{DatasetEvent, HeadRead, DataOctet, DatasetEnd, handed_on, begun_data, HandsOn, IsPlace, LeadsTo, DatasetPlace, Completes, TagDies}
-use Rattle.std.specs.Io.KnownBytes.{Consumes}
 use Rattle.iim_dataset.specs.States.Devices.{Device, Broke, Missed, Wrote, Stopped, HasGiven, MissedAfter, BrokeAfter}
-use Rattle.iim_dataset.specs.declared.device.IoFault.{IoFault}
-use Rattle.std.specs.List.{AllByRecursion}
 use Rattle.iim_dataset.specs.Format.Octets.{IsOctet, Octets, number, IsAlive, DiesAt}
-use Rattle.iim_dataset.specs.declared.head.HeadCause.{HeadCause}
+use Rattle.iim_dataset.specs.declared.{device.IoFault.IoFault, head.HeadCause.HeadCause}
+use Rattle.std.specs.{Io.KnownBytes.Consumes, List.AllByRecursion}
 
 -- ---- What one octet completes, as the octets themselves say it.
 

@@ -1,15 +1,14 @@
 -- What the steps of a reader lead to, and what impls of targets and sinks hand in for their laws.
-use Rattle.std.specs.Prelude.{ℕ, ◌<◌, ◌≤◌, List, ◌++◌, length, take, Option, ◌≡◌, ◌==◌, if◌then◌else◌, [], ◌∷◌}
-use Rattle.std.proofs.Common.{None, Some, sym, ap, ◌∙◌, append_assoc, append-nil, refl, arith, inl, inr}
-use Rattle.std.specs.Io.KnownBytes.{Appends, Consumes}
-use Rattle.iim_dataset.specs.Format.Octets.{Octets}
-use Rattle.iim_dataset.specs.Format.Datasets.{SpellsTag, count_octets}
+use Rattle.std.specs.Prelude.{ℕ, ◌<◌, ◌≤◌, List, ◌++◌, length, take, drop, Option, ◌≡◌, ◌==◌, if◌then◌else◌, [], ◌∷◌}
+use Rattle.std.proofs.Common.{sym, ap, ◌∙◌, arith}
+pub use Rattle.std.proofs.KnownBytes.{Appends-nil as appends_nothing, Appends-trans as appends_joined}
+pub use Rattle.std.proofs.KnownBytes.{Consumes-nil as consumes_none, Consumes-trans as consumes_consumes}
+use Rattle.std.proofs.Math.Seq.{take-append_seam, drop-append_seam}
+use Rattle.iim_dataset.specs.{Format.Octets.Octets, Format.Datasets.SpellsTag, Format.Datasets.count_octets}
+use Rattle.iim_dataset.specs.{States.Devices.Device, States.Devices.LaterThan}
 use Rattle.iim_dataset.specs.States.Reading.{DatasetEvent, IsPlace, TellsSink, between, to_come, DatasetPlace, HeadRead, DatasetEnd}
-use Rattle.iim_dataset.specs.States.Devices.{Device, LaterThan, RoseAtLeast}
-use Rattle.iim_dataset.specs.declared.piece.Front.{Front}
-use Rattle.iim_dataset.specs.declared.sink.Step.{Step}
-use Rattle.iim_dataset.specs.declared.sink.Step.TheVariants.{More, Last}
-use Rattle.iim_dataset.specs.declared.head.Head.{Head}
+use Rattle.iim_dataset.specs.declared.{piece.Front.Front, sink.Step.Step, sink.Step.TheVariants.More}
+use Rattle.iim_dataset.specs.declared.{sink.Step.TheVariants.Last, head.Head.Head}
 
 -- After a front of octets the sink takes what comes next; or it has ended, after a whole dataset.
 abbrev pub TakesOnward : {D : Type 0} → (D → Option ℕ → Type 0) → (D → Type 0) → Step → DatasetPlace → D → Type 0
@@ -39,29 +38,7 @@ pub record WholeFront (rest : List ℕ) (h : Head) (xs : List ℕ) (used : ℕ) 
 abbrev pub head_events : Head → List DatasetEvent
 head_events h = if h.count == 0 then HeadRead h ∷ DatasetEnd ∷ [] else HeadRead h ∷ []
 
--- ---- Octets that are appended one after another: what impls of targets and sinks hand in.
-
-pub appends_nothing : (known : Option (List ℕ)) → Appends known known []
-appends_nothing None = tt
-appends_nothing (Some xs) = sym (append-nil xs)
-
-pub appends_joined : (a b c : Option (List ℕ)) (xs ys : List ℕ) → Appends a b xs → Appends b c ys → Appends a c (xs ++ ys)
-appends_joined None b c xs ys h k = tt
-appends_joined (Some x) None c xs ys h k = absurd h
-appends_joined (Some x) (Some y) None xs ys h k = absurd k
-appends_joined (Some x) (Some y) (Some z) xs ys h k = k ∙ (ap (λ (t : List ℕ). t ++ ys) h ∙ append_assoc x xs ys)
-
 -- ---- Later devices continue: the laws of the sources, handed in by their impls.
-
-pub consumes_consumes : (a b c : Option (List ℕ)) (xs ys : List ℕ) → Consumes a b xs → Consumes b c ys → Consumes a c (xs ++ ys)
-consumes_consumes None b c xs ys h k = tt
-consumes_consumes (Some x) None c xs ys h k = absurd h
-consumes_consumes (Some x) (Some y) None xs ys h k = absurd k
-consumes_consumes (Some x) (Some y) (Some z) xs ys h k = h ∙ ap (λ w. xs ++ w) k ∙ sym (append_assoc xs ys z)
-
-pub consumes_none : (a : Option (List ℕ)) → Consumes a a []
-consumes_none None = tt
-consumes_none (Some x) = refl
 
 pub later_stays : (a : Device) → LaterThan a a
 later_stays a = (omega arith, omega arith, ([], consumes_none a.octets))
@@ -72,23 +49,7 @@ later_leads_on a b c h k =
 
 -- Lists that begin with lists of one length: what impls hand in.
 pub same_front : {A : Type 0} (a b x y : List A) → length a ≡ length b → a ++ x ≡ b ++ y → (a ≡ b) × (x ≡ y)
-same_front [] [] x y l e = (refl, e)
-same_front [] (b ∷ bs) x y l e = absurd (omega (arith, l))
-same_front (a ∷ as') [] x y l e = absurd (omega (arith, l))
-same_front (a ∷ as') (b ∷ bs) x y l e =
-    let tails : as' ++ x ≡ bs ++ y = cc in
-    let l' : length as' ≡ length bs = omega (arith, l) in
-    let more = same_front as' bs x y l' tails in
-    let rests : as' ≡ bs = more.0 in
-    (cc, more.1)
-
--- ---- Counts that rose by more: what impls of sinks hand in.
-
--- a count that rose stays so
-pub rose_before : (k a b c : ℕ) → b ≤ c → RoseAtLeast k a b → RoseAtLeast k a c
-rose_before k a b c le (inl h) = inl (omega (arith, h, le))
-rose_before k a b c le (inr h) = inr (omega (arith, h, le))
-
-pub rose_after : (k a b c : ℕ) → a ≤ b → RoseAtLeast k b c → RoseAtLeast k a c
-rose_after k a b c le (inl h) = inl (omega (arith, h, le))
-rose_after k a b c le (inr h) = inr h
+same_front a b x y l e = (
+  sym (take-append_seam a x) ∙ ap (take (length a)) e ∙ rw l (take-append_seam b y),
+  sym (drop-append_seam a x) ∙ ap (drop (length a)) e ∙ rw l (drop-append_seam b y),
+)

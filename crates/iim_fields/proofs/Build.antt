@@ -1,5 +1,5 @@
 -- What a builder has.
-use Rattle.std.proofs.Common.{◌≡◌, ℕ, ◌+◌, Bool, true, not, cond, List, [], ◌∷◌, ◌++◌, length, ap, sym, ◌∙◌, arith, subst, length-append, Option, Some, None}
+use Rattle.std.proofs.Common.{◌≡◌, ℕ, Bool, true, not, cond, List, [], ◌∷◌, ◌++◌, length, ap, sym, ◌∙◌, arith, subst, length-append, Option, Some, None}
 use Rattle.iim_fields.proofs.Words.{Building, store_room, vec_len, option_or, Dataset, head_of, record_fault, limits_fault, room_fault, value_fault, first_fault, is_kept, kept, joined, fault_on, HasChecked, IsChecking, HasTaken, HasStored, fields_of, IsBuilding, add_fault, Limits, Store, FieldFault, RecordOrder, RecordPlace, HasRoom}
 use Rattle.iim_fields.proofs.Stand.{fields_held, joined_more, kept_more, kept_not_object, counts, room_fault_is, room_within}
 use Rattle.iim_fields.proofs.Dies.{head_no_fault}

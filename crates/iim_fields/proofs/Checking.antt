@@ -2,7 +2,8 @@
 use Rattle.std.proofs.Common.{set, ◌≡◌, ◌≢◌, ℕ, zero, suc, ◌<◌, ◌≤◌, Bool, true, false, ◌||◌, nat_eq, List, [], ◌∷◌, ◌++◌, length, replicate, get_or, refl, ap, sym, ◌∙◌, inl, inr, arith, subst, length-set, Option, Some, None}
 use Rattle.iim_tables.specs.declared.shape.Kind.{Kind}
 use Rattle.iim_fields.proofs.Words.{nat_tests, option_or, list_any-append, and_from, eqb_tells, same_Some, Octets, within, Dataset, head_of, of_record, Head, are_octets, row_of, is_admitted, Row, has_kind, records, occurs, SectionsLiveAt, head_fault, record_fault, value_fault, limits_fault, section_after, section_run, has_seen, IsOrderOf, AddsHead, data_of, number_told, AwaitsHead, TakesHead, AwaitsNone, IsIn, HasChecked, IsChecking, HasTaken, IsRecordFault, IsValueFault, IsRecordPlace, Order, Begun, RecordPlace, FieldFault, good_elsewhere, meets_as, DatasetsLeadToOnePlace}
-use Rattle.iim_fields.proofs.NumberSets.{seen_more, same_members}
+use Rattle.iim_fields.proofs.NumberSets.{seen_more}
+use Rattle.std.proofs.lemmas.List.{ext_get_or}
 use Rattle.iim_fields.proofs.Table.{EachRowHasValues, not_after_itself, object_kind}
 use Rattle.iim_fields.proofs.Runs.{records_to_come}
 use Rattle.iim_fields.proofs.Follows.{Follows, alive_follows, fresh_next, present_more, run_more}
@@ -245,7 +246,7 @@ awaited_count place begun is h s = ap (λ (b : Begun). b.head.count) (one_awaite
 -- one order tells of datasets
 one_order : (o p : Order) (ds : List Dataset) → IsOrderOf o ds → IsOrderOf p ds → o ≡ p
 one_order o p ds s t =
-    let seen : o.seen ≡ p.seen = same_members o.seen p.seen (s.places ∙ sym t.places) (λ n. s.seen n ∙ sym (t.seen n)) in
+    let seen : o.seen ≡ p.seen = ext_get_or false o.seen p.seen (s.places ∙ sym t.places) (λ n _. s.seen n ∙ sym (t.seen n)) in
     let rec_is : o.rec ≡ p.rec = s.present ∙ sym t.present in
     λ i. record { rec = rec_is i; seen = seen i }
 

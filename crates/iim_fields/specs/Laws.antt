@@ -1,7 +1,6 @@
 -- What holds of all records, and of ids; the record at the end has a field for each law.
 use Rattle.std.specs.Prelude.{◌≡◌, ◌↔◌, List, [], ◌∷◌, ◌++◌, length, Option, Some, None}
-use Rattle.iim_dataset.specs.Format.Octets.{IsOctet, Octets}
-use Rattle.iim_dataset.specs.Format.Datasets.{Dataset, head_of}
+use Rattle.iim_dataset.specs.Format.{Octets.IsOctet, Octets.Octets, Datasets.Dataset, Datasets.head_of}
 use Rattle.iim_dataset.specs.declared.head.Head.{Head}
 use Rattle.iim_fields.specs.Format.Records.{AreSections, SectionsLive, SectionsLiveAt, IsEnvelope, IsWithin}
 use Rattle.iim_fields.specs.Format.Causes.{record_fault, value_fault, first_fault, joined, Limits, FieldFault, Token, IsFault, HasNoFault}

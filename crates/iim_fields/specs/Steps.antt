@@ -1,19 +1,14 @@
 -- A check, a reader and a builder from inside: what they are told, and how a head changes what they know.
 use Rattle.std.specs.Prelude.{ℕ, ◌⊎◌, List, Option, Some, ◌≡◌, length, None, ◌≢◌, Bool, true, false, replicate, slice_set, ◌==◌, if◌then◌else◌, ◌≤◌, ◌<◌, ◌^◌, [], ◌++◌, IsTrue, vec_capacity}
-use Rattle.std.specs.Option.{option_or}
-use Rattle.std.specs.Ordering.{eq_by_cmp}
+use Rattle.std.specs.{Option.option_or, Ordering.eq_by_cmp}
 use Rattle.std.specs.Cmp.{IsEquivalence, IsTotalOrder, and_equiv, then_total, both_tied}
 use Rattle.std.specs.Cmp.Lexicographic.{on_texts, on_texts_equal, texts_ties}
-use Rattle.iim_dataset.specs.Format.Datasets.{Dataset}
+use Rattle.iim_dataset.specs.{Format.Datasets.Dataset, Format.Octets.Octets, declared.head.Head.Head}
 use Rattle.iim_fields.specs.States.Standing.{has_seen, HasChecked, IsChecking, begun_head, FieldsPlace, StandsAfter, StandsIn, AreFew}
 use Rattle.iim_fields.specs.Format.Causes.{head_fault, value_fault, FieldFault, missing_fault, missing_of, is_kept, Limits, joined, kept}
-use Rattle.iim_fields.specs.Format.Records.{data_of, Identity, text_cmp, id_eq, id_cmp, IsWithin, IsEnvelope}
-use Rattle.iim_dataset.specs.Format.Octets.{Octets}
+use Rattle.iim_fields.specs.Format.Records.{data_of, Identity, id_eq, id_cmp, IsWithin, IsEnvelope}
 use Rattle.iim_fields.specs.StoreLayout.{store_room, fields_of, begun_octets, HasStored}
-use Rattle.iim_dataset.specs.declared.head.Head.{Head}
-use Rattle.iim_fields.specs.declared.check.RecordPlace.{RecordPlace}
-use Rattle.iim_fields.specs.declared.order.Order.{Order}
-use Rattle.iim_fields.specs.declared.store.Store.{Store}
+use Rattle.iim_fields.specs.declared.{check.RecordPlace.RecordPlace, order.Order.Order, store.Store.Store}
 
 -- Some datasets lead to the place, or some datasets and a head.
 abbrev pub IsRecordPlace : RecordPlace → Type 0
@@ -31,9 +26,7 @@ id_total = then_total (on_texts (λ (i : Identity). i.service)) (then_total (on_
 
 -- ids are equal where their order does not tell them apart
 pub id_ties : (x y : Identity) → id_eq x y ≡ eq_by_cmp id_cmp x y
-id_ties x y =
-    both_tied _ _ (text_cmp x.service y.service) _ (texts_ties x.service y.service)
-    (both_tied _ _ (text_cmp x.number y.number) (text_cmp x.date_sent y.date_sent) (texts_ties x.number y.number) (texts_ties x.date_sent y.date_sent))
+id_ties x y = search (both_tied, texts_ties)
 
 -- A dataset of this head and these data has no fault at the place where the check stands.
 pub record MayTake (check : Option RecordPlace) (h : Head) (xs : List ℕ) : Type 0 where

@@ -1,10 +1,9 @@
 -- The store of the kept datasets, and what a set of numbers keeps.
-use Rattle.std.specs.Prelude.{◌≡◌, ℕ, ◌+◌, ◌-◌, List, [], ◌∷◌, ◌++◌, length, drop, vec_capacity, Bool, true, ◌&&◌, nat_le, zero, suc, ◌/◌, ◌%◌, ◌==◌}
+use Rattle.std.specs.Prelude.{◌≡◌, ℕ, ◌+◌, ◌-◌, List, [], ◌∷◌, ◌++◌, length, drop, vec_capacity, Bool, true, ◌&&◌, nat_le, ◌/◌, ◌%◌, ◌==◌, map, slice_index}
+use Rattle.std.specs.{Int.bit_at, List.range_with_len}
 use Rattle.iim_dataset.specs.Format.Datasets.{Dataset}
-use Rattle.iim_fields.specs.Format.Causes.{joined}
-use Rattle.iim_fields.specs.States.Stores.{Room, fields_from}
-use Rattle.iim_fields.specs.declared.store.Entry.{Entry}
-use Rattle.iim_fields.specs.declared.store.Store.{Store}
+use Rattle.iim_fields.specs.{Format.Causes.joined, States.Stores.Room, States.Stores.fields_from}
+use Rattle.iim_fields.specs.declared.store.{Entry.Entry, Store.Store}
 
 -- the entries end in order, within n octets after `from`
 abbrev pub is_sound : ℕ → List Entry → ℕ → Bool
@@ -39,12 +38,6 @@ ends_at from (e ∷ es) = ends_at e.end es
 abbrev pub begun_octets : Store → List ℕ
 begun_octets store = drop (ends_at 0 store.entries.items) store.octets.items
 
--- whether each of the n lowest bits of a word is 1, the lowest first
-unfoldable pub bits : ℕ → ℕ → List Bool
-bits zero word = []
-bits (suc n) word = (word % 2 == 1) ∷ bits n (word / 2)
-
--- whether each number is in the set, from 0 up, by words of 64 bits
+-- whether each number from 0 to 255 is in the set, by its bit in words of 64
 unfoldable pub members : List ℕ → List Bool
-members [] = []
-members (word ∷ words) = bits 64 word ++ members words
+members words = map (λ n. bit_at (slice_index words (n / 64)) (n % 64) == 1) (range_with_len 0 256)

@@ -1,13 +1,12 @@
 -- Listings of inputs.
-use Rattle.iim_listing.proofs.Words.{◌≡◌, ℕ, ◌+◌, suc, inl, inr, refl, sym, ap, arith, List, [], ◌∷◌, ◌++◌, length, length-append, append_assoc, append-nil, Option, None, Some, Result, Ok, Err, IfErr, take-append-le, IsAtEnd, Device, HasGiven, Rose, GiftsJoin, TextsJoin, missed_later, StoryEvent, Unpacking, Refusal, IsNext, IsRefusal, HoldsNothing, PassesOver, refuses_never, KeepsWriter, put_nothing, AreListed, AreTaken, BlockWriter, HasOctets, ending_line, status_of, texts_from, limits, joined, max_envelopes, Divides, InputEnding, EndsBy, Listed, IsListed, IsRefusedAfter, FailsListing, CommandFault, CannotRead, CannotWrite, OutOfMemory}
+use Rattle.iim_listing.proofs.Words.{◌≡◌, ℕ, ◌+◌, suc, inl, inr, refl, sym, ap, arith, List, [], ◌∷◌, ◌++◌, length, length-append, append_assoc, append-nil, Option, None, Some, Result, Ok, Err, IfErr, take-append-le, IsAtEnd, Device, HasGiven, Rose, GiftsJoin, TextsJoin, missed_later, StoryEvent, Unpacking, Refusal, IsNext, IsRefusal, HoldsNothing, KeepsWriter, put_nothing, AreListed, AreTaken, BlockWriter, HasOctets, ending_line, status_of, texts_from, limits, joined, max_envelopes, Divides, InputEnding, EndsBy, Listed, IsListed, IsRefusedAfter, FailsListing, CommandFault, CannotRead, CannotWrite, OutOfMemory}
 use Rattle.std.proofs.Math.ListN.{get_or-append}
 use Rattle.std.specs.Io.KnownBytes.{Consumes}
 use Rattle.iim_dataset.specs.States.Devices.{MissedAfter}
 use Rattle.iim_dataset.specs.declared.device.IoFault.{IoFault}
 use Rattle.iim_places.proofs.Listings.{admitted_more, joined_more}
 use Rattle.iim_places.specs.Format.Streams.{IsDeadAfter}
-use Rattle.iim_output.specs.States.Holding.{HasPut, device_of, IsCutShort, IsUnadded}
-use Rattle.iim_output.specs.States.Silence.{IsSettled, IsStuck}
+use Rattle.iim_output.specs.States.Holding.{HasPut, StaysStuck, device_of, IsCutShort, IsUnadded}
 use Rattle.iim_output.specs.HoldingLaws.{put_on}
 use Rattle.iim_output.specs.declared.silent.Silent.{Silent}
 use Rattle.iim_output.proofs.Holding.{all_out, cut_by_stuck, cut_on, stopped_in}
@@ -191,7 +190,8 @@ rises (inr h) = omega (arith, h.0)
 -- nothing comes next
 pub failed : {W : Type 0} {state : W → Device} {text : ℕ → Listed → List ℕ} {source : Device} {old : BlockWriter W} {count : ℕ} → GiftsJoin → TextsJoin
     → (mid rest : Device) (v : Unpacking) (a b : Silent W) (fault : CommandFault) → AreListed state text source mid old a.output count
-    → IsNext (PassesOver state) refuses_never IsSettled (IsStuck state) (mid, a) (rest, v, b) (Err fault)
+    → IsNext (λ old events new. HasPut state old.output new.output []) (λ sink. 0) (λ sink. HoldsNothing sink.output)
+    (λ old new. StaysStuck state old.output new.output) (mid, a) (rest, v, b) (Err fault)
     → IsUnlisted state text source rest old b.output fault × KeepsWriter old b.output
 failed {state = state} {text = text} {source = source} {old = old} joins texts mid rest v a b CannotRead r (c, settled) =
     let put = put_still r c.told in

@@ -23,7 +23,7 @@ use Rattle.iim_places.specs.Format.Open.{object_so_far}
 use Rattle.iim_places.proofs.Answering.{leads_to, reads_envelope}
 use Rattle.iim_listing.specs.Format.{line_of, AreToldWith, IsTextIn, LeavesText, Narrated, stories, story_of}
 use Rattle.iim_listing.specs.Laws.{EnvelopesAreDeliveredAsLines}
-use Rattle.iim_listing.specs.Steps.{HoldsLines, IsSettled, IsStuck, IsUnended, Stands}
+use Rattle.iim_listing.specs.Steps.{HoldsLines, IsSettled, IsUnended, Stands}
 use Rattle.iim_listing.proofs.Listings.{divided, missed_after, none_taken, taken_more, taken_then, texts_parts, whole}
 
 -- ---- what is delivered of an envelope
@@ -352,7 +352,8 @@ module _ {W E : Type 0} {ws : W → Device} {es : E → Device} {first b : Narra
           words,
           whole h.taken more left,
           h.taken.given.1,
-          record { listing = record { rest = begun ++ more; divides = divides; ends = ends }; leaves = leaves },
+          record { rest = begun ++ more; divides = divides; ends = ends },
+          leaves,
           is,
           out.0,
           rw line_is at out.1,
@@ -479,7 +480,7 @@ unended {es = es} {b = b} {e = e} texts h is none d fault (inr (broke, put, rose
 -- nothing comes next
 pub unfed : {W E : Type 0} {ws : W → Device} {es : E → Device} {first : Narrator W E} {source : Device} {count : ℕ} → GiftsJoin → TextsJoin
     → (mid rest : Device) (v : Unpacking) (a b : Narrator W E) (fault : CommandFault) → IsTelling ws es first source mid a count
-    → IsCalm (stops_of a) (stops_of b) (Err fault) → IsNext (TellsOn ws es) stops_of IsSettled (IsStuck ws es) (mid, a) (rest, v, b) (Err fault)
+    → IsCalm (stops_of a) (stops_of b) (Err fault) → IsNext (TellsOn ws es) stops_of IsSettled (λ a b. IsLost ws es a b []) (mid, a) (rest, v, b) (Err fault)
     → IsUnnarrated source rest (output_of ws first) (output_of ws b) (errors_of es first) (errors_of es b) fault × KeepsTargets first b
 unfed joins texts mid rest v a b CannotRead r calm (c, settled) =
     let s = stands_told texts r.stands c.told in

@@ -5,7 +5,7 @@ use Rattle.iim_dataset.specs.declared.device.IoFault.{IoFault}
 use Rattle.iim_dataset.specs.declared.device.IoFault.TheVariants as io
 use Rattle.iim_unpack.specs.declared.intake.IntakeFault.{IntakeFault}
 use Rattle.iim_unpack.specs.declared.intake.IntakeFault.TheVariants.{Refused, Read, Interrupted}
-use Rattle.iim_unpack.specs.States.Intakes.{Faults, IsOfReader, WasDone, WasMissed, WasRefused, WasTruncated, HasFed, IsReady, WasEnded}
+use Rattle.iim_unpack.specs.States.Intakes.{Faults, WasDone, WasMissed, WasRefused, WasTruncated, HasFed, IsReady, WasEnded}
 use Rattle.iim_unpack.specs.States.Unpacking.{CountsFor, IsDoneWith, LeftAs, Stands}
 use Rattle.iim_places.specs.Format.Open.{Delivers}
 use Rattle.iim_fields.specs.declared.limits.Limits.{Limits}
@@ -95,14 +95,14 @@ module _ {S : Type 0} (goes : S → List StoryEvent → S → Type 0) (failures 
 
   -- what comes next is right, the count of the sink, and whether more can be asked for
   fault_next : (settled : S → Type 0) (stuck : S → S → Type 0) (alive : Option ℕ) (fault : IntakeFault) (result : Result Next CommandFault)
-      → (kept : ℕ) × Faults goes failures old new u v a b kept fault → (IsOfReader fault → settled b) → IsOfFault fault result
+      → (kept : ℕ) × Faults goes failures old new u v a b kept fault → (((e : Refusal) → fault ≢ Refused e) → settled b) → IsOfFault fault result
       → IsNext goes failures settled stuck (old, a) (new, v, b) result × IsCalm (failures a) (failures b) result × CanAskForMore alive result
   fault_next settled stuck alive (Refused e) result (kept, f) rests (inl (sink, is)) = rw is (inl (is_unheard e sink f.1), tt, tt)
   fault_next settled stuck alive (Refused e) result (kept, f) rests (inr (other, is)) =
       let (refusal, calm) = is_refusal e other f.1 in
       rw is (refusal, calm, tt)
-  fault_next settled stuck alive Read result (kept, f) rests is = rw is ((is_cut_off kept io.Failed f, rests tt), f.calm, tt)
-  fault_next settled stuck alive Interrupted result (kept, f) rests is = rw is ((is_cut_off kept io.Interrupted f, rests tt), f.calm, tt)
+  fault_next settled stuck alive Read result (kept, f) rests is = rw is ((is_cut_off kept io.Failed f, rests (λ e is. cc)), f.calm, tt)
+  fault_next settled stuck alive Interrupted result (kept, f) rests is = rw is ((is_cut_off kept io.Interrupted f, rests (λ e is. cc)), f.calm, tt)
 
 -- ---- how an unpacker is fed up to the end of an envelope
 
@@ -221,7 +221,7 @@ pub taken_fault : {S : Type 0} {goes : S → List StoryEvent → S → Type 0} {
     (settled : S → Type 0) (stuck : S → S → Type 0) → Joined goes → GiftsJoin → DeliveryMayBeCut → (new : Device) (w : Unpacking) (e : S)
     (block : List ℕ) (failed : Option ℕ) (fault : IntakeFault) (result : Result Next CommandFault) → HasTaken goes old mid v a d → failures d ≡ failures a
     → (block ≡ [] → settled d) → (kept : ℕ) × (failed ≡ Some kept) × Faults goes failures mid new v w d e kept fault
-    → (IsOfReader fault → (block ≡ []) × LeftAs v d w e) → IsOfFault fault result
+    → (((e : Refusal) → fault ≢ Refused e) → (block ≡ []) × LeftAs v d w e) → IsOfFault fault result
     → IsNext goes failures settled stuck (old, a) (new, w, e) result × IsCalm (failures a) (failures e) result × CanAskForMore failed result
 taken_fault {goes = goes} {old = old} {a = a} failures settled stuck joined joins cut new w e block failed fault result h calm rests (kept, keeps, f) unread =
     fault_next goes failures old new h.first w a e h.within h.stood settled stuck failed fault result

@@ -11,7 +11,6 @@ pub use Rattle.iim_output.specs.Format.{limits, accepted_line, refused_line}
 pub use Rattle.iim_output.specs.HoldingLaws.{put_nothing, puts_nothing}
 pub use Rattle.iim_output.specs.States.Devices.{HasOctets}
 pub use Rattle.iim_output.specs.States.Holding.{HoldsNothing, KeepsWriter}
-pub use Rattle.iim_output.specs.States.Silence.{PassesOver, refuses_never}
 pub use Rattle.iim_output.specs.declared.block_writer.BlockWriter.{BlockWriter}
 pub use Rattle.iim_output.specs.declared.fault.CommandFault.{CommandFault}
 pub use Rattle.iim_output.specs.declared.fault.CommandFault.TheVariants.{CannotRead, CannotWrite, OutOfMemory}

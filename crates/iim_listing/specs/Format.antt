@@ -1,21 +1,16 @@
 -- What the commands leave of an input: `check` and `show` a listing, `story` the texts.
 use Rattle.std.specs.Prelude.{◌≡◌, ℕ, ◌+◌, length, List, [], ◌∷◌, ◌++◌, codes, decimal, ◌⊎◌, ◌≤◌, map, take}
-use Rattle.std.specs.List.{flat_map, join_with_byte}
-use Rattle.std.specs.Io.KnownBytes.{Appends}
+use Rattle.std.specs.{List.flat_map, List.join_with_byte, Io.KnownBytes.Appends}
 use Rattle.wire_story.specs.Format.Texts.{StoryEvent, delivered, octet_for}
 use Rattle.iim_places.specs.Format.Open.{IsTextOf, IsOpen}
 use Rattle.iim_places.specs.Format.Streams.{raised, InputEnding, Listed, Whole, RefusedBy, TooMany, Divides, EndsBy, IsListing, IsListed, IsRefusedAfter}
 use Rattle.iim_output.specs.Format.{accepted_line, refused_line, too_many_line, status_accepted, status_refused, limits}
-use Rattle.iim_object.specs.Format.Objects.{mode_number}
-use Rattle.iim_places.specs.Format.Admitted.{Value}
+use Rattle.iim_object.specs.{Format.Objects.mode_number, declared.size.Sizes.Sizes}
 use Rattle.iim_script.specs.Format.Scripts.{field_line, message_line, trailer_line}
-use Rattle.iim_dataset.specs.Format.Datasets.{number_or_dash}
+use Rattle.iim_dataset.specs.{Format.Datasets.number_or_dash, Format.Octets.lf, declared.device.IoFault.IoFault}
 use Rattle.iim_dataset.specs.States.Devices.{Device, Wrote, Stopped, Unfailed, HasGiven, MissedAfter}
 use Rattle.iim_output.specs.States.Devices.{HasOctets}
-use Rattle.iim_dataset.specs.Format.Octets.{lf}
 use Rattle.wire_story.specs.States.Reading.{HasBroken}
-use Rattle.iim_object.specs.declared.size.Sizes.{Sizes}
-use Rattle.iim_dataset.specs.declared.device.IoFault.{IoFault}
 pub use Rattle.iim_output.specs.declared.fault.CommandFault.{CommandFault}
 pub use Rattle.iim_output.specs.declared.fault.CommandFault.TheVariants.{CannotRead, CannotWrite, OutOfMemory}
 
@@ -53,7 +48,7 @@ status_of Whole = status_accepted
 status_of _ = status_refused
 
 -- the first line
--- twins (with sizes_line, shown_text): `shows_worked_envelopes`, `shows_what_is_rare`, `packs_as_it_is_asked`
+-- twins (with sizes_line, shown_of): `shows_worked_envelopes`, `shows_what_is_rare`, `packs_as_it_is_asked`
 abbrev pub number_line : ℕ → List ℕ
 number_line number = codes "envelope " ++ (decimal number ++ codes "\n")
 
@@ -64,12 +59,9 @@ sizes_line s =
     ++ (number_or_dash s.maximum ++ codes "\n")))))))))))
 
 -- all that is shown of an envelope with this number
-abbrev pub shown_text : ℕ → Value → List ℕ
-shown_text number v =
-    number_line number ++ (flat_map field_line v.fields ++ (message_line v.head ++ (trailer_line v.trailer ++ sizes_line v.sizes)))
-
 abbrev pub shown_of : ℕ → Listed → List ℕ
-shown_of number e = shown_text number e.value
+shown_of number e = number_line number
+    ++ (flat_map field_line e.value.fields ++ (message_line e.value.head ++ (trailer_line e.value.trailer ++ sizes_line e.value.sizes)))
 
 -- The listing of the whole input is written, and the status is the one for it. (The input before and after, then the output.)
 abbrev pub WritesListing : (ℕ → Listed → List ℕ) → Device → Device → Device → Device → ℕ → Type 0
@@ -117,18 +109,13 @@ LeavesText rest Whole words = words ≡ []
 LeavesText rest (RefusedBy refusal) words = (k : ℕ) × IsRefusedAfter limits rest k refusal × IsTextIn (take k rest) words
 LeavesText rest TooMany words = (e : Listed) × IsListed limits e × (more : List ℕ) × (rest ≡ e.octets ++ more) × (words ≡ text_of e)
 
--- The listing of an input, and what is written of the octets after its envelopes.
-pub record IsNarration (input : List ℕ) (envelopes : List Listed) (ending : InputEnding) (words : List ℕ) : Type 0 where
-  pub listing : IsListing limits input envelopes ending
-  pub leaves : LeavesText listing.rest ending words
-
 -- The whole input is told: its stories on the output, and the lines of `check` on the errors. (The input before and after, then the
 -- output, then the errors.)
 abbrev pub Narrated : Device → Device → Device → Device → Device → Device → ℕ → Type 0
 Narrated source rest old new errors_old errors_new status =
     (input : List ℕ) × (envelopes : List Listed) × (ending : InputEnding) × (words : List ℕ) × HasOctets source.octets input × Unfailed source rest
-    × IsNarration input envelopes ending words × (status ≡ status_of ending) × Wrote old new (stories envelopes ++ words)
-    × Wrote errors_old errors_new (listing line_of envelopes ending)
+    × (all : IsListing limits input envelopes ending) × LeavesText all.rest ending words × (status ≡ status_of ending)
+    × Wrote old new (stories envelopes ++ words) × Wrote errors_old errors_new (listing line_of envelopes ending)
 
 -- ---- where a fault comes
 

@@ -2,16 +2,13 @@
 use Rattle.std.specs.Prelude.{◌≡◌, ℕ, ◌<◌, ◌⊎◌, ⊤, List, [], length, take, Option, None, Result, Ok, Err}
 use Rattle.std.specs.Io.KnownBytes.{IsAtEnd}
 use Rattle.iim_dataset.specs.States.Devices.{Device, HasGiven, MissedAfter}
-use Rattle.iim_dataset.specs.Format.Octets.{Rose}
-use Rattle.iim_dataset.specs.declared.device.IoFault.{IoFault}
+use Rattle.iim_dataset.specs.{Format.Octets.Rose, declared.device.IoFault.IoFault}
 use Rattle.wire_story.specs.Format.Texts.{StoryEvent}
-use Rattle.iim_unpack.specs.States.Intakes.{Came}
-use Rattle.iim_places.specs.Format.Open.{IsOpen}
-use Rattle.iim_unpack.specs.States.Unpacking.{Unpacking, IsDoneWith, limits_in}
-use Rattle.iim_places.specs.declared.refusal.Refusal.{Refusal}
+use Rattle.iim_unpack.specs.States.{Intakes.Came, Unpacking.Unpacking, Unpacking.IsDoneWith, Unpacking.limits_in}
+use Rattle.iim_places.specs.{Format.Open.IsOpen, declared.refusal.Refusal.Refusal}
+use Rattle.iim_places.specs.Format.Streams.{Listed, IsListed, IsRefusedAfter}
 use Rattle.iim_output.specs.Format.{limits}
 use Rattle.iim_listing.specs.Format.{told, IsDelivered, CommandFault, CannotRead, CannotWrite, OutOfMemory}
-use Rattle.iim_places.specs.Format.Streams.{Listed, IsListed, IsRefusedAfter}
 use Rattle.iim_listing.specs.declared.coming.Next.{Next}
 use Rattle.iim_listing.specs.declared.coming.Next.TheVariants as next
 

@@ -2,19 +2,16 @@
 use Rattle.std.specs.Prelude.{◌≡◌, ℕ, List, ◌⊎◌, [], ◌++◌, Result, Err, ◌+◌, length, Option, Some, None, Ok}
 use Rattle.std.proofs.Common.{inl, inr, refl, sym, subst, ◌∙◌, append-nil, append_assoc, arith}
 use Rattle.std.specs.List.{AllByRecursion}
-use Rattle.iim_dataset.specs.Format.Octets.{Rose}
+use Rattle.iim_dataset.specs.{Format.Octets.Rose, Steps.appends_joined}
 use Rattle.iim_dataset.specs.States.Devices.{Device, Wrote, Stopped, HasGiven}
 use Rattle.wire_story.specs.Format.Texts.{StoryEvent}
 use Rattle.iim_output.specs.States.Holding.{HoldsNothing, KeepsWriter, PutsLines, PutsOn, StaysStuck, device_of, stops_of as writer_stops, HasPut}
+use Rattle.iim_output.specs.{HoldingLaws.puts_nothing, HoldingLaws.puts_joined, Format.limits}
 use Rattle.iim_listing.specs.Format.{CommandFault, CannotRead, CannotWrite, OutOfMemory, texts_from, line_of, FailsListing, WritesListing, IsTextIn, IsUnnarrated, Narrated, stories, story_of, text_of}
-use Rattle.iim_dataset.specs.Steps.{appends_joined}
-use Rattle.iim_output.specs.HoldingLaws.{puts_nothing, puts_joined}
 use Rattle.iim_places.specs.Format.Streams.{Divides, Listed, joined}
-use Rattle.iim_output.specs.Format.{limits}
 pub use Rattle.iim_output.specs.declared.block_writer.BlockWriter.{BlockWriter}
 pub use Rattle.iim_listing.specs.declared.narrator.Narrator.{Narrator}
-use Rattle.iim_unpack.specs.declared.intake.IntakeFault.{IntakeFault}
-use Rattle.iim_unpack.specs.declared.intake.IntakeFault.TheVariants.{Refused}
+use Rattle.iim_unpack.specs.declared.intake.IntakeFault.{IntakeFault, TheVariants.Refused}
 use Rattle.iim_places.specs.declared.refusal.Cause.TheVariants.{Message}
 use Rattle.wire_message.specs.declared.fault.MessageCause.TheVariants.{Sink}
 use Rattle.iim_listing.specs.declared.coming.Next.{Next}
@@ -76,9 +73,6 @@ pub record IsLost {W E : Type 0} (ws : W → Device) (es : E → Device) (a b : 
   pub keeps : KeepsTargets a b
   pub broke : (StaysStuck ws a.output b.output × (errors_of es b ≡ errors_of es a))
       ⊎ (TextIsOut ws a b × (n : ℕ) × Stopped (errors_of es a) (errors_of es b) (a.lines.items ++ line) n)
-
-abbrev pub IsStuck : {W E : Type 0} → (W → Device) → (E → Device) → Narrator W E → Narrator W E → Type 0
-IsStuck ws es a b = IsLost ws es a b []
 
 -- Why a last line isn't told. Where memory was refused for it, all that was held is out.
 abbrev pub IsUntold : {W E : Type 0} → (W → Device) → (E → Device) → Narrator W E → Narrator W E → List ℕ → CommandFault → Type 0
@@ -162,19 +156,18 @@ pub record AreListed {W : Type 0} (state : W → Device) (text : ℕ → Listed 
   pub fresh : HoldsNothing old
   pub put : HasPut state old new (texts_from text 1 envelopes)
 
--- One envelope more than so many is listed; or the listing is out with this status; or this is why it isn't.
-abbrev pub IsListedTo : {W : Type 0} → (W → Device) → (ℕ → Listed → List ℕ) → Device → Device → BlockWriter W → BlockWriter W
-    → ℕ → Result (Option ℕ) CommandFault → Type 0
-IsListedTo state text source rest old new count (Ok None) = AreListed state text source rest old new (count + 1)
-IsListedTo state text source rest old new count (Ok (Some status)) =
-    WritesListing text source rest (device_of state old) (device_of state new) status × KeepsWriter old new
-IsListedTo state text source rest old new count (Err fault) = IsUnlisted state text source rest old new fault × KeepsWriter old new
+-- More comes after it; or it is done with this status; or this is why it isn't. The targets are the same then.
+abbrev pub NextOf : Type 0 → (ℕ → Type 0) → (CommandFault → Type 0) → Type 0 → Result (Option ℕ) CommandFault → Type 0
+NextOf more done fails same (Ok None) = more
+NextOf more done fails same (Ok (Some status)) = done status × same
+NextOf more done fails same (Err fault) = fails fault × same
 
 -- It comes to this where so many envelopes are listed.
 abbrev pub ListsNext : {W : Type 0} → (W → Device) → (ℕ → Listed → List ℕ) → Device → Device → BlockWriter W → BlockWriter W
     → ℕ → Result (Option ℕ) CommandFault → Type 0
 ListsNext {W = W} state text mid rest now new count result = (source : Device) (old : BlockWriter W) → AreListed state text source mid old now count
-    → IsListedTo state text source rest old new count result
+    → NextOf (AreListed state text source rest old new (count + 1)) (WritesListing text source rest (device_of state old) (device_of state new))
+    (IsUnlisted state text source rest old new) (KeepsWriter old new) result
 
 -- ---- stories
 
@@ -206,19 +199,13 @@ pub record IsTelling {W E : Type 0} (ws : W → Device) (es : E → Device) (fir
   pub keeps : KeepsTargets first n
   pub unbroken : stops_of n ≡ 0
 
--- One envelope more than so many is told; or the whole input with this status; or this is why it isn't.
-abbrev pub IsToldTo : {W E : Type 0} → (W → Device) → (E → Device) → Device → Device → Narrator W E → Narrator W E → ℕ → Result (Option ℕ) CommandFault → Type 0
-IsToldTo ws es source rest first new count (Ok None) = IsTelling ws es first source rest new (count + 1)
-IsToldTo ws es source rest first new count (Ok (Some status)) =
-    Narrated source rest (output_of ws first) (output_of ws new) (errors_of es first) (errors_of es new) status × KeepsTargets first new
-IsToldTo ws es source rest first new count (Err fault) =
-    IsUnnarrated source rest (output_of ws first) (output_of ws new) (errors_of es first) (errors_of es new) fault × KeepsTargets first new
-
 -- It comes to this where so many envelopes are told.
 abbrev pub TellsNext : {W E : Type 0} → (W → Device) → (E → Device) → Device → Device → Narrator W E → Narrator W E
     → ℕ → Result (Option ℕ) CommandFault → Type 0
 TellsNext {W = W} {E = E} ws es mid rest now new count result = (source : Device) (first : Narrator W E) → IsTelling ws es first source mid now count
-    → IsToldTo ws es source rest first new count result
+    → NextOf (IsTelling ws es first source rest new (count + 1))
+    (Narrated source rest (output_of ws first) (output_of ws new) (errors_of es first) (errors_of es new))
+    (IsUnnarrated source rest (output_of ws first) (output_of ws new) (errors_of es first) (errors_of es new)) (KeepsTargets first new) result
 
 -- What it comes to that an intake gives nothing. Where the sink refused octets it is a fault of the output.
 abbrev pub IsOfFault : IntakeFault → Result Next CommandFault → Type 0

@@ -1,6 +1,7 @@
 -- How many octets are out of an object that is cut into subfiles.
-use Rattle.iim_object.proofs.Words.{◌≡◌, ℕ, ◌+◌, ◌*◌, ◌≤◌, true, false, List, [], length, arith, le_of_mul-le-mul_left, canonical_dataset, tag_octets, Device, greatest_size, dataset_length, subfile_dataset, max_subfiles, Puts, Cuts, HasRoom, Output, Cutter}
+use Rattle.iim_object.proofs.Words.{◌≡◌, ℕ, ◌+◌, ◌*◌, ◌≤◌, true, false, List, [], length, refl, arith, le_of_mul-le-mul_left, canonical_dataset, tag_octets, Device, greatest_size, dataset_length, subfile_dataset, max_subfiles, Puts, Cuts, HasRoom, Output, Cutter}
 use Rattle.iim_dataset.specs.States.Devices.{Reserved}
+use Rattle.iim_object.specs.Steps.{Becomes}
 use Rattle.iim_object.specs.Format.Objects.{most_sizes}
 use Rattle.iim_object.proofs.PlanParts.{plan_parts}
 
@@ -14,21 +15,32 @@ out_fits c room unfailed =
 
 -- ---- what stays when a subfile is written, and when a write fails
 
-pub room_flushed : {W : Type 0} (state : W → Device) (old : Cutter W) (held : Reserved) (sent : ℕ) (output : Output W) → HasRoom old → old.failed ≡ false
-    → length old.held.items ≡ old.plan.subfile → held.items ≡ [] → held.room ≡ old.held.room → sent ≡ old.sent + length old.held.items
-    → Puts state old.output output (canonical_dataset (subfile_dataset old.held.items)) → HasRoom (record old { held = held; sent = sent; output = output })
-room_flushed state old held sent output room unfailed full empty same more put =
+-- the cutter with these octets held in place of its own
+abbrev pub holding : {W : Type 0} → Cutter W → List ℕ → Cutter W
+holding c xs = record c { held = record { items = xs; room = c.held.room } }
+
+pub room_flushed : {W : Type 0} (state : W → Device) (old : Cutter W) (held : Reserved) (output : Output W) → HasRoom old → old.failed ≡ false
+    → length old.held.items ≡ old.plan.subfile → held.items ≡ [] → held.room ≡ old.held.room
+    → Puts state old.output output (canonical_dataset (subfile_dataset old.held.items))
+    → Becomes (record old { held = held; sent = old.sent + length old.held.items; output = output })
+    (record (holding old []) { sent = old.sent + length old.held.items; output = output })
+room_flushed state old held output room unfailed full empty same put =
     let fits = out_fits old room unfailed in
     let long = dataset_length (subfile_dataset old.held.items) in
+    let is : held ≡ record { items = []; room = old.held.room } = λ i. record { items = empty i; room = same i } in
+    rw is (
     record {
-      capacity = rw same room.capacity;
-      within = rw empty (omega arith);
-      bound = rw (more, empty) (omega (arith, room.bound));
-      parts = room.parts + 1;
-      sent = omega (arith, room.sent, more, full);
-      count = λ e. omega (arith, put.counted, long, room.count unfailed, more);
-      small = omega (arith, put.counted, long, fits);
-    }
+      same = refl;
+      room = record {
+        capacity = room.capacity;
+        within = omega arith;
+        bound = omega (arith, room.bound);
+        parts = room.parts + 1;
+        sent = omega (arith, room.sent, full);
+        count = λ e. omega (arith, put.counted, long, room.count unfailed);
+        small = omega (arith, put.counted, long, fits);
+      };
+    })
 
 pub room_halted : {W : Type 0} (state : W → Device) (old : Cutter W) (output : Output W) (text : List ℕ) → HasRoom old → old.failed ≡ false
     → Cuts state old.output output text → length text ≤ 64 + length old.held.items → HasRoom (record old { output = output; failed = true })

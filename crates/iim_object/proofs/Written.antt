@@ -1,11 +1,12 @@
 -- How a writer of subfiles continues, breaks off and finishes.
-use Rattle.iim_object.proofs.Words.{◌≡◌, ℕ, ◌+◌, ◌<◌, ◌≤◌, Bool, true, false, Option, Some, None, List, [], ◌∷◌, ◌++◌, length, take, drop, refl, sym, ap, ◌∙◌, arith, append_assoc, append-nil, length-append, length-take, map-append, all_append, Device, TextsJoin, Dataset, canonical_dataset, canonical_stream, joined_parts, AreFull, IsCut, ObjectsAreCutOneWay, plan_datasets, subfile_dataset, subfile_datasets, number_dataset, Puts, Cuts, total_of, octets_out, Lengthens, write_cause, finish_cause, writing_of, HasRoom, Plan, Output, Cutter}
+use Rattle.iim_object.proofs.Words.{◌≡◌, ℕ, ◌+◌, ◌<◌, ◌≤◌, Bool, true, false, Option, Some, None, List, [], ◌∷◌, ◌++◌, length, take, drop, refl, sym, ap, ◌∙◌, arith, append_assoc, append-nil, length-append, length-take, map-append, all_append, Device, TextsJoin, Dataset, canonical_dataset, canonical_stream, joined_parts, AreFull, IsCut, ObjectsAreCutOneWay, plan_datasets, subfile_dataset, subfile_datasets, number_dataset, Puts, Cuts, total_of, octets_out, Lengthens, write_cause, finish_cause, writing_of, Plan, Output, Cutter}
 use Rattle.std.proofs.Common.{cond}
 use Rattle.std.specs.Prelude.{IfNone}
 use Rattle.std.proofs.lemmas.List.{take-append-drop}
 use Rattle.iim_object.specs.Format.Packing.{confirmed_datasets, object_datasets}
 use Rattle.iim_object.specs.States.Writing.{Writing, HasWritten, Begins, BreaksOff, ContinuesWith, IsTheWhole, Finishes}
-use Rattle.iim_dataset.specs.States.Devices.{Reserved}
+use Rattle.iim_object.specs.Steps.{Becomes}
+use Rattle.iim_object.proofs.Rooms.{holding}
 use Rattle.iim_object.proofs.PlanParts.{plan_parts}
 use Rattle.iim_object.proofs.Cutting.{same_first, some_octet, too_short}
 
@@ -84,57 +85,58 @@ no_less : (xs ys : List ℕ) → 1 ≤ length ys → xs ++ ys ≡ [] → ⊥
 no_less xs ys some e = omega (arith, some, length-append xs ys, ap length e)
 
 -- Octets are held.
-pub filled : {W : Type 0} (state : W → Device) (old : Cutter W) (held : Reserved) (xs : List ℕ) → TextsJoin → old.failed ≡ false → 1 ≤ length xs
-    → held.items ≡ old.held.items ++ xs → HasRoom (record old { held = held }) → Lengthens state (writing_of old) (writing_of (record old { held = held })) xs
-filled state old held xs join unfailed some is room = record {
-  more = [];
-  wrote = join.none (state old.output.writer);
-  patience = omega arith;
-  plan = refl;
-  unfailed = unfailed;
-  counted = omega arith;
-  total = omega (arith, ap length is, length-append old.held.items xs);
-  stands = λ object out s. record {
-    unfailed = unfailed;
-    parts = s.parts;
-    are_full = s.are_full;
-    object_is = rw (s.object_is, is) (simp append_assoc);
-    some = λ empty. absurd (no_less old.held.items xs some (sym is ∙ empty));
-    sent = s.sent;
-    within = omega (arith, room.within, room.bound);
-    out_is = rw append-nil s.out_is;
-    written = rw append-nil s.written;
-  };
-}
+pub filled : {W : Type 0} (state : W → Device) (old new : Cutter W) (xs : List ℕ) → TextsJoin → old.failed ≡ false → 1 ≤ length xs
+    → Becomes new (holding old (old.held.items ++ xs)) → Lengthens state (writing_of old) (writing_of new) xs
+filled state old new xs join unfailed some is =
+    let room = rw is.same at is.room in rw is.same (
+    record {
+      more = [];
+      wrote = join.none (state old.output.writer);
+      patience = omega arith;
+      plan = refl;
+      unfailed = unfailed;
+      counted = omega arith;
+      total = omega (arith, length-append old.held.items xs);
+      stands = λ object out s. record {
+        unfailed = unfailed;
+        parts = s.parts;
+        are_full = s.are_full;
+        object_is = rw s.object_is (simp append_assoc);
+        some = λ empty. absurd (no_less old.held.items xs some empty);
+        sent = s.sent;
+        within = omega (arith, room.within, room.bound);
+        out_is = rw append-nil s.out_is;
+        written = rw append-nil s.written;
+      };
+    })
 
 -- A full subfile is written, and octets are held after it.
-pub flushed : {W : Type 0} (state : W → Device) (old : Cutter W) (held : Reserved) (output : Output W) (xs : List ℕ) → TextsJoin → old.failed ≡ false
-    → length old.held.items ≡ old.plan.subfile → 1 ≤ length xs
-    → Puts state old.output output (canonical_dataset (subfile_dataset old.held.items)) → held.items ≡ xs
-    → HasRoom (record old { held = held; sent = old.sent + length old.held.items; output = output })
-    → Lengthens state (writing_of old) (writing_of (record old { held = held; sent = old.sent + length old.held.items; output = output })) xs
-flushed state old held output xs join unfailed full some put is room =
+pub flushed : {W : Type 0} (state : W → Device) (old mid new : Cutter W) (xs : List ℕ) → TextsJoin → old.failed ≡ false
+    → length old.held.items ≡ old.plan.subfile → 1 ≤ length xs → Puts state old.output mid.output (canonical_dataset (subfile_dataset old.held.items))
+    → Becomes mid (record (holding old []) { sent = old.sent + length old.held.items; output = mid.output }) → Becomes new (holding mid (mid.held.items ++ xs))
+    → Lengthens state (writing_of old) (writing_of new) xs
+flushed state old mid new xs join unfailed full some put out is =
     let text : List ℕ = canonical_dataset (subfile_dataset old.held.items) in
-    record {
+    let room = rw (is.same, out.same) at is.room in rw (is.same, out.same) (record {
       more = text;
       wrote = put.wrote;
       patience = put.patience;
       plan = refl;
       unfailed = unfailed;
       counted = put.counted;
-      total = omega (arith, ap length is);
+      total = omega arith;
       stands = λ object out s. record {
         unfailed = unfailed;
         parts = s.parts ++ old.held.items ∷ [];
         are_full = full_append old.plan.subfile s.parts old.held.items s.are_full full;
-        object_is = rw (s.object_is, is, joined_append s.parts old.held.items) refl;
-        some = λ empty. absurd (omega (arith, some, ap length (sym is ∙ empty)));
+        object_is = rw (s.object_is, joined_append s.parts old.held.items) refl;
+        some = λ empty. absurd (omega (arith, some, ap length empty));
         sent = omega (arith, s.sent, ap length (joined_append s.parts old.held.items), length-append (joined_parts s.parts) old.held.items);
         within = omega (arith, room.within, room.bound);
         out_is = rw (s.out_is, begun_more old.plan s.parts (old.held.items ∷ [])) (simp append-nil);
         written = omega (arith, put.counted, s.written, length-append out text);
       };
-    }
+    })
 
 -- ---- a writer breaks off
 
@@ -165,14 +167,13 @@ breaks_off state May old output text cut continues = record {
 }
 
 -- A full subfile could not be written, and octets were to come after it.
-pub halted : {W : Type 0} (state : W → Device) (old : Cutter W) (output : Output W) (octets : List ℕ)
-    → length old.held.items ≡ old.plan.subfile → 1 ≤ length octets
-    → Cuts state old.output output (canonical_dataset (subfile_dataset old.held.items))
-    → BreaksOff state (ContinuesWith old.plan octets) (writing_of old) (writing_of (record old { output = output; failed = true }))
-halted state old output octets full some cut =
+pub halted : {W : Type 0} (state : W → Device) (old new : Cutter W) (octets : List ℕ) → length old.held.items ≡ old.plan.subfile → 1 ≤ length octets
+    → Cuts state old.output new.output (canonical_dataset (subfile_dataset old.held.items))
+    → Becomes new (record old { output = new.output; failed = true }) → BreaksOff state (ContinuesWith old.plan octets) (writing_of old) (writing_of new)
+halted state old new octets full some cut is =
     let plan = old.plan in
     let held : List ℕ = old.held.items in
-    breaks_off state (ContinuesWith plan octets) old output (canonical_dataset (subfile_dataset held)) cut (λ object out whole s (rest, w).
+    rw is.same (breaks_off state (ContinuesWith plan octets) old new.output (canonical_dataset (subfile_dataset held)) cut (λ object out whole s (rest, w).
     let cut = w.cut in
     let joins : joined_parts (s.parts ++ held ∷ []) ++ (octets ++ rest) ≡ joined_parts cut.full ++ cut.last =
     rw (joined_append s.parts held, ← s.object_is) (simp append_assoc at cut.joined) in
@@ -181,7 +182,7 @@ halted state old output octets full some cut =
     let last : List Dataset = confirmed_datasets ((object ++ octets) ++ rest) in (
       canonical_stream (subfile_datasets others ++ last),
       rw (w.octets_are, cut.parts_are, first, s.out_is) (parted (plan_datasets plan.subfile plan.size) last s.parts others held),
-    ))
+    )))
 
 -- A break comes after octets that were taken before it, whatever may be written: what may be written of all of them may be of the rest.
 pub breaks_on : {W : Type 0} (state : W → Device) (Now May : List ℕ → List ℕ → Type 0) (a b c : Writing W) (xs : List ℕ) → TextsJoin → Lengthens state a b xs

@@ -2,10 +2,9 @@
 use Rattle.std.specs.Prelude.{◌≡◌, ℕ, ◌+◌, ◌*◌, ◌<◌, ◌≤◌, false, length, List}
 use Rattle.iim_dataset.specs.Format.Datasets.{tag_octets}
 use Rattle.iim_object.specs.Format.Objects.{most_out, most_sizes}
-use Rattle.iim_object.specs.States.Writing.{Writing, most_of, room_of}
+use Rattle.iim_object.specs.States.Writing.{Writing, most_of, room_of, total_of}
+use Rattle.iim_object.specs.declared.writing.{cutter.Cutter.Cutter, output.Output.Output}
 use Rattle.iim_dataset.specs.States.Devices.{Device, Wrote, Stopped, WithinInterruptionLimit}
-use Rattle.iim_object.specs.declared.writing.cutter.Cutter.{Cutter}
-use Rattle.iim_object.specs.declared.writing.output.Output.{Output}
 
 -- the cutter as a writer of subfiles
 abbrev pub writing_of : {W : Type 0} → Cutter W → Writing W
@@ -21,6 +20,18 @@ pub record HasRoom {W : Type 0} (c : Cutter W) : Type 0 where
   pub sent : c.sent ≡ c.plan.subfile * parts
   pub count : c.failed ≡ false → c.output.written ≤ most_sizes + c.sent + tag_octets * parts
   pub small : c.output.written < most_out
+
+-- It may take these octets: it has room for what the plan allows, no write failed, there are some, and the plan allows them too.
+pub record MayTake {W : Type 0} (c : Cutter W) (octets : List ℕ) : Type 0 where
+  pub room : HasRoom c
+  pub unfailed : c.failed ≡ false
+  pub some : 0 < length octets
+  pub within : total_of (writing_of c) + length octets ≤ most_of c.plan
+
+-- After a call it is this one, and has room for what the plan allows.
+pub record Becomes {W : Type 0} (new is : Cutter W) : Type 0 where
+  pub same : new ≡ is
+  pub room : HasRoom new
 
 -- The text is out, and was counted. A million interruptions at most came for each octet.
 pub record Puts {W : Type 0} (state : W → Device) (old new : Output W) (text : List ℕ) : Type 0 where

@@ -1,10 +1,8 @@
 -- The lines of the commands, their limits, and the statuses that the program ends with.
 use Rattle.std.specs.Prelude.{ℕ, List, ◌++◌, codes, decimal, ◌≡◌, ◌⊎◌}
-use Rattle.iim_fields.specs.Format.Records.{wire_limits}
-use Rattle.iim_places.specs.Format.Causes.{refusal_text}
+use Rattle.iim_fields.specs.{Format.Records.wire_limits, declared.limits.Limits.Limits}
+use Rattle.iim_places.specs.{Format.Causes.refusal_text, declared.refusal.Refusal.Refusal}
 use Rattle.iim_dataset.specs.States.Devices.{Device, Wrote, Stopped}
-use Rattle.iim_fields.specs.declared.limits.Limits.{Limits}
-use Rattle.iim_places.specs.declared.refusal.Refusal.{Refusal}
 pub use Rattle.iim_output.specs.declared.fault.CommandFault.{CommandFault}
 pub use Rattle.iim_output.specs.declared.fault.CommandFault.TheVariants.{CannotRead, CannotWrite, OutOfMemory}
 

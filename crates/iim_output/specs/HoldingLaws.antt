@@ -1,11 +1,9 @@
 -- The laws of writers of blocks, handed in by their impls.
 use Rattle.std.proofs.Common.{◌≡◌, ℕ, List, [], ◌++◌, map, refl, sym, ◌∙◌, append-nil, append_assoc, length-append, arith}
 use Rattle.std.proofs.lemmas.List.{map-append}
-use Rattle.iim_dataset.specs.States.Devices.{Device}
-use Rattle.iim_dataset.specs.Steps.{appends_nothing, appends_joined}
-use Rattle.wire_story.specs.Format.Texts.{StoryEvent, octet_for, LineOctet}
-use Rattle.wire_story.specs.States.Reading.{WritesOn}
-use Rattle.wire_story.specs.Steps.{writes_nothing, writes_joined, octets_of_line}
+use Rattle.iim_dataset.specs.{States.Devices.Device, Steps.appends_nothing, Steps.appends_joined}
+use Rattle.wire_story.specs.{Format.Texts.StoryEvent, Format.Texts.octet_for, Format.Texts.LineOctet}
+use Rattle.wire_story.specs.{States.Reading.WritesOn, Steps.writes_nothing, Steps.writes_joined, Steps.octets_of_line}
 use Rattle.iim_output.specs.States.Holding.{HasPut, PutsOn, PutsLines, device_of, held_of, stops_of, BlockWriter}
 
 writes_on : (a b c : Device) (i j k : ℕ) (xs ys : List ℕ) → WritesOn a b i j xs → WritesOn b c j k ys → WritesOn a c i k (xs ++ ys)

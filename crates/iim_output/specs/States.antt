@@ -1,4 +1,3 @@
 pub mod Devices
 pub mod Held
 pub mod Holding
-pub mod Silence

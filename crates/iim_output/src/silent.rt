@@ -15,11 +15,12 @@ pub struct Silent<'w, W> {
 }
 
 impl<'w, W: Target> StorySink for Silent<'w, W> {
-    ghost use Rattle.iim_output.specs.States.Silence.{PassesOver, refuses_never};
+    ghost use Rattle.iim_output.specs.States.Holding.{HasPut};
 
-    ghost goes = { PassesOver W.state };
+    // Whatever it was told, its writer took nothing more.
+    ghost goes = { λ old _ new. HasPut W.state old.output new.output [] };
 
-    ghost failures = { refuses_never };
+    ghost failures = { λ _. 0 };
 
     ghost use Rattle.iim_output.specs.HoldingLaws.{put_nothing, put_on};
 
@@ -37,11 +38,11 @@ impl<'w, W: Target> StorySink for Silent<'w, W> {
 }
 
 impl<'w, W: Target> Outlet for Silent<'w, W> {
-    ghost use Rattle.iim_output.specs.States.Silence.{IsSettled, IsStuck};
+    ghost use Rattle.iim_output.specs.States.Holding.{HoldsNothing, StaysStuck};
 
-    ghost settled = { IsSettled };
+    ghost settled = { λ sink. HoldsNothing sink.output };
 
-    ghost stuck = { IsStuck W.state };
+    ghost stuck = { λ old new. StaysStuck W.state old.output new.output };
 
     fn let_out(&mut self) -> Result<(), Stop> {
         self.output.flush()

@@ -1,9 +1,6 @@
 -- What a packer has begun with, call by call.
-use Rattle.iim_pack.proofs.Words.{ℕ, List, [], ◌++◌, arith, length-append, Device, TextsJoin, Dataset, Plan, StoryEvent, Header, Packing, Starts}
-use Rattle.iim_pack.specs.States.Packing.{Lengthens, Finishes, HasBegun, ContinuesBegun, EndsBegun}
-
-pub begun_at_start : {W : Type 0} (state : W → Device) (writer : W) (fields : List Dataset) (head : Header) (plan : Plan) (k : Packing W) → Starts state writer fields head plan k → HasBegun state (state writer) k fields head [] plan
-begun_at_start state writer fields head plan k s = record { out = s.out; wrote = s.wrote; counted = s.counted; stands = s.stands }
+use Rattle.iim_pack.proofs.Words.{List, ℕ, ◌++◌, arith, length-append, Device, TextsJoin, Packing, StoryEvent}
+use Rattle.iim_pack.specs.States.Packing.{Lengthens, Finishes, ContinuesBegun, EndsBegun}
 
 pub begun_on : {W : Type 0} (state : W → Device) (old new : Packing W) (events : List StoryEvent) → TextsJoin → Lengthens state old new events → ContinuesBegun state old new events
 begun_on state old new events join l first fields head before plan b = record {

@@ -1,10 +1,11 @@
 -- How a packer finishes, by the writer of its object.
-use Rattle.iim_pack.proofs.Words.{◌≡◌, ℕ, ◌+◌, ◌≤◌, false, None, List, ◌++◌, length, sym, ap, subst, ◌∙◌, arith, append_assoc, length-append, ltb-false, Device, canonical_stream, bound_of, is_short, IsWritten, Writing, most_of, total_of, Plan, Size, Known, Unknown, packed_text, StoryEvent, packed_events, lines_of, Header, IsTrailer, packed_head, packed_tail, canonical, EndsIn}
+use Rattle.iim_pack.proofs.Words.{◌≡◌, ℕ, ◌+◌, ◌≤◌, false, None, List, ◌++◌, length, sym, ap, subst, ◌∙◌, arith, append_assoc, length-append, ltb-false, Device, canonical_stream, bound_of, is_short, IsWritten, Writing, most_of, total_of, Plan, Size, Known, Unknown, packed_text, StoryEvent, packed_events, lines_of, Header, IsTrailer, packed_head, packed_tail, canonical}
 use Rattle.std.proofs.lemmas.Bool.Decides.{nat_tests}
 use Rattle.iim_object.specs.Format.Packing.{IsAsKnown}
 use Rattle.iim_object.specs.States.Writing as object
 use Rattle.wire_story.specs.Laws.{EventsArePackedAsLines}
 use Rattle.wire_message.specs.Laws.{CanonicalObjectsAreMessages}
+use Rattle.iim_pack.specs.Format.Packed.{Packed}
 use Rattle.iim_pack.specs.States.Packing.{BreaksOff, Finishes, ending_cause}
 use Rattle.iim_pack.proofs.Endings.{Ends, EndsWithTail}
 use Rattle.iim_pack.proofs.Goings.{breaks}
@@ -17,7 +18,7 @@ pub record MayEnd (plan : Plan) (total : ℕ) (trailer : List ℕ) : Type 0 wher
   pub fits : total + length (packed_tail trailer) ≤ most_of plan
   pub whole : is_short plan.size (total + length (packed_tail trailer)) ≡ false
 
-pub may_end : (plan : Plan) (total : ℕ) (trailer : List ℕ) → ending_cause plan total trailer ≡ None → MayEnd plan total trailer
+pub may_end : (plan : Plan) (total : ℕ) (trailer : List ℕ) → ending_cause plan (total + length (packed_tail trailer)) trailer ≡ None → MayEnd plan total trailer
 may_end plan total trailer e = record {
   trailer_is = (grind (arith, nat_tests), omega arith, grind (arith, nat_tests));
   fits = grind (arith, nat_tests);
@@ -65,9 +66,10 @@ finished state before old trailer writer lines messages may ends = record {
 }
 
 pub unfinished : {W : Type 0} (state : W → Device) (before : ℕ) (old new : Writing W) (trailer : List ℕ) → EventsArePackedAsLines → object.BreaksOff state (EndsWithTail old.plan (packed_tail trailer)) old new
-    → BreaksOff state (EndsIn trailer) (record { before = before; object = old }) (record { before = before; object = new })
+    → BreaksOff state (λ fields head before. Packed fields head (lines_of before) trailer) (record { before = before; object = old })
+    (record { before = before; object = new })
 unfinished state before old new trailer lines k =
-    breaks state before (EndsWithTail old.plan (packed_tail trailer)) (EndsIn trailer) old new
+    breaks state before (EndsWithTail old.plan (packed_tail trailer)) (λ fields head before. Packed fields head (lines_of before) trailer) old new
     (λ fields head events whole are p. (
       p.object,
       p.octets_are,

@@ -1,11 +1,11 @@
 -- The first cause of an order.
-use Rattle.iim_pack.proofs.Words.{◌≡◌, ℕ, ◌+◌, Bool, true, false, not, cond, IsTrue, Option, Some, None, List, [], ◌∷◌, length, refl, sym, ap, ◌∙◌, arith, length-append, list_all, ltb-false, not-false, is_short, total_of, passes_plan, Plan, Size, Known, Unknown, is_line_octet, Header, IsTrailer, packed_head, packed_tail, canonical, Packing, is_trailer, start_cause, text_cause, line_end_cause, pack_cause}
+use Rattle.iim_pack.proofs.Words.{◌≡◌, ℕ, ◌+◌, Bool, true, false, not, cond, IsTrue, Option, Some, None, List, [], ◌∷◌, length, refl, sym, ap, ◌∙◌, arith, length-append, list_all, ltb-false, not-false, is_short, total_of, passes_plan, Plan, Size, Known, Unknown, is_line_octet, Header, IsTrailer, packed_head, canonical, Packing, is_trailer, start_cause, text_cause, line_end_cause, pack_cause}
 use Rattle.std.proofs.lemmas.Bool.Decides.{nat_tests}
 use Rattle.iim_object.specs.States.Writing.{PassesPlan, IsBelowKnown}
 use Rattle.iim_object.specs.declared.writing.cause.PackCause.{PackCause}
 use Rattle.iim_object.specs.declared.writing.cause.PackCause.TheVariants.{PastAnnounced, ShortOfAnnounced, BadTextOctet, BadTrailer, Failed}
-use Rattle.iim_pack.specs.States.Packing.{finish_cause}
-use Rattle.iim_pack.specs.Format.Orders.{IsFirstOf, AgainstStart, AgainstText, AgainstLineEnd, AgainstFinish, AgainstPack}
+use Rattle.iim_pack.specs.States.Packing.{ending_cause, finish_cause, least_ending}
+use Rattle.iim_pack.specs.Format.Orders.{IsFirstOf, Against}
 
 -- a test that tells what its cause says
 abbrev Tells : Bool → Type 0 → Type 0
@@ -53,35 +53,48 @@ trailer_tells trailer = (
 
 -- ---- calls
 
-pub start_order : (head : Header) (plan : Plan) → IsFirstOf (AgainstStart head plan) (PastAnnounced ∷ []) (start_cause head plan)
-start_order head plan = step (AgainstStart head plan) (passes_plan plan (length (packed_head head) + 2)) PastAnnounced [] None (past_tells plan _ _ refl) tt
+pub start_order : (head : Header) (plan : Plan)
+    → IsFirstOf (Against false [] [] plan (length (packed_head head) + least_ending)) (PastAnnounced ∷ []) (start_cause head plan)
+start_order head plan =
+    let size = length (packed_head head) + least_ending in
+    step (Against false [] [] plan size) (passes_plan plan size) PastAnnounced [] None (past_tells plan _ _ refl) tt
 
-pub text_order : {W : Type 0} (k : Packing W) (octets : List ℕ) → IsFirstOf (AgainstText k octets) (Failed ∷ BadTextOctet ∷ PastAnnounced ∷ []) (text_cause k octets)
+pub text_order : {W : Type 0} (k : Packing W) (octets : List ℕ)
+    → IsFirstOf (Against k.object.failed octets [] k.object.plan (total_of k.object + (length octets + least_ending)))
+    (Failed ∷ BadTextOctet ∷ PastAnnounced ∷ []) (text_cause k octets)
 text_order k octets =
-    step (AgainstText k octets) k.object.failed Failed (BadTextOctet ∷ PastAnnounced ∷ []) _ (failed_tells k.object.failed)
-    (step (AgainstText k octets) (not (list_all is_line_octet octets)) BadTextOctet (PastAnnounced ∷ []) _ (not_tells (list_all is_line_octet octets))
-    (step (AgainstText k octets) (passes_plan k.object.plan (total_of k.object + (length octets + 2))) PastAnnounced [] None (past_tells k.object.plan _ _ refl) tt))
+    let size = total_of k.object + (length octets + least_ending) in
+    let says = Against k.object.failed octets [] k.object.plan size in
+    step says k.object.failed Failed (BadTextOctet ∷ PastAnnounced ∷ []) _ (failed_tells k.object.failed)
+    (step says (not (list_all is_line_octet octets)) BadTextOctet (PastAnnounced ∷ []) _ (not_tells (list_all is_line_octet octets))
+    (step says (passes_plan k.object.plan size) PastAnnounced [] None (past_tells k.object.plan _ _ refl) tt))
 
-pub line_end_order : {W : Type 0} (k : Packing W) → IsFirstOf (AgainstLineEnd k) (Failed ∷ PastAnnounced ∷ []) (line_end_cause k)
+pub line_end_order : {W : Type 0} (k : Packing W)
+    → IsFirstOf (Against k.object.failed [] [] k.object.plan (total_of k.object + (2 + least_ending))) (Failed ∷ PastAnnounced ∷ []) (line_end_cause k)
 line_end_order k =
-    step (AgainstLineEnd k) k.object.failed Failed (PastAnnounced ∷ []) _ (failed_tells k.object.failed)
-    (step (AgainstLineEnd k) (passes_plan k.object.plan (total_of k.object + (2 + 2))) PastAnnounced [] None (past_tells k.object.plan _ _ refl) tt)
+    let size = total_of k.object + (2 + least_ending) in
+    let says = Against k.object.failed [] [] k.object.plan size in
+    step says k.object.failed Failed (PastAnnounced ∷ []) _ (failed_tells k.object.failed)
+    (step says (passes_plan k.object.plan size) PastAnnounced [] None (past_tells k.object.plan _ _ refl) tt)
 
-pub finish_order : {W : Type 0} (k : Packing W) (trailer : List ℕ) → IsFirstOf (AgainstFinish k trailer) (Failed ∷ BadTrailer ∷ PastAnnounced ∷ ShortOfAnnounced ∷ []) (finish_cause k trailer)
+-- the causes against an ending, where the octets of the object are counted in two ways
+ending_order : (failed : Bool) (trailer : List ℕ) (plan : Plan) (n m : ℕ) → n ≡ m
+    → IsFirstOf (Against failed [] trailer plan m) (BadTrailer ∷ PastAnnounced ∷ ShortOfAnnounced ∷ []) (ending_cause plan n trailer)
+ending_order failed trailer plan n m same =
+    let says = Against failed [] trailer plan m in
+    step says (not (is_trailer trailer)) BadTrailer (PastAnnounced ∷ ShortOfAnnounced ∷ []) _ (trailer_tells trailer)
+    (step says (passes_plan plan n) PastAnnounced (ShortOfAnnounced ∷ []) _ (past_tells plan n m same)
+    (step says (is_short plan.size n) ShortOfAnnounced [] None (short_of plan plan.size n m same refl) tt))
+
+pub finish_order : {W : Type 0} (k : Packing W) (trailer : List ℕ)
+    → IsFirstOf (Against k.object.failed [] trailer k.object.plan (total_of k.object + (length trailer + least_ending)))
+    (Failed ∷ BadTrailer ∷ PastAnnounced ∷ ShortOfAnnounced ∷ []) (finish_cause k trailer)
 finish_order k trailer =
-    let plan = k.object.plan in
-    let total = total_of k.object in
-    let long = length (packed_tail trailer) in
-    let tail : total + long ≡ total + (length trailer + 2) = omega (arith, length-append trailer (4 ∷ [])) in
-    step (AgainstFinish k trailer) k.object.failed Failed (BadTrailer ∷ PastAnnounced ∷ ShortOfAnnounced ∷ []) _ (failed_tells k.object.failed)
-    (step (AgainstFinish k trailer) (not (is_trailer trailer)) BadTrailer (PastAnnounced ∷ ShortOfAnnounced ∷ []) _ (trailer_tells trailer)
-    (step (AgainstFinish k trailer) (passes_plan plan (total + long)) PastAnnounced (ShortOfAnnounced ∷ []) _ (past_tells plan _ _ tail)
-    (step (AgainstFinish k trailer) (is_short plan.size (total + long)) ShortOfAnnounced [] None (short_of plan plan.size _ _ tail refl) tt)))
+    let size = total_of k.object + (length trailer + least_ending) in
+    step (Against k.object.failed [] trailer k.object.plan size) k.object.failed Failed (BadTrailer ∷ PastAnnounced ∷ ShortOfAnnounced ∷ []) _
+    (failed_tells k.object.failed) (ending_order k.object.failed trailer k.object.plan _ size (omega (arith, length-append trailer (4 ∷ []))))
 
 pub pack_order : (head : Header) (lines : List (List ℕ)) (trailer : List ℕ) (plan : Plan)
-    → IsFirstOf (AgainstPack head lines trailer plan) (BadTrailer ∷ PastAnnounced ∷ ShortOfAnnounced ∷ []) (pack_cause head lines trailer plan)
-pack_order head lines trailer plan =
-    let size = length (canonical head lines trailer) in
-    step (AgainstPack head lines trailer plan) (not (is_trailer trailer)) BadTrailer (PastAnnounced ∷ ShortOfAnnounced ∷ []) _ (trailer_tells trailer)
-    (step (AgainstPack head lines trailer plan) (passes_plan plan size) PastAnnounced (ShortOfAnnounced ∷ []) _ (past_tells plan size size refl)
-    (step (AgainstPack head lines trailer plan) (is_short plan.size size) ShortOfAnnounced [] None (short_of plan plan.size size size refl refl) tt))
+    → IsFirstOf (Against false [] trailer plan (length (canonical head lines trailer))) (BadTrailer ∷ PastAnnounced ∷ ShortOfAnnounced ∷ [])
+    (pack_cause head lines trailer plan)
+pack_order head lines trailer plan = ending_order false trailer plan (length (canonical head lines trailer)) (length (canonical head lines trailer)) refl

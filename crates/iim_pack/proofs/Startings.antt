@@ -38,19 +38,21 @@ pub started : {W : Type 0} (state : W → Device) (writer first : W) (fields : L
     → WithinInterruptionLimit before (state writer) (state first) → Opens state first plan (packed_head head) new
     → Starts state writer fields head plan (record { before = before; object = new })
 started state writer first fields head plan before new join envelope header wrote counted limit o = record {
-  out = canonical_stream fields ++ o.out;
-  wrote = join.more (state writer) (state first) (state new.writer) (canonical_stream fields) o.out wrote o.wrote;
-  patience = omega (arith, limit, counted, o.patience, length-append (canonical_stream fields) o.out);
-  counted = omega (arith, counted, o.stands.written, length-append (canonical_stream fields) o.out);
-  total = sym (total_is new (packed_head head) o.out o.stands);
-  stands = record {
-    envelope = envelope;
-    header = header;
-    events_are = tt;
-    is_plan = o.is_plan;
-    before = counted;
-    object_out = o.out;
-    stands = subst (λ (t : List ℕ). object.HasWritten new t o.out) (sym (append-nil (packed_head head))) o.stands;
-    out_is = refl;
+  begun = record {
+    out = canonical_stream fields ++ o.out;
+    wrote = join.more (state writer) (state first) (state new.writer) (canonical_stream fields) o.out wrote o.wrote;
+    counted = omega (arith, counted, o.stands.written, length-append (canonical_stream fields) o.out);
+    stands = record {
+      envelope = envelope;
+      header = header;
+      events_are = tt;
+      is_plan = o.is_plan;
+      before = counted;
+      object_out = o.out;
+      stands = subst (λ (t : List ℕ). object.HasWritten new t o.out) (sym (append-nil (packed_head head))) o.stands;
+      out_is = refl;
+    };
   };
+  patience = omega (arith, limit, counted, o.patience, length-append (canonical_stream fields) o.out);
+  total = sym (total_is new (packed_head head) o.out o.stands);
 }

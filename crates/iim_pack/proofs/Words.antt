@@ -16,7 +16,7 @@ pub use Rattle.iim_object.specs.declared.plan.Plan.{Plan}
 pub use Rattle.iim_object.specs.declared.size.Size.{Size}
 pub use Rattle.iim_object.specs.declared.size.Size.TheVariants.{Known, Unknown}
 pub use Rattle.iim_object.specs.declared.writing.cause.StartFault.{StartFault}
-pub use Rattle.iim_pack.specs.States.Packing.{EndsIn, FormWith, Packing, is_trailer, line_end_cause, pack_cause, start_cause, text_cause, StartBreaksOff, Starts}
+pub use Rattle.iim_pack.specs.States.Packing.{FormWith, Packing, is_trailer, line_end_cause, pack_cause, start_cause, text_cause, StartBreaksOff, Starts}
 pub use Rattle.iim_pack.specs.Steps.{Opens}
 pub use Rattle.iim_tables.specs.Format.Records.{IsGoodDataset}
 pub use Rattle.std.proofs.Common.{Bool, IsTrue, List, None, Option, Some, [], ap, append-nil, append_assoc, arith, cond, false, inr, length, length-append, map, nat_eq, nat_le, not, refl, subst, sym, take, true, ℕ, ◌&&◌, ◌*◌, ◌++◌, ◌+◌, ◌<◌, ◌^◌, ◌∙◌, ◌∷◌, ◌≡◌, ◌≤◌}

@@ -1,13 +1,11 @@
 -- What holds of all packed octets.
 use Rattle.std.specs.Prelude.{◌≡◌, ℕ, ◌<◌, ◌≤◌, List, ◌++◌, length}
 use Rattle.iim_dataset.specs.Format.Datasets.{Dataset, SpellsStream, count_octets, of_record}
-use Rattle.iim_fields.specs.Format.Records.{AreSections}
-use Rattle.iim_fields.specs.States.Standing.{AreFew}
+use Rattle.iim_fields.specs.{Format.Records.AreSections, States.Standing.AreFew}
 use Rattle.iim_fields.specs.Format.Causes.{kept, joined}
 use Rattle.iim_object.specs.Format.Objects.{max_subfiles, most_out, HaveSizes}
 use Rattle.iim_object.specs.Format.Packing.{object_datasets, packed_sizes}
-use Rattle.iim_object.specs.declared.plan.Plan.{Plan}
-use Rattle.iim_object.specs.declared.size.Sizes.{Sizes}
+use Rattle.iim_object.specs.declared.{plan.Plan.Plan, size.Sizes.Sizes}
 use Rattle.wire_message.specs.Format.Messages.{Header, canonical}
 use Rattle.iim_pack.specs.Format.Packed.{Packed}
 

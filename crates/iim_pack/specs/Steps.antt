@@ -2,9 +2,8 @@
 use Rattle.std.specs.Prelude.{ℕ, Bool, true, false, List, ◌∷◌, map, ◌≡◌, length}
 use Rattle.wire_story.specs.Format.Texts.{StoryEvent, LineOctet, LineEnd}
 use Rattle.iim_dataset.specs.States.Devices.{Device, Wrote, WithinInterruptionLimit}
-use Rattle.iim_object.specs.States.Writing.{Writing}
+use Rattle.iim_object.specs.{States.Writing.Writing, declared.plan.Plan.Plan}
 use Rattle.iim_object.specs.States.Writing as object
-use Rattle.iim_object.specs.declared.plan.Plan.{Plan}
 
 -- the events of a line, as lines are packed one after another: before each but the first the last one ends
 abbrev pub line_events : Bool → List ℕ → List StoryEvent

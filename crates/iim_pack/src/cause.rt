@@ -1,8 +1,9 @@
 //! Why a packer refuses a call, by numbers alone.
 
-ghost use Rattle.std.specs.Prelude.{◌≡◌, ◌+◌, ◌≤◌};
+ghost use Rattle.std.specs.Prelude.{◌≡◌, ◌+◌, ◌≤◌, length};
 ghost use Rattle.iim_dataset.specs.Format.Octets.{greatest_size};
 ghost use Rattle.iim_object.specs.States.Writing as object;
+ghost use Rattle.wire_message.specs.Format.Messages.{packed_tail};
 ghost use Rattle.iim_pack.specs.States.Packing.{ending_cause};
 ghost use Rattle.iim_pack.specs.States.Packing as words;
 
@@ -22,7 +23,7 @@ pub(crate) fn passes_plan(plan: Plan, total: u64, octets: u64) -> bool
 /// Why an object may not end with the trailer after `total` octets.
 pub(crate) fn ending_cause(plan: Plan, total: u64, trailer: &[u8]) -> Option<PackCause>
     requires { total ≤ greatest_size }
-    ensures { result ≡ words.ending_cause plan total trailer.now }
+    ensures { result ≡ words.ending_cause plan (total + length (packed_tail trailer.now)) trailer.now }
 {
     if !is_trailer(trailer) {
         return Some(PackCause::BadTrailer);

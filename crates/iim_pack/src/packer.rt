@@ -1,10 +1,13 @@
 //! The packer.
 
-ghost use Rattle.std.specs.Prelude.{◌≡◌, ◌<◌, ◌^◌, [], ◌∷◌, map, IfOk, IfErr, OnOk, OnErr, IfSome, IfNone, MatchResult, Err};
+ghost use Rattle.std.specs.Prelude.{◌≡◌, ◌+◌, ◌<◌, ◌^◌, [], ◌∷◌, false, length, map, IfOk, IfErr, OnOk, OnErr, IfSome, IfNone, MatchResult, Err};
 ghost use Rattle.wire_story.specs.Format.Texts.{LineOctet, LineEnd, IsLine};
-ghost use Rattle.iim_pack.specs.States.Packing.{Lengthens, BreaksOff, ContinuesWith, EndsIn, Finishes, start_cause, text_cause, line_end_cause, finish_cause, written_of, Starts, StartIsRefused, IsStartFault, HasBegun, ContinuesBegun, EndsBegun};
-ghost use Rattle.iim_pack.specs.Format.Orders.{IsFirstOf, AgainstStart, AgainstText, AgainstLineEnd, AgainstFinish};
-ghost use Rattle.iim_object.specs.States.Writing.{room_of};
+ghost use Rattle.iim_pack.specs.States.Packing.{Lengthens, BreaksOff, ContinuesWith, Finishes, FormWith, least_ending, start_cause, text_cause, line_end_cause, finish_cause, written_of, Starts, StartIsRefused, IsStartFault, HasBegun, ContinuesBegun, EndsBegun};
+ghost use Rattle.iim_pack.specs.Format.Orders.{IsFirstOf, Against};
+ghost use Rattle.iim_pack.specs.Format.Packed.{Packed};
+ghost use Rattle.wire_message.specs.Format.Messages.{packed_head};
+ghost use Rattle.wire_story.specs.Format.Packing.{lines_of};
+ghost use Rattle.iim_object.specs.States.Writing.{room_of, total_of};
 ghost use Rattle.iim_object.specs.declared.writing.cause.PackCause.TheVariants as causes;
 
 use crate::cause::{LEAST_ENDING, ending_cause, passes_plan};
@@ -76,11 +79,12 @@ impl<W: Target> Packer<W> {
     ) -> Result<Packer<W>, StartFault<W>>
         ensures refused { IfSome (start_cause head.now plan)
             (λ cause. MatchResult result (λ _. ⊥) (StartIsRefused cause writer)) }
-        ensures order { IsFirstOf (AgainstStart head.now plan) (causes.PastAnnounced ∷ []) (start_cause head.now plan) }
+        ensures order { IsFirstOf (Against false [] [] plan (length (packed_head head.now) + least_ending))
+            (causes.PastAnnounced ∷ []) (start_cause head.now plan) }
         ensures ok { IfOk result (Starts W.state writer envelope.now head.now plan) }
         ensures begun { IfOk result (λ k. HasBegun W.state (W.state writer) k envelope.now head.now [] plan) }
         ensures fault { IfNone (start_cause head.now plan)
-            (IfErr result (IsStartFault W.state envelope.now head.now plan writer)) }
+            (IfErr result (IsStartFault W.state (FormWith envelope.now head.now plan []) writer)) }
         ensures room { IfOk result (λ k. k.object.room ≡ room_of plan) }
     {
         lines_are_packed_as_their_events();
@@ -113,7 +117,8 @@ impl<W: Target> Packer<W> {
     pub fn text(&mut self, octets: &[u8]) -> Result<(), PackCause>
         ensures refused { IfSome (text_cause self.old octets.now)
             (λ cause. (result ≡ Err cause) × (self.new ≡ self.old)) }
-        ensures order { IsFirstOf (AgainstText self.old octets.now)
+        ensures order { IsFirstOf (Against self.old.object.failed octets.now [] self.old.object.plan
+            (total_of self.old.object + (length octets.now + least_ending)))
             (causes.Failed ∷ causes.BadTextOctet ∷ causes.PastAnnounced ∷ []) (text_cause self.old octets.now) }
         ensures ok { OnOk result (Lengthens W.state self.old self.new (map LineOctet octets.now)) }
         ensures begun { OnOk result (ContinuesBegun W.state self.old self.new (map LineOctet octets.now)) }
@@ -140,7 +145,8 @@ impl<W: Target> Packer<W> {
         requires { IsLine octets.now }
         ensures refused { IfSome (text_cause self.old octets.now)
             (λ cause. (result ≡ Err cause) × (self.new ≡ self.old)) }
-        ensures order { IsFirstOf (AgainstText self.old octets.now)
+        ensures order { IsFirstOf (Against self.old.object.failed octets.now [] self.old.object.plan
+            (total_of self.old.object + (length octets.now + least_ending)))
             (causes.Failed ∷ causes.BadTextOctet ∷ causes.PastAnnounced ∷ []) (text_cause self.old octets.now) }
         ensures ok { OnOk result (Lengthens W.state self.old self.new (map LineOctet octets.now)) }
         ensures begun { OnOk result (ContinuesBegun W.state self.old self.new (map LineOctet octets.now)) }
@@ -171,8 +177,9 @@ impl<W: Target> Packer<W> {
     #[tactic(auto, using(crate::proofs::Orders::line_end_order))]
     pub fn line_end(&mut self) -> Result<(), PackCause>
         ensures refused { IfSome (line_end_cause self.old) (λ cause. (result ≡ Err cause) × (self.new ≡ self.old)) }
-        ensures order { IsFirstOf (AgainstLineEnd self.old) (causes.Failed ∷ causes.PastAnnounced ∷ [])
-            (line_end_cause self.old) }
+        ensures order { IsFirstOf (Against self.old.object.failed [] [] self.old.object.plan
+            (total_of self.old.object + (2 + least_ending)))
+            (causes.Failed ∷ causes.PastAnnounced ∷ []) (line_end_cause self.old) }
         ensures ok { OnOk result (Lengthens W.state self.old self.new (LineEnd ∷ [])) }
         ensures begun { OnOk result (ContinuesBegun W.state self.old self.new (LineEnd ∷ [])) }
         ensures cause { IfNone (line_end_cause self.old) (IfErr result (λ cause. cause ≡ causes.Write)) }
@@ -200,14 +207,16 @@ impl<W: Target> Packer<W> {
     #[tactic(auto, using(crate::proofs::Orders::finish_order))]
     pub fn finish(self, trailer: &[u8]) -> Result<W, (Packer<W>, PackCause)>
         ensures refused { IfSome (finish_cause self trailer.now) (λ cause. result ≡ Err (self, cause)) }
-        ensures order { IsFirstOf (AgainstFinish self trailer.now)
+        ensures order { IsFirstOf (Against self.object.failed [] trailer.now self.object.plan
+            (total_of self.object + (length trailer.now + least_ending)))
             (causes.Failed ∷ causes.BadTrailer ∷ causes.PastAnnounced ∷ causes.ShortOfAnnounced ∷ [])
             (finish_cause self trailer.now) }
         ensures ok { IfOk result (λ writer. Finishes W.state self trailer.now writer) }
         ensures begun { IfOk result (EndsBegun W.state self trailer.now) }
         ensures cause { IfNone (finish_cause self trailer.now) (IfErr result (λ refused. refused.1 ≡ causes.Write)) }
         ensures broke { IfNone (finish_cause self trailer.now)
-            (IfErr result (λ refused. BreaksOff W.state (EndsIn trailer.now) self refused.0)) }
+            (IfErr result (λ refused. BreaksOff W.state
+            (λ fields head before. Packed fields head (lines_of before) trailer.now) self refused.0)) }
         ensures room { IfErr result (λ refused. refused.0.object.room ≡ self.object.room) }
     {
         texts_join();

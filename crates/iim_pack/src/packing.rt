@@ -1,10 +1,12 @@
 //! A whole envelope, packed in one call.
 
-ghost use Rattle.std.specs.Prelude.{◌≡◌, [], ◌∷◌, IfOk, IfErr, IfSome, IfNone, MatchResult};
-ghost use Rattle.iim_pack.specs.States.Packing.{written_of, StartIsRefused, Packs, IsPackFault};
+ghost use Rattle.std.specs.Prelude.{◌≡◌, [], ◌∷◌, false, length, IfOk, IfErr, IfSome, IfNone, MatchResult};
+ghost use Rattle.iim_pack.specs.States.Packing.{written_of, StartIsRefused, Packs, IsStartFault};
 ghost use Rattle.iim_pack.specs.States.Packing as words;
 ghost use Rattle.iim_object.specs.declared.writing.cause.PackCause.TheVariants as causes;
-ghost use Rattle.iim_pack.specs.Format.Orders.{IsFirstOf, AgainstPack};
+ghost use Rattle.iim_pack.specs.Format.Orders.{IsFirstOf, Against};
+ghost use Rattle.iim_pack.specs.Format.Packed.{Packed};
+ghost use Rattle.wire_message.specs.Format.Messages.{canonical};
 
 use crate::lines::put_lines;
 use crate::packer::Packer;
@@ -71,12 +73,13 @@ pub fn pack<W: Target>(
 ) -> Result<W, StartFault<W>>
     ensures refused { IfSome (words.pack_cause head.now lines.now.lines trailer.now plan)
         (λ cause. MatchResult result (λ _. ⊥) (StartIsRefused cause writer)) }
-    ensures order { IsFirstOf (AgainstPack head.now lines.now.lines trailer.now plan)
+    ensures order { IsFirstOf
+        (Against false [] trailer.now plan (length (canonical head.now lines.now.lines trailer.now)))
         (causes.BadTrailer ∷ causes.PastAnnounced ∷ causes.ShortOfAnnounced ∷ [])
         (words.pack_cause head.now lines.now.lines trailer.now plan) }
     ensures ok { IfOk result (Packs W.state writer envelope.now head.now lines.now.lines trailer.now plan) }
     ensures fault { IfNone (words.pack_cause head.now lines.now.lines trailer.now plan)
-        (IfErr result (IsPackFault W.state envelope.now head.now lines.now.lines trailer.now plan writer)) }
+        (IfErr result (IsStartFault W.state (Packed envelope.now head.now lines.now.lines trailer.now plan) writer)) }
 {
     texts_join();
     lines_are_packed_as_their_events();

@@ -1,5 +1,7 @@
 -- `pack`: what its parts leave comes to what it leaves.
-use Rattle.iim_pack_script.proofs.Words.{◌≡◌, ℕ, ◌+◌, ap, length-append, IfOk, min, ◌≤◌, ◌++◌, List, [], length, inl, inr, refl, take, drop, append_assoc, take-append-drop, sym, subst, ◌∙◌, arith, Bool, true, false, Option, Some, None, Result, Ok, Err, IfErr, IsTrue, Device, BrokeAfter, HasGiven, Stopped, Wrote, Begins, pack_cause, max_script, Answered, Asked, IsBrokenOff, IsNotPacked, IsPacked, IsPast, IsPlanOf, IsRead, IsScriptRefusal, IsScriptOf, IsUnanswered, IsUnread, ScriptContent, most_asked, object_of, said_size, IsFresh, block_device, held_in, octets_behind, ComesTo, IsFailedRead, TellsFault}
+use Rattle.iim_pack_script.proofs.Words.{◌≡◌, ℕ, ◌+◌, ap, length-append, IfOk, min, ◌≤◌, ◌++◌, List, [], length, inl, inr, refl, take, drop, append_assoc, take-append-drop, sym, subst, ◌∙◌, arith, Bool, true, false, Option, Some, None, Result, Ok, Err, IfErr, IsTrue, Device, BrokeAfter, HasGiven, Stopped, Wrote, Begins, pack_cause, max_script, Answered, Asked, IsBrokenOff, IsNotPacked, IsPacked, IsPast, IsPlanOf, IsRead, IsScriptRefusal, IsScriptOf, IsUnanswered, IsUnread, ScriptContent, object_of, IsFresh, block_device, held_in, octets_behind, ComesTo, IsFailedRead, TellsFault}
+use Rattle.std.specs.Prelude.{if◌then◌else◌}
+use Rattle.std.specs.Option.{unwrap_or}
 use Rattle.iim_dataset.specs.Format.Octets.{greatest_size}
 use Rattle.iim_dataset.specs.Steps.{appends_nothing}
 use Rattle.iim_dataset.specs.Laws.{GiftsJoin}
@@ -7,12 +9,12 @@ use Rattle.iim_object.specs.Format.Objects.{bound_of, is_plan, most_in}
 use Rattle.iim_object.specs.declared.writing.cause.PackCause.TheVariants as causes
 use Rattle.iim_object.specs.declared.writing.cause.StartFault.{StartFault}
 use Rattle.iim_object.specs.declared.plan.Plan.{Plan}
-use Rattle.iim_object.specs.declared.size.Size.TheVariants.{Known}
+use Rattle.iim_object.specs.declared.size.Size.TheVariants.{Known, Unknown}
 use Rattle.iim_object.proofs.PlanParts.{plan_parts}
 use Rattle.iim_dataset.proofs.DeviceLaws.{broke_later}
 use Rattle.iim_pack.specs.Format.Packed.{Packed}
 use Rattle.iim_pack.specs.Laws.{PackedOctetsAreOne}
-use Rattle.iim_pack.specs.States.Packing.{StartBreaksOff, IsPackFault, Packs}
+use Rattle.iim_pack.specs.States.Packing.{StartBreaksOff, IsStartFault, Packs}
 use Rattle.iim_pack.proofs.Orders.{pack_order}
 use Rattle.iim_script.specs.Format.Causes.{IsScriptFault}
 use Rattle.iim_script.specs.declared.fault.ScriptFault.{ScriptFault}
@@ -44,8 +46,10 @@ fresh_device state old fresh is h =
 -- ---- the bound of a plan
 
 -- within the bound of the plan there is no more than is asked for
-within_by : (unknown : Bool) (max : Option ℕ) (subfile : ℕ) (object : List ℕ) → IsTrue (is_plan subfile (said_size unknown max object))
-    → length object ≤ bound_of subfile (said_size unknown max object) → length object ≤ min (most_asked unknown max) (most_in subfile)
+within_by : (unknown : Bool) (max : Option ℕ) (subfile : ℕ) (object : List ℕ)
+    → IsTrue (is_plan subfile (if unknown then Unknown max else Known (length object)))
+    → length object ≤ bound_of subfile (if unknown then Unknown max else Known (length object))
+    → length object ≤ min (if unknown then unwrap_or max greatest_size else greatest_size) (most_in subfile)
 within_by false max subfile object plan within =
     let parts = plan_parts subfile (Known (length object)) plan in
     let limit : length object ≤ greatest_size = parts.limit in
@@ -112,7 +116,7 @@ module _ {W : Type 0} (state : W → Device) (a : Asked) (octets : List ℕ) (t 
       (t, plan, b.0, tells, room_for a t plan is_plan none, is_plan, (b.1, k.1), λ form packed. begins_later b.0 h.out form b.2 (h.begins form packed))
 
   pub unpacks_told : (fault : StartFault (BlockTarget W)) (why : PackFault)
-      → IsPackFault (block_device state) t.fields t.head t.lines t.trailer plan fresh fault → ComesTo fault.cause t.text_line why
+      → IsStartFault (block_device state) (Packed t.fields t.head t.lines t.trailer plan) fresh fault → ComesTo fault.cause t.text_line why
       → IsNotPacked a octets (state old) (state fault.writer.writer) why
   unpacks_told fault why (inl m) to = for_memory why (rw m.cause_is at to) (ap (λ b. state b.writer) m.writer_is ∙ ap state same)
     where

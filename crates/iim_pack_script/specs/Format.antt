@@ -1,27 +1,20 @@
 -- What `pack` leaves of its input, its output and its errors.
-use Rattle.std.specs.Prelude.{◌≡◌, ◌≢◌, ℕ, min, ◌+◌, ◌<◌, ◌≤◌, ◌⊎◌, Bool, true, false, List, ◌++◌, length, codes, decimal, Option, Some}
-use Rattle.std.specs.Io.KnownBytes.{IsAtEnd}
-use Rattle.iim_dataset.specs.Format.Octets.{greatest_size}
-use Rattle.iim_dataset.specs.Format.Datasets.{Dataset}
+use Rattle.std.specs.Prelude.{◌≡◌, ◌≢◌, ℕ, min, ◌+◌, ◌<◌, ◌≤◌, ◌⊎◌, Bool, if◌then◌else◌, List, ◌++◌, length, codes, decimal, Option}
+use Rattle.std.specs.{Option.unwrap_or, Io.KnownBytes.IsAtEnd}
+use Rattle.iim_dataset.specs.Format.{Octets.greatest_size, Datasets.Dataset}
 use Rattle.iim_dataset.specs.States.Devices.{Device, Wrote, BrokeAfter, HasGiven, MissedAfter}
 pub use Rattle.iim_dataset.specs.declared.device.IoFault.{IoFault}
-use Rattle.iim_object.specs.Format.Objects.{most_in}
-use Rattle.iim_object.specs.declared.size.Size.{Size}
-use Rattle.iim_object.specs.declared.size.Size.TheVariants.{Known, Unknown}
-use Rattle.iim_object.specs.Format.Causes.{pack_number}
-use Rattle.iim_object.specs.States.Writing.{Begins}
+use Rattle.iim_object.specs.{Format.Objects.most_in, Format.Causes.pack_number, States.Writing.Begins}
+use Rattle.iim_object.specs.declared.{size.Size.TheVariants.Known, size.Size.TheVariants.Unknown, plan.Plan.Plan}
 use Rattle.iim_object.specs.declared.writing.cause.PackCause.TheVariants as causes
-use Rattle.iim_object.specs.declared.plan.Plan.{Plan}
 use Rattle.wire_message.specs.Format.Messages.{Header, canonical}
 use Rattle.iim_pack.specs.Format.Packed.{Packed}
 use Rattle.iim_script.specs.Format.Causes.{cause_name, cause_number, IsScriptFault}
-use Rattle.iim_script.specs.declared.fault.ScriptCause.{ScriptCause}
-use Rattle.iim_script.specs.Format.Scripts.{IsScript, max_script}
+use Rattle.iim_script.specs.{declared.fault.ScriptCause.ScriptCause, Format.Scripts.IsScript, Format.Scripts.max_script}
 use Rattle.iim_script.specs.declared.fault.ScriptCause.TheVariants as script
 pub use Rattle.iim_output.specs.declared.fault.CommandFault.{CommandFault}
 pub use Rattle.iim_output.specs.declared.fault.CommandFault.TheVariants.{CannotRead, CannotWrite, OutOfMemory}
-pub use Rattle.iim_pack_script.specs.declared.packing.PackFault.{PackFault}
-pub use Rattle.iim_pack_script.specs.declared.packing.PackFault.TheVariants.{Refused, Around}
+pub use Rattle.iim_pack_script.specs.declared.packing.PackFault.{PackFault, TheVariants.Refused, TheVariants.Around}
 use Rattle.iim_output.specs.States.Devices.{Devices}
 use Rattle.iim_output.specs.Format.{limits, IsSaid, status_accepted, status_refused}
 
@@ -35,26 +28,17 @@ pub record Asked : Type 0 where
 abbrev pub asked : ℕ → Bool → Option ℕ → Asked
 asked subfile unknown max = record { subfile = subfile; unknown = unknown; max = max }
 
--- the size that is said of an object: how many octets it has, or no more than a maximum
--- twins (with most_asked): `packs_great_sizes_in_eight_octets`, `packs_as_it_is_asked`
-abbrev pub said_size : Bool → Option ℕ → List ℕ → Size
-said_size false max object = Known (length object)
-said_size true max object = Unknown max
-
--- the most octets of an object: the maximum of an unknown size, or else the greatest size
-abbrev pub most_asked : Bool → Option ℕ → ℕ
-most_asked true (Some most) = most
-most_asked unknown max = greatest_size
-
--- and no more than the subfiles hold that there may be
+-- the most octets of an object: the maximum of an unknown size, or else the greatest size; and no more than the subfiles hold that there
+-- may be
 -- twin that nothing finds: a script is too short for so long an object. The bound itself: "Plans: the most octets of an object"
 abbrev pub most_for : Asked → ℕ
-most_for a = min (most_asked a.unknown a.max) (most_in a.subfile)
+most_for a = min (if a.unknown then unwrap_or a.max greatest_size else greatest_size) (most_in a.subfile)
 
--- The plan is the one that is asked for, of this object.
+-- The plan is the one that is asked for, of this object: its size is said to be what the maximum says, or how many octets it has.
+-- twins (with most_for): `packs_great_sizes_in_eight_octets`, `packs_as_it_is_asked`
 pub record IsPlanOf (a : Asked) (object : List ℕ) (plan : Plan) : Type 0 where
   pub subfile_is : plan.subfile ≡ a.subfile
-  pub size_is : plan.size ≡ said_size a.unknown a.max object
+  pub size_is : plan.size ≡ (if a.unknown then Unknown a.max else Known (length object))
 
 -- ---- what a script tells
 
@@ -70,7 +54,7 @@ abbrev pub object_of : ScriptContent → List ℕ
 object_of t = canonical t.head t.lines t.trailer
 
 -- The object has more octets than are asked for.
--- twins (with IsPastLine): `tells_what_is_wrong_with_a_script`, `takes_numbers_with_a_plus_and_zeros`
+-- twins (with IsScriptRefusal): `tells_what_is_wrong_with_a_script`, `takes_numbers_with_a_plus_and_zeros`
 abbrev pub IsPast : Asked → ScriptContent → Type 0
 IsPast a t = most_for a < length (object_of t)
 
@@ -90,19 +74,13 @@ abbrev pub refusal_line : ℕ → ℕ → List ℕ → List ℕ
 refusal_line line number name =
     codes "refused: script line " ++ (decimal line ++ (codes " cause " ++ (decimal number ++ (codes " " ++ (name ++ codes "\n")))))
 
--- The octets are no script, and the line tells their first fault.
-abbrev pub IsFaultLine : List ℕ → List ℕ → Type 0
-IsFaultLine octets text = (line : ℕ) × (cause : ScriptCause) × IsScriptFault limits octets line cause × (cause ≢ script.OutOfMemory)
-    × (text ≡ refusal_line line (cause_number cause) (cause_name cause))
-
--- The octets are a script whose object has more octets than are asked for, which is told of the line `text`.
-abbrev pub IsPastLine : Asked → List ℕ → List ℕ → Type 0
-IsPastLine a octets text = (t : ScriptContent) × IsScriptOf octets t × IsPast a t
-    × (text ≡ refusal_line t.text_line (pack_number causes.PastAnnounced) (codes "PastAnnounced"))
-
--- Why the octets are not packed, and the line that tells it.
+-- Why the octets are not packed, and the line that tells it: they are no script, for their first fault; or they are one whose object has
+-- more octets than are asked for, which is told of the line `text`.
 abbrev pub IsScriptRefusal : Asked → List ℕ → List ℕ → Type 0
-IsScriptRefusal a octets text = IsFaultLine octets text ⊎ IsPastLine a octets text
+IsScriptRefusal a octets text = ((line : ℕ) × (cause : ScriptCause) × IsScriptFault limits octets line cause × (cause ≢ script.OutOfMemory)
+    × (text ≡ refusal_line line (cause_number cause) (cause_name cause)))
+    ⊎ ((t : ScriptContent) × IsScriptOf octets t × IsPast a t
+    × (text ≡ refusal_line t.text_line (pack_number causes.PastAnnounced) (codes "PastAnnounced")))
 
 -- ---- the input
 
@@ -148,6 +126,5 @@ Answered a old new status = (octets : List ℕ) × IsRead old.input new.input oc
 
 -- Why there is no answer: the input was not read; or memory was short; or the output broke. Only in the last case anything is written.
 abbrev pub IsUnanswered : Asked → Devices → Devices → CommandFault → Type 0
-IsUnanswered a old new CannotRead = IsUnread old.input new.input CannotRead × (new.output ≡ old.output)
 IsUnanswered a old new CannotWrite = (octets : List ℕ) × IsRead old.input new.input octets × IsBrokenOff a octets old.output new.output
-IsUnanswered a old new OutOfMemory = IsUnread old.input new.input OutOfMemory × (new.output ≡ old.output)
+IsUnanswered a old new fault = IsUnread old.input new.input fault × (new.output ≡ old.output)

@@ -2,16 +2,13 @@
 use Rattle.std.specs.Prelude.{◌≡◌, ℕ, ◌-◌, cond, nat_le, List, ◌∷◌, ◌++◌, length, take, Option, Some, None, ◌≢◌, ◌≤◌, codes}
 use Rattle.std.specs.Io.KnownBytes.{IsAtEnd}
 use Rattle.iim_dataset.specs.States.Devices.{Device, Missed, HasGiven}
-use Rattle.iim_object.specs.Format.Causes.{pack_number}
-use Rattle.iim_script.specs.Format.Scripts.{text_lines}
-use Rattle.iim_script.specs.Format.Causes.{cause_name, cause_number}
+use Rattle.iim_object.specs.{Format.Causes.pack_number, declared.writing.cause.PackCause.PackCause}
+use Rattle.iim_script.specs.Format.{Scripts.text_lines, Causes.cause_name, Causes.cause_number}
+use Rattle.iim_script.specs.declared.{fault.ScriptFault.ScriptFault, script.Script.Script}
 use Rattle.iim_pack_script.specs.Format.{ScriptContent, CommandFault, CannotRead, CannotWrite, OutOfMemory, PackFault, Refused, Around, IoFault}
 use Rattle.iim_pack_script.specs.declared.blocks.BlockTarget.{BlockTarget}
-use Rattle.iim_object.specs.declared.writing.cause.PackCause.{PackCause}
 use Rattle.iim_object.specs.declared.writing.cause.PackCause.TheVariants as causes
-use Rattle.iim_script.specs.declared.fault.ScriptFault.{ScriptFault}
 use Rattle.iim_script.specs.declared.fault.ScriptCause.TheVariants as script
-use Rattle.iim_script.specs.declared.script.Script.{Script}
 
 -- what it took and did not pass on
 abbrev pub held_in : {W : Type 0} → BlockTarget W → List ℕ

@@ -7,7 +7,8 @@ ghost use Rattle.iim_object.specs.declared.writing.cause.PackCause.TheVariants a
 ghost use Rattle.wire_message.specs.Format.Messages.{IsTrailer, canonical};
 ghost use Rattle.wire_story.specs.Format.Texts.{LineEnd, LineOctet, events_of_lines, IsLine, IsText, packed_text};
 ghost use Rattle.wire_story.specs.Format.Packing.{packed_events};
-ghost use Rattle.iim_pack.specs.States.Packing.{BreaksOff, ContinuesWith, Lengthens, least_ending, pack_cause, written_of, IsPackFault, Packs};
+ghost use Rattle.iim_pack.specs.Format.Packed.{Packed};
+ghost use Rattle.iim_pack.specs.States.Packing.{BreaksOff, ContinuesWith, Lengthens, least_ending, pack_cause, written_of, IsStartFault, Packs};
 ghost use Rattle.iim_script.specs.Format.Scripts.{text_lines};
 
 use iim_dataset::Target;
@@ -109,8 +110,8 @@ pub(crate) fn pack_text<W: Target>(
     requires text { IsText text.now (text_lines text.now) }
     requires fits { pack_cause head.now (text_lines text.now) trailer.now plan ≡ None }
     ensures ok { IfOk result (Packs W.state writer envelope.now head.now (text_lines text.now) trailer.now plan) }
-    ensures fault { IfErr result (IsPackFault W.state envelope.now head.now (text_lines text.now) trailer.now plan
-        writer) }
+    ensures fault { IfErr result (IsStartFault W.state
+        (Packed envelope.now head.now (text_lines text.now) trailer.now plan) writer) }
 {
     texts_join();
     lines_are_packed_as_their_events();

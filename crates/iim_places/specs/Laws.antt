@@ -3,16 +3,15 @@ use Rattle.std.specs.Prelude.{◌↔◌, ℕ, List, ◌≡◌, ◌^◌, ◌<◌,
 use Rattle.iim_dataset.specs.Format.Octets.{IsOctet, greatest_u64, greatest_size}
 use Rattle.iim_fields.specs.declared.limits.Limits.{Limits}
 use Rattle.iim_places.specs.Format.Open.{RefusesByTests, RefusesNext, IsOpen, AllCanContinue, Delivers}
-use Rattle.iim_places.specs.declared.fault.TokenFault.{TokenFault}
 use Rattle.iim_places.specs.Format.Streams.{Listed, Divides, InputEnding, IsListing, IsEnvelopeWithin, Kills, Answer, Answers}
-use Rattle.iim_dataset.specs.Format.Datasets.{Dataset, count_octets, Begun, Reads}
 use Rattle.iim_places.specs.Format.Admitted.{Value, Admits, AreWithin, Framed}
-use Rattle.wire_story.specs.Format.Texts as story
 use Rattle.iim_places.specs.States.Possible.{AreOpenOrWhole, widest, AreHeadsWithin, Possible, IsSmallPlace, Scale, first_scale, PossibleAt, IsPossibleIn, PlacesArePossibleByLayers}
 use Rattle.iim_places.specs.States.Restored.{IsTicketAt, octets_told, fields_told, IsRestoreFault}
 use Rattle.iim_places.specs.Format.Tickets.{Place, IsPlaceOf, ticket_in, IsTicketOf, part_number}
-use Rattle.iim_places.specs.declared.ticket.fault.TicketFault.{TicketFault}
 use Rattle.iim_places.specs.Format.TicketForm.{IsVersion, Split, SplitsTicket, HeaderFull, TooManyFields, OutOfMemory}
+use Rattle.iim_places.specs.declared.{fault.TokenFault.TokenFault, ticket.fault.TicketFault.TicketFault}
+use Rattle.iim_dataset.specs.Format.Datasets.{Dataset, count_octets, Begun, Reads}
+use Rattle.wire_story.specs.Format.Texts as story
 use Rattle.wire_message.specs.declared.saved.MessagePlace.{MessagePlace}
 use Rattle.iim_dataset.specs.Laws.{CanonicalStreamsAreSpelled, NoTagBeginsAnother, NoDatasetBeginsAnother, NoOctetsContinue, OctetsAreHandedOnOneWay, EventsTellTheDatasets, WhatAnOctetCompletes}
 use Rattle.iim_fields.specs.Laws.{EnvelopesEndWithTheLastRecord, HeadsDieWithTheirFault, HeadsTellTheLowestCause, NoSectionsBeginOthers, ValuesDieWithTheirFault, ValuesTellTheLowestCause}

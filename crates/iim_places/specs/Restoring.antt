@@ -3,12 +3,10 @@ use Rattle.std.specs.Prelude.{◌≡◌, ℕ, ◌^◌, ◌<◌, List, ◌++◌, 
 use Rattle.std.specs.List.{AllByRecursion, flat_map}
 use Rattle.iim_dataset.specs.Format.Datasets.{Dataset}
 use Rattle.iim_places.specs.Format.Tickets.{field_octets, Place, Phase, part_number}
-use Rattle.iim_places.specs.Format.TicketForm.{IsLongField, Split}
-use Rattle.iim_fields.specs.Format.Causes.{kept, kept_octets, is_kept}
-use Rattle.iim_fields.specs.Format.Records.{IsWithin, SectionsLive}
 use Rattle.iim_places.specs.States.Possible.{LeadsByLayers, begun_count, begun_fields, Numbers, plain}
-use Rattle.iim_places.specs.Laws.{split_of, texts_of}
-use Rattle.iim_fields.specs.declared.limits.Limits.{Limits}
+use Rattle.iim_places.specs.{Format.TicketForm.IsLongField, Format.TicketForm.Split, Laws.split_of, Laws.texts_of}
+use Rattle.iim_fields.specs.Format.Causes.{kept, kept_octets, is_kept}
+use Rattle.iim_fields.specs.{Format.Records.IsWithin, Format.Records.SectionsLive, declared.limits.Limits.Limits}
 use Rattle.wire_message.specs.declared.saved.MessagePlace.{MessagePlace}
 
 -- a number that four octets tell

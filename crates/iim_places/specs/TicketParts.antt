@@ -1,14 +1,12 @@
 -- The parts of a ticket, one by one, and that octets hold one list of datasets.
 use Rattle.std.specs.Prelude.{◌≡◌, ℕ, List, ◌∷◌, ◌++◌, Option}
-use Rattle.std.specs.List.{AllByRecursion, flat_map}
+use Rattle.std.specs.{List.AllByRecursion, List.flat_map, Int.w32, Int.from_be_bytes}
 use Rattle.std.proofs.Common.{◌<◌, ◌^◌, [], length, refl, ap, sym, ◌∙◌, arith}
 use Rattle.std.proofs.Props.{props}
-use Rattle.std.specs.Int.{w32, from_be_bytes}
 use Rattle.std.proofs.lemmas.Nat.{from_be_bytes-to_be_bytes_4}
-use Rattle.iim_dataset.specs.Format.Datasets.{Dataset}
+use Rattle.iim_dataset.specs.{Format.Datasets.Dataset, Steps.same_front}
 use Rattle.iim_places.specs.Format.Tickets.{field_octets, DataBegun, four, wide, phase_octets, fields_octets, number_octets, text_octets, present_version}
 use Rattle.iim_places.specs.Format.TicketForm.{IsLongField, AreTexts, IsSizeIn, AreNumbersIn, Split, IsPhase, HasForm}
-use Rattle.iim_dataset.specs.Steps.{same_front}
 use mathlib.Core.HLevel.{Σ_prop_path}
 
 -- Octets hold some datasets, and nothing else.

@@ -22,8 +22,8 @@ use Rattle.iim_request.specs.declared.request.Verb.{Verb}
 use Rattle.iim_request.specs.declared.request.Verb.TheVariants.{Check, Show, Story, Pack, Audit}
 use Rattle.iim_request.specs.declared.request.UsageFault.{UsageFault}
 use Rattle.iim_request.specs.declared.request.UsageFault.TheVariants as usage
-use Rattle.iim_request.specs.Format.{GivesNumber, IsFaultOf, IsFlag, IsInstant, IsNoInstant, IsSubfile, NamesCommand, TellsPacking, program, text_given}
-use Rattle.iim_request.specs.Verbs.{IsFoundOf, IsJobFault, verb_name}
+use Rattle.iim_request.specs.Format.{GivesNumber, IsFaultOf, IsFlag, IsInstant, IsJobFault, IsSubfile, NamesCommand, TellsPacking, program, text_given}
+use Rattle.iim_request.specs.Verbs.{IsFoundOf, verb_name}
 
 program_simple : is_simple program ≡ true
 unfolding clap_on_literals
@@ -160,8 +160,8 @@ were_found words a m is none rows =
 -- ---- what a command's options tell
 
 pub none_of : (f : Found) (given : Option (Bor Text)) → given ≡ None → option_map (λ s. s.now) given ≡ first_value f (codes "now")
-    → IsNoInstant (first_of (codes "now") (rows_of f))
-none_of f given none is = rw (← first_value-rows f (codes "now"), ← is, none) tt
+    → (now : ℤ) → IsInstant (first_of (codes "now") (rows_of f)) now → ⊥
+none_of f given none is now = rw (← first_value-rows f (codes "now"), ← is, none) (λ told. told)
 
 pub instant_of : (f : Found) (given : Option (Bor Text)) (text : Bor Text) (now same : ℤ) → given ≡ Some text
     → option_map (λ s. s.now) given ≡ first_value f (codes "now") → Ok now ≡ parse_timestamp text.now → same ≡ now
@@ -170,8 +170,8 @@ instant_of f given text now same some is parsed e = rw (← first_value-rows f (
 
 pub no_instant_of : (f : Found) (given : Option (Bor Text)) (text : Bor Text) (error : InstantError) → given ≡ Some text
     → option_map (λ s. s.now) given ≡ first_value f (codes "now") → Err error ≡ parse_timestamp text.now
-    → IsNoInstant (first_of (codes "now") (rows_of f))
-no_instant_of f given text error some is parsed = rw (← first_value-rows f (codes "now"), ← is, some) (error, sym parsed)
+    → (now : ℤ) → IsInstant (first_of (codes "now") (rows_of f)) now → ⊥
+no_instant_of f given text error some is parsed now = rw (← first_value-rows f (codes "now"), ← is, some) (λ told. cc)
 
 flag : (o : Option Text) (u : Bool) → (o ≡ None → u ≡ false) → (o ≡ Some (codes "true") → u ≡ true) → (o ≡ Some (codes "false") → u ≡ false) → IsFlag o u
 flag None u none value other = none refl
@@ -193,5 +193,5 @@ pub fault_of_job : (words : List Text) (verb : Verb) (name : Text) (rows : List 
     → IsJobFault (verb_name verb) rows fault → IsFaultOf words fault
 fault_of_job words verb name rows (usage.Words error) names is h = absurd h
 fault_of_job words verb name rows usage.MaxNeedsUnknown names is h = (name, rows, names, (is ∙ h.0, h.1))
-fault_of_job words verb name rows usage.BadNow names is h = (name, rows, names, is ∙ h.0, h.1)
+fault_of_job words verb name rows usage.BadNow names is h = (name, rows, names, (is ∙ h.0, h.1))
 fault_of_job words verb name rows usage.OutOfMemory names is h = absurd h

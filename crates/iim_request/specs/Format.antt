@@ -1,21 +1,16 @@
 -- What the words of a command line ask for, by the rules of clap.
-use Rattle.std.specs.Prelude.{◌≡◌, ℕ, ℤ, ⊤, List, [], Option, None, Some, IsSome, Bool, true, false, Ok, Err, codes, option_map, ◌==◌, ◌&&◌, ◌||◌, nat_le, if◌then◌else◌, slice_index, ◌∷◌, ◌++◌}
-use Rattle.std.specs.Borrow.{Bor}
-use Rattle.std.specs.Option.{unwrap_or}
+use Rattle.std.specs.Prelude.{◌≡◌, ℕ, ℤ, ⊤, List, [], Option, None, Some, IsSome, Bool, true, false, Ok, codes, option_map, ◌==◌, ◌&&◌, ◌||◌, nat_le, if◌then◌else◌, slice_index, ◌∷◌, ◌++◌}
+use Rattle.std.specs.{Borrow.Bor, Option.unwrap_or, Char.is_ascii_control}
 use Rattle.std.specs.Str.Parse.{digits_value, without_leading_plus}
-use Rattle.clap.specs.Values.{IsUnsignedIn}
+use Rattle.clap.specs.{Values.IsUnsignedIn, declared.builder.action.ArgAction.TheVariants.SetTrue}
+use Rattle.clap.specs.{declared.builder.value_parser.ValueParser.TheVariants.Unsigned}
 use Rattle.clap.specs.Words.{App, Row, Rule, Text, fault_of, first_of, kind_of, new_app, new_rule, one_of, subcommand_of, with_rule, with_subcommand, IsAmong}
-use Rattle.clap.specs.declared.builder.action.ArgAction.TheVariants.{SetTrue}
-use Rattle.clap.specs.declared.builder.value_parser.ValueParser.TheVariants.{Unsigned}
-use Rattle.iim_dataset.specs.Format.Octets.{greatest_size, backslash}
-use Rattle.jiff.specs.Words.{parse_timestamp, Error as InstantError}
-use Rattle.iim_request.specs.declared.request.Job.{Job}
+use Rattle.iim_dataset.specs.Format.{Octets.greatest_size, Octets.backslash, Datasets.escape}
+use Rattle.jiff.specs.Words.{parse_timestamp}
+use Rattle.iim_request.specs.declared.request.{Job.Job, Request.Request}
 use Rattle.iim_request.specs.declared.request.Job.TheVariants.{Check, Show, Story, Pack, Audit}
-use Rattle.iim_request.specs.declared.request.Request.{Request}
 pub use Rattle.iim_request.specs.declared.request.UsageFault.{UsageFault}
 pub use Rattle.iim_request.specs.declared.request.UsageFault.TheVariants.{Words, MaxNeedsUnknown, BadNow, OutOfMemory}
-use Rattle.std.specs.Char.{is_ascii_control}
-use Rattle.iim_dataset.specs.Format.Datasets.{escape}
 
 -- ---- the program's commands, as clap is told of them
 
@@ -88,11 +83,6 @@ abbrev pub IsInstant : Option Text → ℤ → Type 0
 IsInstant None now = ⊥
 IsInstant (Some text) now = parse_timestamp text ≡ Ok now
 
--- There is no such text, or it is no instant.
-abbrev pub IsNoInstant : Option Text → Type 0
-IsNoInstant None = ⊤
-IsNoInstant (Some text) = (error : InstantError) × (parse_timestamp text ≡ Err error)
-
 -- ---- what the words ask for
 
 -- what --subfile, --unknown and --max come to
@@ -120,17 +110,18 @@ abbrev pub AsksFor : List Text → Request → Type 0
 AsksFor words request = (name : Text) × (rows : List Row) × NamesCommand words name rows × AsksJob name rows request.job
     × (text_given request.file ≡ first_of (codes "FILE") rows)
 
--- A maximum is given of a known size.
+-- The command with this name, and the values of its arguments, have the fault: a maximum of a known size, or no instant.
 -- twins (with IsFaultOf): `refuses_words_of_pack_and_audit`, `tells_what_words_ask_wrongly`
-abbrev pub IsMaxAlone : Text → List Row → Type 0
-IsMaxAlone name rows = (name ≡ codes "pack") × ((subfile : ℕ) × (max : Option ℕ) × TellsPacking rows subfile false max × IsSome max)
+abbrev pub IsJobFault : Text → List Row → UsageFault → Type 0
+IsJobFault name rows MaxNeedsUnknown = (name ≡ codes "pack") × ((subfile : ℕ) × (max : Option ℕ) × TellsPacking rows subfile false max × IsSome max)
+IsJobFault name rows BadNow = (name ≡ codes "audit") × ((now : ℤ) → IsInstant (first_of (codes "now") rows) now → ⊥)
+IsJobFault name rows _ = ⊥
 
 -- The fault is one of those that clap finds in the words, or that their command has. Memory may always be short.
 abbrev pub IsFaultOf : List Text → UsageFault → Type 0
 IsFaultOf words (Words error) = IsAmong (kind_of error) (fault_of program words)
-IsFaultOf words MaxNeedsUnknown = (name : Text) × (rows : List Row) × NamesCommand words name rows × IsMaxAlone name rows
-IsFaultOf words BadNow = (name : Text) × (rows : List Row) × NamesCommand words name rows × (name ≡ codes "audit") × IsNoInstant (first_of (codes "now") rows)
 IsFaultOf words OutOfMemory = ⊤
+IsFaultOf words fault = (name : Text) × (rows : List Row) × NamesCommand words name rows × IsJobFault name rows fault
 
 -- ---- Names, and words of a command line, as text that can be printed.
 

@@ -1,12 +1,11 @@
 -- The names of the commands.
 use Rattle.std.specs.Prelude.{◌≡◌, IfOk, Result, false, List, [], codes}
-use Rattle.clap.specs.Words.{kind_of, App, app_of, Row, Text, fault_of, first_of, subcommand_of, subcommand_rows_of}
-use Rattle.clap.specs.declared.error.Error.{Error}
+use Rattle.clap.specs.Words.{kind_of, App, app_of, Text, fault_of, subcommand_of, subcommand_rows_of}
+use Rattle.clap.specs.declared.{error.Error.Error, builder.command.Command.Command}
+use Rattle.clap.specs.declared.{builder.command.Command.TheViews.out-Command as fields_of}
+use Rattle.clap.specs.declared.{parser.matches.ArgMatches.ArgMatches}
 use Rattle.clap.specs.declared.error.kind.ErrorKind.TheVariants as kind
-use Rattle.clap.specs.declared.builder.command.Command.{Command}
-use Rattle.clap.specs.declared.builder.command.Command.TheViews.{out-Command as fields_of}
-use Rattle.clap.specs.declared.parser.matches.ArgMatches.{ArgMatches}
-use Rattle.iim_request.specs.Format.{IsMaxAlone, IsNoInstant, program, UsageFault, Words, MaxNeedsUnknown, BadNow, OutOfMemory}
+use Rattle.iim_request.specs.Format.{program, UsageFault, Words, OutOfMemory}
 use Rattle.iim_request.specs.declared.request.Verb.{Verb}
 use Rattle.iim_request.specs.declared.request.Verb.TheVariants as verbs
 
@@ -26,12 +25,6 @@ verb_name verbs.Show = codes "show"
 verb_name verbs.Story = codes "story"
 verb_name verbs.Pack = codes "pack"
 verb_name verbs.Audit = codes "audit"
-
--- The fault that the values of a command's arguments have.
-abbrev pub IsJobFault : Text → List Row → UsageFault → Type 0
-IsJobFault name rows MaxNeedsUnknown = IsMaxAlone name rows
-IsJobFault name rows BadNow = (name ≡ codes "audit") × IsNoInstant (first_of (codes "now") rows)
-IsJobFault name rows _ = ⊥
 
 -- The words have no fault, and clap found their command.
 pub record IsFoundOf (words : List Text) (matches : ArgMatches) : Type 0 where

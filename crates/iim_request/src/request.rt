@@ -80,8 +80,8 @@ impl From<Error> for UsageFault {
 }
 
 ghost use Rattle.iim_request.specs.declared.request.Verb.{Verb as VerbValue};
-ghost use Rattle.iim_request.specs.Format.{AsksFor, AsksJob, GivesNumber, IsFaultOf, IsSubfile, text_given};
-ghost use Rattle.iim_request.specs.Verbs.{verb_name, IsFoundOf, IsJobFault};
+ghost use Rattle.iim_request.specs.Format.{AsksFor, AsksJob, GivesNumber, IsFaultOf, IsJobFault, IsSubfile, text_given};
+ghost use Rattle.iim_request.specs.Verbs.{verb_name, IsFoundOf};
 
 /// A command's name.
 #[derive(Clone, Copy, Debug, PartialEq, Eq)]

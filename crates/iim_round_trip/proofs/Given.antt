@@ -4,14 +4,15 @@ use Rattle.std.specs.Prelude.{Ok, Err}
 use Rattle.iim_fields.specs.declared.limits.Limits.{Limits}
 use Rattle.iim_places.specs.Format.Admitted.{Value}
 use Rattle.iim_unpack.specs.States.Unpacking as parts
+use Rattle.iim_dataset.specs.Format.Octets.{Rose}
 use Rattle.iim_unpack.specs.Format.Pieces as pieces
-use Rattle.iim_places.specs.Format.Streams.{Answer, Answers, Finished, Truncated}
+use Rattle.iim_places.specs.Format.Streams.{Answer, Answers, Finished}
 use Rattle.iim_places.specs.declared.refusal.Cause.{Cause}
 use Rattle.iim_places.specs.declared.refusal.Cause.TheVariants as causes
 use Rattle.wire_message.specs.declared.fault.MessageCause.TheVariants as messages
 use Rattle.iim_places.specs.declared.refusal.Refusal.{Refusal}
 use Rattle.iim_unpack.specs.declared.unpacker.Unpacked.{Unpacked}
-use Rattle.iim_round_trip.specs.Format.RoundTrip.{packed_value, GivesBack, FailsOutside, CountsCause, IsAnswer, IsTurnedDown}
+use Rattle.iim_round_trip.specs.Format.RoundTrip.{packed_value, GivesBack, BeginsPacked, IsTurnedDown}
 use Rattle.iim_round_trip.specs.Laws.{packed_answer, PackedStreamsHaveTheirAnswer}
 use Rattle.iim_round_trip.specs.declared.unpacking.UnpackFault.TheVariants.{Refused, OutOfMemory}
 use Rattle.wire_story.specs.States.Reading.{Collected, collect}
@@ -19,8 +20,7 @@ use Rattle.wire_story.specs.Format.Texts.{StoryEvent, events_of_lines, IsText}
 use Rattle.wire_story.specs.Laws.{TextsAreDeliveredAsLines, TextsAreCollectedAsLines}
 use Rattle.iim_unpack.specs.Format.Pieces.{IsUnpacked}
 use Rattle.iim_places.specs.Laws.{StreamsHaveOneAnswer}
-use Rattle.iim_places.specs.Format.Streams as answers
-use Rattle.iim_round_trip.specs.Format.Stories.{ComesBack, IsStoryIn, IsStoryAnswer, HasNoStory}
+use Rattle.iim_round_trip.specs.Format.Stories.{ComesBack, IsStoryIn, IsStoryAnswer, untold}
 use Rattle.iim_round_trip.specs.declared.unpacking.Story.{Story}
 use Rattle.iim_round_trip.specs.declared.unpacking.UnpackFault.{UnpackFault}
 
@@ -30,29 +30,30 @@ sink_or_not (causes.Message messages.Sink) = inl refl
 sink_or_not _ = inr (λ e. cc)
 
 -- what a count says by the cause, as two facts
-pub counts : (c : Cause) (old new : ℕ) → parts.CountsFor c old new → CountsCause c old new
-counts (causes.Message messages.Sink) old new h = record { stopped = λ e. h; others = λ other. absurd (other refl) }
-counts _ old new h = record { stopped = λ e. absurd cc; others = λ other. h }
+pub counts : (c : Cause) (old new : ℕ) → parts.CountsFor c old new
+    → (c ≡ causes.Message messages.Sink → Rose old new) × (c ≢ causes.Message messages.Sink → new ≡ old)
+counts (causes.Message messages.Sink) old new h = (λ e. h, λ other. absurd (other refl))
+counts _ old new h = (λ e. absurd cc, λ other. h)
 
 -- What is said of the limits of an unpacker is said of those that it was made with.
 pub given : {S : Type 0} (goes : S → List StoryEvent → S → Type 0) (found limits : Limits) (stream : List ℕ) (a b : S) (got : Unpacked) (used : ℕ) → found ≡ limits
     → PackedStreamsHaveTheirAnswer → ((answer : Answer) → Answers found stream answer → pieces.IsAnswer (Ok (got, used)) answer)
     → IsUnpacked goes found stream a b got used → GivesBack goes limits stream a b got used
-given goes found limits stream a b got used same law only unpacked fields head lines trailer plan p =
-    let value = packed_value fields head lines trailer plan p.packed.written.parts in
-    let one = law limits stream fields head lines trailer plan p in
+given goes found limits stream a b got used same law only unpacked p =
+    let value = packed_value p.fields p.head p.lines p.trailer p.plan p.packed.written.parts in
+    let one = law limits stream p in
     let u = rw same at unpacked in
-    let answer = only (packed_answer p) (rw same one.answers) in
-    let same_value : Finished used u.value ≡ Finished (length p.octets) value = one.only (Finished used u.value) u.finished in
+    let answer = only (packed_answer p) (rw same one.0) in
+    let same_value : Finished used u.value ≡ Finished (length p.octets) value = one.1 (Finished used u.value) u.finished in
     let is : u.value ≡ value = cc in
-    record { used_is = answer.1; parts = answer.0; told = subst (λ (v : Value). goes a (events_of_lines v.lines) b) is u.told }
+    (answer.1, answer.0, subst (λ (v : Value). goes a (events_of_lines v.lines) b) is u.told)
 
 pub fails : (found limits : Limits) (stream : List ℕ) (e : Refusal) → found ≡ limits → PackedStreamsHaveTheirAnswer
     → ((answer : Answer) → Answers found stream answer → e.cause ≢ causes.Message messages.Sink → pieces.IsAnswer (Err e) answer)
-    → FailsOutside limits stream (Refused e)
-fails found limits stream e same law only fields head lines trailer plan p = elim (sink_or_not e.cause) [
+    → BeginsPacked limits stream → e.cause ≡ causes.Message messages.Sink
+fails found limits stream e same law only p = elim (sink_or_not e.cause) [
   | inl is ↦ is
-  | inr other ↦ absurd (only (packed_answer p) (rw same (law limits stream fields head lines trailer plan p).answers) other)
+  | inr other ↦ absurd (only (packed_answer p) (rw same (law limits stream p).0) other)
 ]
 
 -- ---- a story that is collected
@@ -68,13 +69,10 @@ collected deliver gather text lines before after is empty told = rw (told, empty
 
 pub comes : TextsAreDeliveredAsLines → TextsAreCollectedAsLines → (limits : Limits) (stream : List ℕ) (old : Collected) (got : Story) → old.lines ≡ [] ∷ []
     → GivesBack gathers limits stream old got.lines got.unpacked got.used → ComesBack limits stream got
-comes deliver gather limits stream old got empty given fields head lines trailer plan p =
-    let g = given fields head lines trailer plan p in
-    record {
-      used_is = g.used_is;
-      parts = g.parts;
-      lines_are = collected deliver gather p.packed.may.text lines old.lines got.lines.lines p.packed.may.lined empty g.told;
-    }
+comes deliver gather limits stream old got empty given p =
+    let (used, parts, told) = given p in
+    let lines = collected deliver gather p.packed.may.text p.lines old.lines got.lines.lines p.packed.may.lined empty told in
+    record { used_is = used; parts = parts; lines_are = lines }
 
 pub story_in : TextsAreDeliveredAsLines → TextsAreCollectedAsLines → (limits : Limits) (stream : List ℕ) (old : Collected) (got : Story) → old.lines ≡ [] ∷ []
     → IsUnpacked gathers limits stream old got.lines got.unpacked got.used → IsStoryIn limits stream got
@@ -95,13 +93,8 @@ pub one_story : StreamsHaveOneAnswer → (limits : Limits) (stream : List ℕ) (
 one_story one limits stream got is answer h =
     rw (← one limits stream (Finished got.used is.value) answer is.finished h) is.story
 
-pub no_story : (limits : Limits) (stream : List ℕ) (old new : Collected) (fault : UnpackFault) → IsTurnedDown gathers limits stream old new fault → HasNoStory limits stream fault
-no_story limits stream old new OutOfMemory h = tt
+pub no_story : (limits : Limits) (stream : List ℕ) (old new : Collected) (fault : UnpackFault) → IsTurnedDown gathers limits stream old new fault
+    → IsTurnedDown untold limits stream tt tt fault
+no_story limits stream old new OutOfMemory h = refl
 no_story limits stream old new (Refused e) (inl (refused, told)) = inl (refused, (told.0, tt, told.2))
 no_story limits stream old new (Refused e) (inr (short, told)) = inr (short, (told.0, tt, told.2))
-
-pub same_fault : (fault : UnpackFault) (answer : Answer) → IsAnswer (Err fault) answer → IsStoryAnswer (Err fault) answer
-same_fault OutOfMemory answer h = absurd h
-same_fault (Refused e) (Finished used value) h = absurd h
-same_fault (Refused e) (answers.Refused f) h = h
-same_fault (Refused e) (Truncated f) h = h

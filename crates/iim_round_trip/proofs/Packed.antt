@@ -60,10 +60,10 @@ within admits few limits fields head lines trailer plan octets p fits =
     record { admits = a; within = record { kept = rw a.fields fits; subfiles = rw a.sizes.subfiles (few fields head lines trailer plan octets p) } }
 
 pub answered : PackedOctetsAreWithin → StreamsHaveOneAnswer → PackedStreamsHaveTheirAnswer
-answered envelopes one limits stream fields head lines trailer plan b =
-    let front : take (length b.octets) stream ≡ b.octets = rw b.parts (take-append_seam b.octets b.rest) in
-    let answers : Answers limits stream (packed_answer b) = record {
-      fits = omega (arith, ap length b.parts, length-append b.octets b.rest);
-      envelope = rw front (envelopes limits fields head lines trailer plan b.octets b.packed b.within);
+answered envelopes one limits stream p =
+    let front : take (length p.octets) stream ≡ p.octets = rw p.parts (take-append_seam p.octets p.rest) in
+    let answers : Answers limits stream (packed_answer p) = record {
+      fits = omega (arith, ap length p.parts, length-append p.octets p.rest);
+      envelope = rw front (envelopes limits p.fields p.head p.lines p.trailer p.plan p.octets p.packed p.within);
     } in
-    record { answers = answers; only = λ other h. one limits stream other (packed_answer b) h answers }
+    (answers, λ other h. one limits stream other (packed_answer p) h answers)

@@ -22,16 +22,10 @@ PackedOctetsAreWithin = (limits : Limits) (fields : List Dataset) (head : Header
     → IsEnvelopeWithin limits octets (packed_value fields head lines trailer plan p.written.parts)
 
 -- the answer to such a stream: an envelope of just the packed octets, with the value that was packed
-abbrev pub packed_answer : {limits : Limits} → {stream : List ℕ} → {fields : List Dataset} → {head : Header} → {lines : List (List ℕ)} → {trailer : List ℕ} → {plan : Plan}
-    → BeginsPacked limits stream fields head lines trailer plan → Answer
-packed_answer {limits} {stream} {fields} {head} {lines} {trailer} {plan} b =
-    Finished (length b.octets) (packed_value fields head lines trailer plan b.packed.written.parts)
+abbrev pub packed_answer : {limits : Limits} → {stream : List ℕ} → BeginsPacked limits stream → Answer
+packed_answer p = Finished (length p.octets) (packed_value p.fields p.head p.lines p.trailer p.plan p.packed.written.parts)
 
 -- A stream that begins with what was packed has this answer, and no other.
-pub record IsAnsweredSo (limits : Limits) (stream : List ℕ) (answer : Answer) : Type 0 where
-  pub answers : Answers limits stream answer
-  pub only : (other : Answer) → Answers limits stream other → other ≡ answer
-
 abbrev pub PackedStreamsHaveTheirAnswer : Type 0
-PackedStreamsHaveTheirAnswer = (limits : Limits) (stream : List ℕ) (fields : List Dataset) (head : Header) (lines : List (List ℕ)) (trailer : List ℕ) (plan : Plan)
-    → (b : BeginsPacked limits stream fields head lines trailer plan) → IsAnsweredSo limits stream (packed_answer b)
+PackedStreamsHaveTheirAnswer = (limits : Limits) (stream : List ℕ) (p : BeginsPacked limits stream)
+    → Answers limits stream (packed_answer p) × ((other : Answer) → Answers limits stream other → other ≡ packed_answer p)

@@ -3,8 +3,8 @@
 ghost use Rattle.std.specs.Prelude.{◌≡◌, IfOk, IfErr, OnOk};
 ghost use Rattle.iim_unpack.specs.Format.Pieces.{IsUnpacked, stream_of};
 ghost use Rattle.iim_places.specs.Format.Streams.{Answer, Answers};
-ghost use Rattle.iim_round_trip.specs.Format.RoundTrip.{GivesBack, IsOutside, FailsOutside, IsAnswer, IsTurnedDown, CountsFor};
-ghost use Rattle.iim_round_trip.specs.Format.Stories.{ComesBack, IsStoryIn, IsStoryAnswer, HasNoStory};
+ghost use Rattle.iim_round_trip.specs.Format.RoundTrip.{GivesBack, BeginsPacked, IsOutside, IsAnswer, IsTurnedDown, CountsFor};
+ghost use Rattle.iim_round_trip.specs.Format.Stories.{ComesBack, IsStoryIn, IsStoryAnswer, untold};
 
 use crate::laws::packed_streams_have_their_answer;
 use iim_fields::Limits;
@@ -41,7 +41,7 @@ pub fn unpack_packed<S: StorySink>(
     // What was packed comes back.
     ensures given_back { IfOk result (λ got.
         GivesBack S.goes limits (stream_of pieces.now) sink.old sink.new got.0 got.1) }
-    ensures refused { IfErr result (FailsOutside limits (stream_of pieces.now)) }
+    ensures refused { BeginsPacked limits (stream_of pieces.now) → IfErr result IsOutside }
 
     // Any stream has its answer.
     ensures finished { IfOk result (λ got.
@@ -83,11 +83,11 @@ pub struct Story {
 pub fn unpack_story(alloc: Global, limits: Limits, pieces: &[&[u8]]) -> Result<Story, UnpackFault>
     // What was packed comes back.
     ensures story { IfOk result (ComesBack limits (stream_of pieces.now)) }
-    ensures fault { IfErr result (FailsOutside limits (stream_of pieces.now)) }
+    ensures fault { BeginsPacked limits (stream_of pieces.now) → IfErr result IsOutside }
 
     // Any stream has its answer.
     ensures finished { IfOk result (IsStoryIn limits (stream_of pieces.now)) }
-    ensures turned_down { IfErr result (HasNoStory limits (stream_of pieces.now)) }
+    ensures turned_down { IfErr result (IsTurnedDown untold limits (stream_of pieces.now) tt tt) }
     ensures only { (answer : Answer) → Answers limits (stream_of pieces.now) answer
         → IfErr result (λ fault. IsOutside fault → ⊥) → IsStoryAnswer result answer }
 {

@@ -1,5 +1,5 @@
 -- What stands before the first of an octet, and after it.
-use Rattle.iim_script.proofs.Words.{◌≡◌, inl, inr, ℕ, zero, suc, ◌+◌, ◌-◌, ◌<◌, ◌==◌, Bool, true, false, not, cond, List, [], ◌∷◌, ◌++◌, append_assoc, length, length-append, take, drop, get_or, refl, ap, sym, ◌∙◌, subst, arith, position_or_len, list_all, one-add, eq-eqb, eqb-true, false≢true, and_parts, false_from_ne_true, take_rest, all_append, HasNo, NextLine}
+use Rattle.iim_script.proofs.Words.{◌≡◌, inr, ℕ, zero, suc, ◌+◌, ◌-◌, ◌<◌, ◌==◌, Bool, true, false, not, cond, List, [], ◌∷◌, ◌++◌, length, length-append, take, drop, get_or, refl, ap, sym, ◌∙◌, arith, position_or_len, list_all, one-add, eq-eqb, eqb-true, false≢true, and_parts, false_from_ne_true, take_rest, all_append, HasNo, NextLine}
 use Rattle.std.proofs.lemmas.List.Sums.{split_at_first, passes_at_first}
 use Rattle.std.proofs.Math.Seq.{take-length}
 

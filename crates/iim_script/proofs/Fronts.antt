@@ -1,12 +1,12 @@
 -- What stands before the story, line by line.
-use Rattle.iim_script.proofs.Words.{◌≡◌, ◌⊎◌, inl, inr, ℕ, ◌+◌, ◌≤◌, true, false, List, [], ◌∷◌, ◌++◌, append_assoc, length, length-append, get_or, refl, ap, sym, ◌∙◌, subst, arith, None, list_all, false≢true, and_parts, Dataset, Building, add_fault, finish_fault, Limits, Header, HasNo, NextLine, TellsField, TellsHead, TellsTrailer, text_word, is_digit, AreFieldLines, AreTrailer, IsFront, max_script, Stage, InFields, AfterMessage, AfterTrailer, HaveCome, Stands, TellsNone, IsNextWrong, IsFrontFault, IsScriptFault, ScriptLine, Field, BadTrailer, OutOfMemory, ScriptCause}
+use Rattle.iim_script.proofs.Words.{◌≡◌, ◌⊎◌, inl, inr, ℕ, ◌+◌, ◌≤◌, true, false, List, [], ◌∷◌, ◌++◌, append_assoc, length, length-append, get_or, refl, ap, sym, ◌∙◌, subst, arith, None, list_all, false≢true, and_parts, Dataset, Building, add_fault, finish_fault, Limits, Header, HasNo, NextLine, TellsField, TellsHead, TellsTrailer, text_word, is_digit, AreFieldLines, AreTrailer, IsFront, max_script, Stage, InFields, AfterMessage, AfterTrailer, HaveCome, Stands, TellsNone, IsNextWrong, IsScriptFault, ScriptLine, Field, BadTrailer, OutOfMemory, ScriptCause}
 use Rattle.std.proofs.Common.{append-nil}
 use Rattle.wire_message.specs.Format.Messages.{IsTrailer}
 use Rattle.iim_fields.specs.declared.fault.FieldCause.{FieldCause}
 use Rattle.iim_script.specs.declared.fault.ScriptFault.{ScriptFault}
 use Rattle.iim_script.specs.Format.Causes.{EndsTooSoon, IsWrong, ScriptTooLong, BadTextOctet}
 use Rattle.iim_script.specs.Steps.{number_after, NextMustBe, Refuses}
-use Rattle.iim_script.proofs.Next.{lines_more, lines_front, count_more, next_once, no_next}
+use Rattle.iim_script.proofs.Next.{lines_more, count_more, next_once, no_next}
 
 field_more : (limits : Limits) (before : List Dataset) (lines : List (List ℕ)) (ds : List Dataset) (line : List ℕ) (d : Dataset)
     → AreFieldLines limits before lines ds → TellsField line d → add_fault limits (before ++ ds) d ≡ None → AreFieldLines limits before (lines ++ line ∷ []) (ds ++ d ∷ [])
@@ -49,34 +49,25 @@ past_trailer {limits} {script} {rest} {after} {ds} {head} {trailer} {count} {mor
 past_trailer s (inr (none, empty, same, e)) = inl (rw (same, e) s, rw same none, empty)
 
 -- what stands before the story, once the line `text` has come
-abbrev pub FrontAnd : Limits → List ℕ → List Dataset → Header → List ℕ → List ℕ → ℕ → Type 0
-FrontAnd limits script ds head trailer story number = (octets : List ℕ) × (script ≡ octets ++ story) × IsFront limits octets ds head trailer number
-
 front_with : {limits : Limits} {script rest after : List ℕ} {ds : List Dataset} {head : Header} {trailer : List ℕ} {stage : Stage} {count more : ℕ}
     → (fields : List (List ℕ)) (message : List ℕ) (trailers : List (List ℕ)) (s : Stands limits script stage rest count)
     → s.lines ≡ fields ++ message ∷ trailers → AreFieldLines limits [] fields ds → TellsHead message head → AreTrailer trailers trailer
-    → NextLine rest text_word after → finish_fault ds ≡ None → more ≡ count + 1 → FrontAnd limits script ds head trailer after more
-front_with {script = script} {after = after} fields message trailers s lines_are are_fields is_head is_trailer n whole e =
-    let all = rw (lines_are, append_assoc) at (lines_more script s.lines s.lined n) in
-    let (front, parts, lined) = lines_front script after (fields ++ (message ∷ trailers ++ text_word ∷ [])) all in (
-      front,
-      parts,
-      record {
-        field_lines = fields;
-        message = message;
-        trailers = trailers;
-        lined = lined;
-        are_fields = are_fields;
-        whole = whole;
-        is_head = is_head;
-        is_trailer = is_trailer;
-        text_line_is = omega (arith, e, s.count_is, ap length lines_are, length-append fields (message ∷ trailers));
-      },
-    )
+    → NextLine rest text_word after → finish_fault ds ≡ None → more ≡ count + 1 → IsFront limits script ds head trailer more after
+front_with {script = script} fields message trailers s lines_are are_fields is_head is_trailer n whole e = record {
+  field_lines = fields;
+  message = message;
+  trailers = trailers;
+  lined = rw (lines_are, append_assoc) at (lines_more script s.lines s.lined n);
+  are_fields = are_fields;
+  whole = whole;
+  is_head = is_head;
+  is_trailer = is_trailer;
+  text_line_is = omega (arith, e, s.count_is, ap length lines_are, length-append fields (message ∷ trailers));
+}
 
 pub is_front : {limits : Limits} {script rest after : List ℕ} {ds : List Dataset} {head : Header} {trailer : List ℕ} {count more : ℕ}
     → Past limits script ds head trailer rest count → NextLine rest text_word after → finish_fault ds ≡ None → more ≡ count + 1
-    → FrontAnd limits script ds head trailer after more
+    → IsFront limits script ds head trailer more after
 is_front (inl (s, none, empty)) n whole e = let c = s.come in front_with c.0 c.1 [] s c.4 c.2 c.3 empty n whole e
 is_front (inr s) n whole e = let c = s.come in front_with c.0 c.1 (c.2 ∷ []) s c.7 c.3 c.4 (c.5, c.6) n whole e
 
@@ -102,9 +93,9 @@ tells_no_head line h = λ head t.
 
 wrong_front : {limits : Limits} {script rest : List ℕ} {stage : Stage} {count number : ℕ} {cause : ScriptCause} → length script ≤ max_script
     → Stands limits script stage rest count → number ≡ count + 1 → IsNextWrong limits stage rest cause
-    → (length script ≤ max_script) × IsFrontFault limits script number cause
-wrong_front {rest = rest} {stage = stage} {count = count} few s e w =
-    (few, record { stage = stage; rest = rest; count = count; stands = s; number_is = e; wrong = w })
+    → (length script ≤ max_script) × (stage : Stage) × (rest : List ℕ) × (count : ℕ)
+    × Stands limits script stage rest count × (number ≡ count + 1) × IsNextWrong limits stage rest cause
+wrong_front {rest = rest} {stage = stage} {count = count} few s e w = (few, stage, rest, count, s, e, w)
 
 -- no line before the story has these causes
 never : (limits : Limits) (stage : Stage) (line : List ℕ) → (IsWrong limits stage line ScriptTooLong → ⊥) × (IsWrong limits stage line BadTextOctet → ⊥)

@@ -1,6 +1,6 @@
 -- The words of a header's line.
-use Rattle.iim_script.proofs.Words.{◌≡◌, ℕ, ◌-◌, ◌==◌, List, [], ◌∷◌, ◌++◌, length, take, drop, get_or, refl, ap, sym, ◌∙◌, subst, Option, Some, None, IfSome, IfNone, position_or_len, eqb-true, false≢true, take_rest, take-append-drop, is_alphanumeric, is_letter, is_digit, Header, IsHeader, HasNo, AreWords, TellsLast, TellsHead, message_word, head_words}
-use Rattle.std.proofs.Common.{append-nil, IsSome}
+use Rattle.iim_script.proofs.Words.{◌≡◌, ℕ, ◌-◌, ◌==◌, List, [], ◌∷◌, ◌++◌, length, take, drop, get_or, refl, ap, sym, ◌∙◌, subst, Option, Some, None, IfSome, IfNone, position_or_len, eqb-true, false≢true, take_rest, take-append-drop, is_alphanumeric, is_letter, is_digit, Header, IsHeader, HasNo, AreWords, TellsLast, TellsHead, head_words}
+use Rattle.std.proofs.Common.{append-nil, codes, IsSome}
 use Rattle.wire_message.specs.Format.Messages.{header_of}
 use Rattle.iim_script.proofs.Cuts.{cut_once, has_no_octet, has_no_before, lacks, first_passes}
 use Rattle.iim_script.proofs.Texts.{last_once}
@@ -72,30 +72,30 @@ last_ends end [] told = ap (λ (l : List ℕ). get_or l 0 32) told
 last_ends end (octet ∷ octets) told = ap (λ (l : List ℕ). get_or l 0 32) told.1
 
 -- the words of a line that tells a header
-pub words_told : (line rest : List ℕ) (head : Header) (t : TellsHead line head) → line ≡ message_word ++ rest → AreWords rest head t.end
+pub words_told : (line rest : List ℕ) (head : Header) (t : TellsHead line head) → line ≡ codes "message " ++ rest → AreWords rest head t.end
 words_told line rest head t e =
     subst (λ (l : List ℕ). AreWords l head t.end) (ap (λ (l : List ℕ). drop 8 l) (sym t.line_is ∙ e))
     (words_of_header head t.end t.is_header (last_ends t.end head.info t.is_end))
 
 -- The one header that a line can tell.
-pub head_told : (line rest end : List ℕ) (w head : Header) → line ≡ message_word ++ rest → AreWords rest w end → (t : TellsHead line head)
+pub head_told : (line rest end : List ℕ) (w head : Header) → line ≡ codes "message " ++ rest → AreWords rest w end → (t : TellsHead line head)
     → (header_with w head.info ≡ head) × (end ≡ t.end)
 head_told line rest end w head e words t = words_once rest head.info w head end t.end words (words_told line rest head t e)
 
-pub is_told : (line rest end info : List ℕ) (w : Header) (r : Option Header) → line ≡ message_word ++ rest → AreWords rest w end → TellsLast end info
+pub is_told : (line rest end info : List ℕ) (w : Header) (r : Option Header) → line ≡ codes "message " ++ rest → AreWords rest w end → TellsLast end info
     → (IsSome r → IsHeader (header_with w info)) → IfSome r (λ head. head ≡ header_with w info) → IfSome r (λ head. TellsHead line head)
 is_told line rest end info w None e words last admitted parts = tt
 is_told line rest end info w (Some head) e words last admitted parts =
     rw parts (record { end = end; is_header = admitted refl; is_end = last; line_is = rw (e, words.octets_are) refl })
 
-pub head_once : (line rest end info : List ℕ) (w head : Header) → line ≡ message_word ++ rest → AreWords rest w end → TellsLast end info
+pub head_once : (line rest end info : List ℕ) (w head : Header) → line ≡ codes "message " ++ rest → AreWords rest w end → TellsLast end info
     → TellsHead line head → head ≡ header_with w info
 head_once line rest end info w head e words last t =
     let same = head_told line rest end w head e words t in
     let same_info : head.info ≡ info = last_once end head.info info (rw same.1 t.is_end) last in
     sym same.0 ∙ ap (header_with w) same_info
 
-pub is_not_told : (line rest end info : List ℕ) (w : Header) (r : Option Header) → line ≡ message_word ++ rest → AreWords rest w end → TellsLast end info
+pub is_not_told : (line rest end info : List ℕ) (w : Header) (r : Option Header) → line ≡ codes "message " ++ rest → AreWords rest w end → TellsLast end info
     → (IsHeader (header_with w info) → IsSome r) → IfNone r ((head : Header) → TellsHead line head → ⊥)
 is_not_told line rest end info w None e words last admitted =
     λ head t. false≢true (admitted (subst (λ (h : Header). IsHeader h) (head_once line rest end info w head e words last t) t.is_header))

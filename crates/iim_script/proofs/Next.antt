@@ -1,5 +1,5 @@
 -- The next line of a script, and the first line of a text.
-use Rattle.std.proofs.Common.{◌≡◌, ◌⊎◌, inl, inr, ℕ, ◌+◌, List, [], ◌∷◌, ◌++◌, append_assoc, append-nil, length, length-append, refl, ap, sym, ◌∙◌, subst, arith, zero, suc, ◌≤◌, replicate}
+use Rattle.std.proofs.Common.{◌≡◌, inl, inr, ℕ, ◌+◌, List, [], ◌∷◌, ◌++◌, append_assoc, append-nil, length, length-append, refl, ap, sym, ◌∙◌, subst, arith, zero, suc, ◌≤◌, replicate}
 use Rattle.iim_script.specs.Format.Scripts.{HasNo, WithoutLast, NextLine, NextLines}
 use Rattle.std.proofs.lemmas.List.{append_cancel_right}
 use Rattle.iim_script.proofs.Cuts.{cut_once, has_no_octet, has_no_append, lacks}
@@ -32,23 +32,6 @@ lines_append octets rest after (line ∷ lines) others (next, n, more) k = (next
 pub lines_more : (octets : List ℕ) {rest line after : List ℕ} (lines : List (List ℕ)) → NextLines octets lines rest → NextLine rest line after
     → NextLines octets (lines ++ line ∷ []) after
 lines_more octets {rest} {line} {after} lines h n = lines_append octets rest after lines (line ∷ []) h (after, n, refl)
-
--- lines with other octets after them
-pub lines_before : (octets rest more : List ℕ) (lines : List (List ℕ)) → NextLines octets lines rest → NextLines (octets ++ more) lines (rest ++ more)
-lines_before octets rest more [] h = ap (λ (l : List ℕ). l ++ more) h
-lines_before octets rest more (line ∷ lines) (after, n, h) =
-    let parts : octets ++ more ≡ n.ended ++ 10 ∷ (after ++ more) = rw n.parts (append_assoc n.ended (10 ∷ after) more) in
-    (after ++ more, record { ended = n.ended; no_feed = n.no_feed; is_line = n.is_line; parts = parts }, lines_before after rest more lines h)
-
--- the octets of lines, and what follows them
-pub lines_front : (octets rest : List ℕ) (lines : List (List ℕ)) → NextLines octets lines rest
-    → (front : List ℕ) × (octets ≡ front ++ rest) × NextLines front lines []
-lines_front octets rest [] h = ([], h, refl)
-lines_front octets rest (line ∷ lines) (after, n, h) =
-    let (front, parts, lined) = lines_front after rest lines h in
-    let next : NextLine (n.ended ++ 10 ∷ front) line front = record { ended = n.ended; no_feed = n.no_feed; is_line = n.is_line; parts = refl } in
-    let whole = n.parts ∙ (ap (λ (l : List ℕ). n.ended ++ 10 ∷ l) parts ∙ sym (append_assoc n.ended (10 ∷ front) rest)) in
-    (n.ended ++ 10 ∷ front, whole, (front, next, lined))
 
 pub count_more : (lines : List (List ℕ)) (line : List ℕ) → length (lines ++ line ∷ []) ≡ length lines + 1
 count_more lines line = length-append lines (line ∷ [])

@@ -1,13 +1,13 @@
 -- What is printed tells what it is printed of, and ends in lines.
-use Rattle.iim_script.proofs.Words.{◌≡◌, inl, inr, ℕ, ◌+◌, ◌/◌, ◌%◌, ◌<◌, ◌≤◌, ◌==◌, ◌&&◌, nat_le, nat_lt, Bool, true, false, cond, List, [], ◌∷◌, ◌++◌, append_assoc, length, map, get_or, refl, sym, subst, arith, AllByRecursion, list_all, flat_map, false≢true, and_from, and_parts, nat_tests, is_letter, is_digit, Dataset, is_alphanumeric, Header, IsHeader, HasNo, NextLine, NextLines, IsHexDigit, TellsOctets, TellsLast, TellsNumber, TellsField, TellsHead, TellsTrailer, message_word, head_words, shown_octet, shown, field_line, message_line, trailer_line}
-use Rattle.std.specs.Prelude.{decimal}
+use Rattle.iim_script.proofs.Words.{◌≡◌, inl, inr, ℕ, ◌+◌, ◌/◌, ◌%◌, ◌<◌, ◌≤◌, ◌==◌, ◌&&◌, nat_le, nat_lt, Bool, true, false, cond, List, [], ◌∷◌, ◌++◌, append_assoc, length, map, get_or, refl, sym, subst, arith, AllByRecursion, list_all, flat_map, false≢true, and_from, and_parts, nat_tests, is_letter, is_digit, Dataset, is_alphanumeric, Header, IsHeader, HasNo, NextLine, NextLines, IsHexDigit, TellsOctets, TellsLast, TellsNumber, TellsField, TellsHead, TellsTrailer, head_words, shown_octet, shown, field_line, message_line, trailer_line}
+use Rattle.std.specs.Prelude.{codes, decimal}
 use Rattle.std.proofs.lemmas.Bool.{leb-true, le-leb}
 use Rattle.std.proofs.lemmas.Fmt.{decimal_nonempty, digits_decimal, digits_value-decimal, length-decimal-le}
 use Rattle.std.proofs.lemmas.Str.Parse.{IsDigitsTest, IsNumeralModel, numerals_by_fold}
 use Rattle.iim_dataset.specs.Format.Octets.{Octets}
 use Rattle.wire_message.specs.Format.Messages.{Are}
 use Rattle.wire_message.specs.Format.Messages as message
-use Rattle.iim_script.specs.Format.Scripts.{BeginsWith, decimal_from, trailer_word, after_space}
+use Rattle.iim_script.specs.Format.Scripts.{BeginsWith, decimal_from, after_space}
 use Rattle.iim_dataset.specs.Format.Datasets.{hex_digit, escape, is_plain, padding, dataset_name}
 use Rattle.iim_script.proofs.Cuts.{has_no_append, lacks, ended}
 
@@ -154,7 +154,7 @@ octets_by test (x ∷ xs) small h = let both = and_parts (test x) (list_all test
 
 -- the header's line, without its end
 abbrev pub message_words : Header → List ℕ
-message_words head = message_word ++ head_words head (after_space head.info)
+message_words head = codes "message " ++ head_words head (after_space head.info)
 
 pub head_told : (head : Header) → IsHeader head → TellsHead (message_words head) head
 head_told head h = record {
@@ -168,11 +168,11 @@ head_told head h = record {
 word_lacks : (test : ℕ → Bool) (b : ℕ) (word rest : List ℕ) → b < 32 → test b ≡ false → Are test word → HasNo b rest → HasNo b (word ++ (32 ∷ rest))
 word_lacks test b word rest small fails h k = has_no_append b word (32 ∷ rest) (lacks test b word fails h) (other 32 b small, k)
 
-message_lacks : (b : ℕ) (head : Header) → b < 32 → is_letter b ≡ false → is_digit b ≡ false → is_alphanumeric b ≡ false → HasNo b message_word → IsHeader head
-    → HasNo b (message_words head)
+message_lacks : (b : ℕ) (head : Header) → b < 32 → is_letter b ≡ false → is_digit b ≡ false → is_alphanumeric b ≡ false → HasNo b (codes "message ")
+    → IsHeader head → HasNo b (message_words head)
 message_lacks b head small letter digit alphanumeric word h =
     let end = after_space head.info in
-    has_no_append b message_word (head_words head end) word
+    has_no_append b (codes "message ") (head_words head end) word
     (word_lacks is_letter b head.source _ small letter h.source.0
     (word_lacks is_digit b head.number _ small digit h.number.0
     (word_lacks is_digit b head.priority _ small digit h.priority.0
@@ -190,7 +190,7 @@ message_ends head after h =
 
 -- the trailer's line, without its end
 abbrev pub trailer_words : List ℕ → List ℕ
-trailer_words trailer = trailer_word ++ after_space trailer
+trailer_words trailer = codes "trailer" ++ after_space trailer
 
 pub trailer_told : (trailer : List ℕ) → Are message.is_trailer_octet trailer → TellsTrailer (trailer_words trailer) trailer
 trailer_told trailer h = record {
@@ -205,5 +205,5 @@ trailer_ended trailer after = simp append_assoc
 pub trailer_ends : (trailer after : List ℕ) → NextLine (trailer_line trailer ++ after) (trailer_words trailer) after
 trailer_ends trailer after =
     ended (trailer_line trailer ++ after) (trailer_words trailer) after (trailer_ended trailer after)
-    (has_no_append 10 trailer_word (after_space trailer) (refl, (refl, (refl, (refl, (refl, (refl, (refl, tt))))))) (after_lacks 10 trailer (omega arith)))
-    (has_no_append 13 trailer_word (after_space trailer) (refl, (refl, (refl, (refl, (refl, (refl, (refl, tt))))))) (after_lacks 13 trailer (omega arith)))
+    (has_no_append 10 (codes "trailer") (after_space trailer) (refl, (refl, (refl, (refl, (refl, (refl, (refl, tt))))))) (after_lacks 10 trailer (omega arith)))
+    (has_no_append 13 (codes "trailer") (after_space trailer) (refl, (refl, (refl, (refl, (refl, (refl, (refl, tt))))))) (after_lacks 13 trailer (omega arith)))

@@ -9,7 +9,7 @@ use Rattle.iim_script.proofs.Heads.{words_of_header, last_ends, head_once}
 use Rattle.iim_script.proofs.Fronts.{field_digit, tells_no_head}
 use Rattle.iim_fields.specs.declared.fault.FieldCause.{FieldCause}
 use Rattle.iim_script.specs.Format.Causes.{EndsTooSoon, IsWrong}
-use Rattle.iim_script.proofs.Next.{next_once, no_next, lines_append, lines_before}
+use Rattle.iim_script.proofs.Next.{next_once, no_next, lines_append}
 
 -- ---- what a line tells is one thing
 
@@ -163,10 +163,10 @@ story_path limits ds head trailer done (line ∷ more) h =
     (next, (h.0, refl), rw (← append_assoc done (line ∷ []) more) (story_path limits ds head trailer (done ++ line ∷ []) more h.1))
 
 -- what stands before the story, and lines of the story after it, are a run
-pub story_run : (limits : Limits) (octets front story rest : List ℕ) (ds : List Dataset) (head : Header) (trailer : List ℕ)
-    → (done : List (List ℕ)) (text_line : ℕ) → octets ≡ front ++ story → IsFront limits front ds head trailer text_line
+pub story_run : (limits : Limits) (octets story rest : List ℕ) (ds : List Dataset) (head : Header) (trailer : List ℕ)
+    → (done : List (List ℕ)) (text_line : ℕ) → IsFront limits octets ds head trailer text_line story
     → NextLines story done rest → AllByRecursion IsLine done → Run limits octets (InStory ds head trailer done) rest (text_line + length done)
-story_run limits octets front story rest ds head trailer done text_line e f lined each =
+story_run limits octets story rest ds head trailer done text_line f lined each =
     let body : List (List ℕ) = f.message ∷ f.trailers ++ text_word ∷ [] in
     let lines : List (List ℕ) = f.field_lines ++ body in
     let path = path_on limits start f.field_lines body (At (InFields ds)) (InStory ds head trailer [])
@@ -174,7 +174,7 @@ story_run limits octets front story rest ds head trailer done text_line e f line
     (At (AfterMessage ds head), inr (head, f.is_head, refl), text_path limits f.trailers ds head trailer f.is_trailer f.whole) in
     record {
       lines = lines ++ done;
-      lined = rw e (lines_append (front ++ story) story rest lines done (lines_before front [] story lines f.lined) lined);
+      lined = lines_append octets story rest lines done f.lined lined;
       path = path_on limits start lines done (InStory ds head trailer []) (InStory ds head trailer done) path (story_path limits ds head trailer [] done each);
       count_is = omega (arith, f.text_line_is, length-append lines done, length-append f.field_lines body, length-append f.trailers (text_word ∷ []));
     }

@@ -1,7 +1,6 @@
 -- Octets tell one script or have one fault.
-use Rattle.iim_script.proofs.Words.{◌≡◌, ◌⊎◌, inl, inr, ℕ, ◌+◌, ◌<◌, ◌≤◌, List, [], ◌∷◌, ◌++◌, length, refl, ap, sym, ◌∙◌, arith, AllByRecursion, Dataset, all_front, all_last, Limits, Header, IsLine, HasNo, NextLine, IsStory, IsScript, max_script, IsNextWrong, IsFrontFault, IsScriptFault, OutOfMemory, ScriptCause}
+use Rattle.iim_script.proofs.Words.{◌≡◌, ◌⊎◌, inl, inr, ℕ, ◌+◌, ◌<◌, ◌≤◌, List, [], ◌∷◌, ◌++◌, length, refl, ap, sym, ◌∙◌, arith, AllByRecursion, Dataset, all_front, all_last, Limits, Header, IsLine, HasNo, NextLine, IsStory, IsScript, max_script, IsNextWrong, Stage, Stands, IsScriptFault, OutOfMemory, ScriptCause}
 use Rattle.iim_script.specs.Format.Causes.{IsStoryFault, ScriptTooLong, BadTextOctet}
-use Rattle.iim_script.specs.Laws.{IsOneScript}
 use Rattle.iim_script.proofs.Next.{next_once, no_next}
 use Rattle.iim_script.proofs.Runs.{Place, At, InStory, Run, Onward, runs_once, stands_run, story_run, next_wrong_stuck, next_wrong_once}
 
@@ -44,10 +43,10 @@ record Fails (limits : Limits) (octets : List ℕ) (number : ℕ) (cause : Scrip
   ends : Ends limits place rest cause
   number_is : number ≡ count + 1
 
-front_fails : (limits : Limits) (octets : List ℕ) (number : ℕ) (cause : ScriptCause) → IsFrontFault limits octets number cause → Fails limits octets number cause
-front_fails limits octets number cause f =
-    let run = stands_run limits octets f.stage f.rest f.count f.stands in
-    record { place = At f.stage; rest = f.rest; count = f.count; run = run; ends = f.wrong; number_is = f.number_is }
+front_fails : {limits : Limits} {octets rest : List ℕ} {number count : ℕ} {cause : ScriptCause} {stage : Stage} → Stands limits octets stage rest count
+    → number ≡ count + 1 → IsNextWrong limits stage rest cause → Fails limits octets number cause
+front_fails {limits} {octets} {rest} {number} {count} {cause} {stage} stands number_is wrong =
+    record { place = At stage; rest = rest; count = count; run = stands_run limits octets stage rest count stands; ends = wrong; number_is = number_is }
 
 story_fails : (limits : Limits) (octets : List ℕ) (number : ℕ) → IsStoryFault limits octets number → Fails limits octets number BadTextOctet
 story_fails limits octets number f =
@@ -56,7 +55,7 @@ story_fails limits octets number f =
       place = InStory f.fields f.head f.trailer bad.before;
       rest = bad.rest;
       count = f.text_line + length bad.before;
-      run = story_run limits octets f.front f.story bad.rest f.fields f.head f.trailer bad.before f.text_line f.parts f.is_front bad.lined bad.texts;
+      run = story_run limits octets f.story bad.rest f.fields f.head f.trailer bad.before f.text_line f.is_front bad.lined bad.texts;
       ends = (bad.line, bad.is_there, bad.bad, refl);
       number_is = bad.number_is;
     }
@@ -97,14 +96,14 @@ whole : (limits : Limits) (octets : List ℕ) (ds : List Dataset) (head : Header
 whole limits octets ds head trailer lines text_line s (some, inl ended) = record {
   done = lines;
   rest = [];
-  run = story_run limits octets s.front s.story [] ds head trailer lines text_line s.parts s.is_front ended s.texts;
+  run = story_run limits octets s.story [] ds head trailer lines text_line s.is_front ended s.texts;
   none = tt;
   lines_are = inl (refl, refl, some);
 }
 whole limits octets ds head trailer lines text_line s (some, inr (before, last, is, lined, none, alone)) = record {
   done = before;
   rest = last;
-  run = story_run limits octets s.front s.story last ds head trailer before text_line s.parts s.is_front lined
+  run = story_run limits octets s.story last ds head trailer before text_line s.is_front lined
       (all_front IsLine before (last ∷ []) (rw is at s.texts));
   none = none;
   lines_are = inr (is, alone);
@@ -125,7 +124,8 @@ script_no_fails limits octets fields head trailer lines text_line number cause s
     ends.2 (rw (last_there w.rest ends.0 w.none ends.1) (good_rest lines w.done w.rest w.lines_are s.texts))
 
 pub scripts_once : (limits : Limits) (octets : List ℕ) (fields others : List Dataset) (head other : Header) (trailer end : List ℕ) (lines more : List (List ℕ)) (n m : ℕ)
-    → IsScript limits octets fields head trailer lines n → IsScript limits octets others other end more m → IsOneScript fields others head other trailer end lines more n m
+    → IsScript limits octets fields head trailer lines n → IsScript limits octets others other end more m
+    → (fields ≡ others) × (head ≡ other) × (trailer ≡ end) × (lines ≡ more) × (n ≡ m)
 scripts_once limits octets fields others head other trailer end lines more n m s k =
     let w = whole limits octets fields head trailer lines n s s.is_story in
     let v = whole limits octets others other end more m k k.is_story in
@@ -134,13 +134,8 @@ scripts_once limits octets fields others head other trailer end lines more n m s
     (none_stuck limits (InStory fields head trailer w.done) w.rest w.none) (none_stuck limits (InStory others other end v.done) v.rest v.none) in
     let place : InStory fields head trailer w.done ≡ InStory others other end v.done = one.0 in
     let same_done : w.done ≡ v.done = cc in
-    record {
-      same_fields = cc;
-      same_head = cc;
-      same_trailer = cc;
-      same_lines = lines_once lines more v.done v.rest (rw (same_done, one.1) at w.lines_are) v.lines_are;
-      same_text_line = omega (arith, one.2, ap length same_done);
-    }
+    let same_lines = lines_once lines more v.done v.rest (rw (same_done, one.1) at w.lines_are) v.lines_are in
+    (cc, cc, cc, same_lines, omega (arith, one.2, ap length same_done))
 
 -- ---- faults
 
@@ -154,7 +149,7 @@ kind : (limits : Limits) (octets : List ℕ) (number : ℕ) (cause : ScriptCause
 kind limits octets number ScriptTooLong f = inr (inl (refl, f.0, f.1))
 kind limits octets number BadTextOctet f = inr (inr (f.0, story_fails limits octets number f.1))
 kind limits octets number OutOfMemory f = inl refl
-kind limits octets number cause f = inr (inr (f.0, front_fails limits octets number cause f.1))
+kind limits octets number cause (few, stage, rest, count, stands, is, wrong) = inr (inr (few, front_fails stands is wrong))
 
 pub script_no_fault : (limits : Limits) (octets : List ℕ) (fields : List Dataset) (head : Header) (trailer : List ℕ) (lines : List (List ℕ)) (text_line number : ℕ) (cause : ScriptCause)
     → IsScript limits octets fields head trailer lines text_line → IsScriptFault limits octets number cause → cause ≡ OutOfMemory

@@ -72,33 +72,30 @@ whole ds e =
 -- ---- the lines
 
 -- the line `text`
-text_ends : NextLines (codes "text\n") (text_word ∷ []) []
-text_ends = ([], ended (codes "text\n") text_word [] refl (refl, (refl, (refl, (refl, tt)))) (refl, (refl, (refl, (refl, tt)))), refl)
+text_ends : (story : List ℕ) → NextLines (codes "text\n" ++ story) (text_word ∷ []) story
+text_ends story = (story, ended (codes "text\n" ++ story) text_word story refl (refl, (refl, (refl, (refl, tt)))) (refl, (refl, (refl, (refl, tt)))), refl)
 
 -- the lines after those of the datasets
-last_lines : (head : Header) (trailer : List ℕ) → IsHeader head
-    → NextLines (message_line head ++ (trailer_line trailer ++ codes "text\n")) (message_words head ∷ trailer_words trailer ∷ text_word ∷ []) []
-last_lines head trailer h =
-    (trailer_line trailer ++ codes "text\n", message_ends head (trailer_line trailer ++ codes "text\n") h, (codes "text\n", trailer_ends trailer (codes "text\n"), text_ends))
+last_lines : (head : Header) (trailer story : List ℕ) → IsHeader head
+    → NextLines (message_line head ++ (trailer_line trailer ++ (codes "text\n" ++ story))) (message_words head ∷ trailer_words trailer ∷ text_word ∷ []) story
+last_lines head trailer story h =
+    let after = codes "text\n" ++ story in
+    (trailer_line trailer ++ after, message_ends head (trailer_line trailer ++ after) h, (after, trailer_ends trailer after, text_ends story))
 
--- what stands before the story
-abbrev front_of : List Dataset → Header → List ℕ → List ℕ
-front_of fields head trailer = flat_map field_line fields ++ (message_line head ++ (trailer_line trailer ++ codes "text\n"))
-
-script_parts : (fields : List Dataset) (head : Header) (trailer story : List ℕ) → script_of fields head trailer story ≡ front_of fields head trailer ++ story
+script_parts : (fields : List Dataset) (head : Header) (trailer story : List ℕ)
+    → script_of fields head trailer story ≡ flat_map field_line fields ++ (message_line head ++ (trailer_line trailer ++ (codes "text\n" ++ story)))
 script_parts fields head trailer story = simp append_assoc
 
 pub is_script : DatasetsOfEnvelopesAreAdded → PrintedValuesAreScripts
 is_script added limits fields head trailer lines story envelope within is_header is_trailer some texts printed short = record {
-  front = front_of fields head trailer;
   story = story;
-  parts = script_parts fields head trailer story;
   short = short;
   is_front = record {
     field_lines = map field_words fields;
     message = message_words head;
     trailers = trailer_words trailer ∷ [];
-    lined = fields_end fields (message_words head ∷ trailer_words trailer ∷ text_word ∷ []) _ [] (all_printable fields envelope) (last_lines head trailer is_header);
+    lined = rw script_parts (fields_end fields (message_words head ∷ trailer_words trailer ∷ text_word ∷ []) _ story (all_printable fields envelope)
+        (last_lines head trailer story is_header));
     are_fields = fields_are added limits [] fields envelope within (all_printable fields envelope);
     whole = whole fields envelope;
     is_head = head_told head is_header;

@@ -5,8 +5,8 @@ pub use Rattle.iim_dataset.specs.Format.Octets.{is_digit, is_letter}
 pub use Rattle.iim_fields.specs.States.Standing.{Building, add_fault, finish_fault}
 pub use Rattle.iim_fields.specs.States.Walks.{rest_of}
 pub use Rattle.iim_fields.specs.declared.limits.Limits.{Limits}
-pub use Rattle.iim_script.specs.Format.Causes.{AfterMessage, AfterTrailer, BadTrailer, Field, HaveCome, InFields, IsFrontFault, IsNextWrong, IsScriptFault, OutOfMemory, ScriptCause, ScriptLine, Stage, Stands, TellsNone}
-pub use Rattle.iim_script.specs.Format.Scripts.{AreWords, TellsField, TellsHead, TellsNumber, TellsTrailer, head_words, message_word, text_word, HasNo, NextLine, NextLines, WithoutLast, field_line, message_line, trailer_line, AreFieldLines, AreTrailer, IsFront, IsScript, IsStory, max_script, IsHexDigit, TellsLast, TellsOctets}
+pub use Rattle.iim_script.specs.Format.Causes.{AfterMessage, AfterTrailer, BadTrailer, Field, HaveCome, InFields, IsNextWrong, IsScriptFault, OutOfMemory, ScriptCause, ScriptLine, Stage, Stands, TellsNone}
+pub use Rattle.iim_script.specs.Format.Scripts.{AreWords, TellsField, TellsHead, TellsNumber, TellsTrailer, head_words, text_word, HasNo, NextLine, NextLines, WithoutLast, field_line, message_line, trailer_line, AreFieldLines, AreTrailer, IsFront, IsScript, IsStory, max_script, IsHexDigit, TellsLast, TellsOctets}
 pub use Rattle.iim_script.specs.Steps.{TellsText}
 pub use Rattle.std.proofs.Common.{Bool, Bor, IfNone, IfSome, IsTrue, List, None, Option, Some, [], ap, append_assoc, arith, cond, count_by, drop, false, get_or, inl, inr, length, length-append, map, nat_eq, nat_le, nat_lt, not, refl, rules, subst, suc, sym, take, true, w8, zero, ℕ, ◌%◌, ◌&&◌, ◌*◌, ◌++◌, ◌+◌, ◌-◌, ◌/◌, ◌<◌, ◌==◌, ◌∙◌, ◌∷◌, ◌≡◌, ◌≤◌, ◌⊎◌}
 pub use Rattle.std.proofs.Math.Numerals.{one-add}

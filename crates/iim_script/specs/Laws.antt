@@ -3,8 +3,7 @@ use Rattle.std.specs.Prelude.{◌≡◌, ◌⊎◌, ℕ, ◌+◌, ◌<◌, ◌�
 use Rattle.std.specs.List.{AllByRecursion}
 use Rattle.iim_dataset.specs.Format.Datasets.{Dataset}
 use Rattle.iim_fields.specs.Format.Records.{IsEnvelope, IsWithin}
-use Rattle.iim_fields.specs.Format.Causes.{joined}
-use Rattle.iim_fields.specs.declared.limits.Limits.{Limits}
+use Rattle.iim_fields.specs.{Format.Causes.joined, declared.limits.Limits.Limits}
 use Rattle.wire_message.specs.Format.Messages.{Header, IsHeader, IsTrailer}
 use Rattle.wire_story.specs.Format.Texts.{IsLine}
 use Rattle.iim_script.specs.Format.Scripts.{NextLine, TellsField, TellsHead, TellsTrailer, text_word, PrintsStory, script_of, IsScript, max_script}
@@ -27,19 +26,12 @@ FormsExcludeOneAnother =
     ((line : List ℕ) (d : Dataset) (head : Header) → TellsField line d → TellsHead line head → ⊥)
     × ((octets : List ℕ) → TellsTrailer text_word octets → ⊥)
 
--- Two things that a script tells are one.
-pub record IsOneScript (fields others : List Dataset) (head other : Header) (trailer end : List ℕ) (lines more : List (List ℕ)) (n m : ℕ) : Type 0 where
-  pub same_fields : fields ≡ others
-  pub same_head : head ≡ other
-  pub same_trailer : trailer ≡ end
-  pub same_lines : lines ≡ more
-  pub same_text_line : n ≡ m
-
 -- A script tells one thing: one list of datasets, one header, one trailer, one list of lines, and one number of the line
 -- `text`.
 abbrev pub ScriptsTellOneThing : Type 0
 ScriptsTellOneThing = (limits : Limits) (octets : List ℕ) (fields others : List Dataset) (head other : Header) (trailer end : List ℕ) (lines more : List (List ℕ)) (n m : ℕ)
-    → IsScript limits octets fields head trailer lines n → IsScript limits octets others other end more m → IsOneScript fields others head other trailer end lines more n m
+    → IsScript limits octets fields head trailer lines n → IsScript limits octets others other end more m
+    → (fields ≡ others) × (head ≡ other) × (trailer ≡ end) × (lines ≡ more) × (n ≡ m)
 
 -- A script has no fault: no line of it is wrong, and it isn't too long. That memory was refused may be told of any octets.
 abbrev pub ScriptsHaveNoFault : Type 0

@@ -3,10 +3,9 @@ use Rattle.std.specs.Prelude.{◌≡◌, ℕ, ◌==◌, ◌||◌, Bool, List, le
 use Rattle.std.specs.List.{AllByRecursion}
 use Rattle.iim_dataset.specs.Format.Octets.{lf}
 use Rattle.wire_story.specs.Format.Texts.{is_line_octet, IsLine, IsText, packed_text}
-use Rattle.iim_script.specs.Format.Scripts.{IsStory, NextLine}
+use Rattle.iim_script.specs.{Format.Scripts.IsStory, Format.Scripts.NextLine, declared.fault.ScriptFault.ScriptFault}
 use Rattle.iim_script.specs.Format.Causes.{Stage, IsNextWrong, OutOfMemory, ScriptCause}
 use Rattle.iim_fields.specs.declared.limits.Limits.{Limits}
-use Rattle.iim_script.specs.declared.fault.ScriptFault.{ScriptFault}
 
 -- It may stand in a line, or is LF.
 abbrev pub is_plain : ℕ → Bool

@@ -176,8 +176,8 @@ fn finish(builder: EnvelopeBuilder, lines: u64) -> Result<Envelope, ScriptFault>
 /// What stands before the story, and what is left for it.
 fn read_front<'a>(alloc: Global, limits: Limits, script: &'a [u8]) -> Result<Front<'a>, ScriptFault>
     requires { length script.now ≤ max_script }
-    ensures front { IfOk result (λ front. (octets : List ℕ) × (script.now ≡ octets ++ front.story.octets.now)
-        × IsFront limits octets front.envelope front.head front.trailer.items front.story.lines) }
+    ensures front { IfOk result (λ front. IsFront limits script.now front.envelope front.head front.trailer.items
+        front.story.lines front.story.octets.now) }
     ensures fault { IfErr result (λ fault. IsScriptFault limits script.now fault.line fault.cause) }
 {
     let Ok(mut builder) = EnvelopeBuilder::new(alloc, limits) else {

@@ -8,7 +8,7 @@ use Rattle.iim_dataset.specs.declared.fault.Fault.{Fault}
 use Rattle.iim_dataset.specs.declared.place.DatasetPlace.{DatasetPlace as Place}
 use Rattle.iim_fields.specs.States.Standing.{room_of}
 use Rattle.wire_story.specs.Format.Texts as story
-use Rattle.iim_unpack.specs.Routes.{IsOver, RefusesRoute, Routes, TakesNext, Refused, RefusesAt, front_in_order}
+use Rattle.iim_unpack.specs.Routes.{RefusesRoute, Routes, Refused, RefusesAt, front_in_order}
 use Rattle.iim_unpack.specs.Steps.{FailsAs, FailsFor, HasAdvanced, cause_of_tag, tag_fault}
 use Rattle.iim_unpack.specs.declared.parts.router.Router.{Router}
 use Rattle.iim_dataset.specs.Format.Datasets.{SpellsStream, CompletesData, Concerns}
@@ -33,7 +33,7 @@ use Rattle.iim_places.proofs.ObjectOctets.{no_object}
 
 module _ {S : Type 0} (goes : S → List story.StoryEvent → S → Type 0) (failures : S → ℕ) where
   pub fails_for : (cause : Option HeadCause) (old : Place) (octets : List ℕ) (k : ℕ) (new : Place) (a b : Router S)
-      → RefusesFor (Routes goes failures) (RefusesRoute goes failures) cause old octets k new a b → StillStands TakesNext cause new b
+      → RefusesFor (Routes goes failures) (RefusesRoute goes failures) cause old octets k new a b → StillStands (λ (r : Router S). Takes r.parts.now) cause new b
       → FailsFor goes failures cause b.refused (old, a.parts.now, a.sink.now) octets k (new, b.parts.now, b.sink.now)
   fails_for None old octets k new a b h open' = record { more = h.0.more; event = h.0.event; stopped = h.0.stopped.2; completes = h.0.completes }
   fails_for (Some cause) old octets k new a b h open' =
@@ -41,7 +41,8 @@ module _ {S : Type 0} (goes : S → List story.StoryEvent → S → Type 0) (fai
 
   -- what the reader of tags says of the octets that it used, of the parts
   pub has_advanced : (r : Result ℕ Fault) (old : Place) (piece : List ℕ) (new : Reader) (a b : Router S) → OnOk r (TakesCalls new)
-      → IfOk r (λ used. TakesPiece (Routes goes failures) TakesNext IsOver (old, a) piece (new.place, b) used)
+      → IfOk r (λ used. TakesPiece (Routes goes failures) (λ (r : Router S). Takes r.parts.now) (λ (r : Router S). AreBetween true r.parts.now)
+      (old, a) piece (new.place, b) used)
       → IfOk r (HasAdvanced goes failures (old, a.parts.now, a.sink.now) piece (new, b.parts.now, b.sink.now))
   has_advanced (Ok used) old piece new a b calls t =
       record { takes_calls = calls; within = t.within; told = record { more = t.told.more; told = t.told.told.2; brings = t.told.brings }; onward = t.onward }
@@ -49,8 +50,9 @@ module _ {S : Type 0} (goes : S → List story.StoryEvent → S → Type 0) (fai
 
   -- whatever the reader of tags answers, the header has the room that it had
   pub same_room : (r : Result ℕ Fault) (old : Place) (octets : List ℕ) (new : Place) (a b : Router S)
-      → IfOk r (λ used. TakesPiece (Routes goes failures) TakesNext IsOver (old, a) octets (new, b) used)
-      → IfErr r (λ fault. RefusesOne (Routes goes failures) (RefusesRoute goes failures) TakesNext (old, a) octets fault (new, b))
+      → IfOk r (λ used. TakesPiece (Routes goes failures) (λ (r : Router S). Takes r.parts.now) (λ (r : Router S). AreBetween true r.parts.now)
+      (old, a) octets (new, b) used)
+      → IfErr r (λ fault. RefusesOne (Routes goes failures) (RefusesRoute goes failures) (λ (r : Router S). Takes r.parts.now) (old, a) octets fault (new, b))
       → room_of b.parts.now.fields ≡ room_of a.parts.now.fields
   same_room (Ok used) old octets new a b taken bad = taken.told.told.3
   same_room (Err fault) old octets new a b taken bad = by (tag_cause_of fault.cause) bad.refused

@@ -108,9 +108,9 @@ parted parts ticket ds (InTag held) (Tag octets) s keeps at = record {
   section = s.after ds at.fields;
   phase = rw (ended_by_record parts ds at.fields, keeps) refl;
   fields = at.fields.kept_are;
-  numbers = s.numbers_are (place_after_datasets ds) at.object;
-  taken = let is = s.taken_is (place_after_datasets ds) at.object in let total = total_of (of_record 8 ds) in omega (arith, is, total);
-  heads = s.heads_are (place_after_datasets ds) at.object ∙ count_of (of_record 8 ds);
+  numbers = (s.object (place_after_datasets ds) at.object).0;
+  taken = let is = (s.object (place_after_datasets ds) at.object).1 in let total = total_of (of_record 8 ds) in omega (arith, is, total);
+  heads = (s.object (place_after_datasets ds) at.object).2 ∙ count_of (of_record 8 ds);
   text = _;
   leads = message_at parts.message (object_of ds) _ s.message at.message s.message_is;
 }
@@ -121,9 +121,9 @@ parted parts ticket ds (InData h given) (Inside g left) s (is, many) at =
       section = s.inside ds h _ at.fields;
       phase = rw (ended, is, rest, at.fields.taken_are) refl;
       fields = at.fields.kept_are;
-      numbers = s.numbers_are (place_at ds h) at.object ∙ ap stated_numbers (stated_by (nat_eq h.rec 8) (nat_eq h.rec 9) ds h.count);
-      taken = s.taken_is (place_at ds h) at.object ∙ rw is (taken_by (nat_eq h.rec 8) (nat_eq h.rec 9) ds given h.count left many);
-      heads = s.heads_are (place_at ds h) at.object ∙ heads_by (nat_eq h.rec 8) (nat_eq h.rec 9) ds h.count;
+      numbers = (s.object (place_at ds h) at.object).0 ∙ ap stated_numbers (stated_by (nat_eq h.rec 8) (nat_eq h.rec 9) ds h.count);
+      taken = (s.object (place_at ds h) at.object).1 ∙ rw is (taken_by (nat_eq h.rec 8) (nat_eq h.rec 9) ds given h.count left many);
+      heads = (s.object (place_at ds h) at.object).2 ∙ heads_by (nat_eq h.rec 8) (nat_eq h.rec 9) ds h.count;
       text = _;
       leads = message_at parts.message (object_so_far ds (InData h given)) _ s.message at.message s.message_is;
     }

@@ -1,6 +1,6 @@
 -- Blocks, and the line of an intake.
 -- What an intake feeds, piece after piece.
-use Rattle.iim_unpack.proofs.Words.{AreWithin, Bool, CountsFor, Delivers, DeliveryMayBeCut, Done, Goes, HasFed, HasParts, IsDoneWith, IsOpen, IsReady, IsRefusedIn, IsTruncatedAt, LeftAs, Limits, List, More, None, Option, Refusal, Some, Stands, Stood, Unpacked, Unpacking, Value, [], ap, append-nil, append_assoc, arith, drop, false, get_or-append-add, in_line, inl, inr, length, length-append, length-take-le, limits_in, raised, refl, refusal_at, same_Some, subst, sym, take, take-append-add, take-append-drop, take_all, true≢false, with_held, ℕ, ◌++◌, ◌+◌, ◌-◌, ◌<◌, ◌^◌, ◌∙◌, ◌≡◌, ◌≤◌}
+use Rattle.iim_unpack.proofs.Words.{Bool, CountsFor, Delivers, DeliveryMayBeCut, Done, Goes, HasFed, HasParts, IsDoneWith, IsOpen, IsReady, IsRefusedIn, IsTruncatedAt, LeftAs, Limits, List, More, None, Option, Refusal, Some, Stands, Stood, Unpacked, Unpacking, Value, [], ap, append-nil, append_assoc, arith, drop, false, get_or-append-add, in_line, inl, inr, length, length-append, length-take-le, limits_in, raised, refl, refusal_at, same_Some, subst, sym, take, take-append-add, take-append-drop, take_all, true≢false, with_held, ℕ, ◌++◌, ◌+◌, ◌-◌, ◌<◌, ◌^◌, ◌∙◌, ◌≡◌, ◌≤◌}
 use Rattle.std.proofs.Common.{length-take}
 use Rattle.std.proofs.lemmas.List.{drop-drop, drop-take}
 use Rattle.std.specs.Io.KnownBytes.{Consumes, IsAtEnd}
@@ -39,8 +39,7 @@ used_up n xs (Some rest) = ap (λ w. w ++ rest) (sym (take-append-drop n xs)) �
 
 -- Octets of the block were used.
 pub line_passed : (n : ℕ) (held new : List ℕ) (d : Device) → new ≡ drop n held → HasGiven (with_held held d) (with_held new d) (take n held)
-line_passed n held new d is =
-    (subst (λ (ys : List ℕ). Consumes (put_before held d.octets) (put_before ys d.octets) (take n held)) (sym is) (used_up n held d.octets), (omega arith, omega arith))
+line_passed n held new d is = rw is (used_up n held d.octets, (omega arith, omega arith))
 
 -- where `used` octets at least are held, they can be passed
 pub fits : (octets : List ℕ) (from to used : ℕ) (held : List ℕ) → slice_range octets from to ≡ held → from ≤ to → used ≤ length held → from + used ≤ to
@@ -244,14 +243,12 @@ given_by done' parts = record {
   came = done'.came;
   counts = done'.counts;
   envelope = λ p n at.
-      let (end, adds) = done'.done p n at in
-      record {
-        value = end.value;
-        admits = end.admits;
-        within = subst (λ (l : Limits). AreWithin l end.admits.datasets) done'.limits end.within;
-        parts = parts (p ++ done'.octets) (raised n (length done'.octets)) end end.value end.admits;
-        adds = adds;
-      };
+      let (end, adds) = done'.done p n at in (
+        end.value,
+        record { admits = end.admits; within = rw done'.limits at end.within },
+        parts (p ++ done'.octets) (raised n (length done'.octets)) end end.value end.admits,
+        adds,
+      );
 }
 
 -- ---- pieces, one after another

@@ -1,13 +1,11 @@
 -- What holds of all unpackers; the record at the end has a field for each law.
 use Rattle.std.specs.Prelude.{◌<◌, ◌^◌, ℕ, List, ◌≡◌, ◌≢◌, ◌⊎◌, [], ◌∷◌, None, Some, Result, Ok, Err, IfOk, IfErr, OnOk}
 use Rattle.iim_unpack.specs.States.Restored.{IsRestored}
-use Rattle.iim_places.specs.Format.Tickets.{IsTicketOf, Place, IsPlaceOf}
+use Rattle.iim_places.specs.Format.{Tickets.IsTicketOf, Tickets.Place, Tickets.IsPlaceOf, Open.IsOpen}
+use Rattle.iim_places.specs.declared.refusal.{Cause.TheVariants.Message, Refusal.Refusal}
 use Rattle.iim_unpack.specs.States.Unpacking.{IsDoneWith, Stands, Unpacking, limits_in, IsDone, Goes, IsRefusedIn, failed_at, Done, Progress}
-use Rattle.iim_places.specs.Format.Open.{IsOpen}
 use Rattle.wire_story.specs.Format.Texts.{StoryEvent}
-use Rattle.iim_places.specs.declared.refusal.Cause.TheVariants.{Message}
 use Rattle.wire_message.specs.declared.fault.MessageCause.TheVariants.{Sink}
-use Rattle.iim_places.specs.declared.refusal.Refusal.{Refusal}
 
 -- An unpacker that is restored from another's ticket, under its limits and with its count of octets, stands where the other
 -- stands, and is done with what the other is done with: each call on the one answers as on the other.

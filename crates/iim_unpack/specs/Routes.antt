@@ -1,153 +1,52 @@
 -- What a router of datasets does: what it is told, in which order, and what its parts are led to and told.
-use Rattle.std.specs.Prelude.{◌≡◌, ℕ, ◌≤◌, ◌<◌, ◌⊎◌, Bool, true, false, List, [], ◌∷◌, ◌++◌, length, flat_map, fold, Option, Some, IsSome, map, None}
+use Rattle.std.specs.Prelude.{◌≡◌, ℕ, ◌≤◌, ◌<◌, ◌==◌, ◌⊎◌, Bool, true, false, List, [], ◌∷◌, ◌++◌, length, flat_map, fold, Option, Some, IsSome, map, None}
 use Rattle.std.proofs.Common.{refl, sym, subst, ◌∙◌, append_assoc, append-nil, ap}
 use Rattle.std.proofs.lemmas.List.Concat.{flat_map-append}
 use Rattle.std.proofs.lemmas.List.Sums.{fold-append}
 use Rattle.iim_object.specs.Format.Objects.{ObjectEvent, ObjectOctet, ObjectEnd, ObjectToken, ObjectEnded, head_token, Place as ObjectPlace, max_subfiles}
-use Rattle.iim_object.specs.States.Reading as objects
 use Rattle.iim_object.specs.States.Reading.{Refuses, LivesWith}
+use Rattle.iim_object.specs.declared.reading.{state.State.State, fault.SizeCause.SizeCause}
+use Rattle.iim_object.specs.States.Reading as objects
 use Rattle.iim_places.specs.Format.Causes.{size_on, message_on, too_many_on, IsRefusedHead, IsRefusedValue}
+use Rattle.iim_places.specs.Format.Open.{object_so_far, AllCanContinue, IsUnfinished}
+use Rattle.iim_places.specs.{Format.Admitted.object_of, declared.fault.TokenFault.TokenFault}
 use Rattle.wire_story.specs.Format.Texts as story
 use Rattle.wire_story.specs.Format.Texts.{End}
-use Rattle.wire_message.specs.Format.Messages.{MessageDiesAt, text_so_far}
+use Rattle.wire_message.specs.Format.{Messages.MessageDiesAt, Messages.text_so_far, Causes.HasCause}
 use Rattle.wire_message.specs.States.Reading.{StandsAt, TellsStory, TellsFront, CountsCause, IsWhole, LeadsOn, LeadsTo}
-use Rattle.wire_message.specs.Format.Causes.{HasCause}
+use Rattle.wire_message.specs.declared.{place.Place.Place, fault.MessageCause.MessageCause}
+use Rattle.wire_message.specs.declared.{fault.MessageCause.TheVariants.Unfinished}
 use Rattle.iim_dataset.specs.Format.Datasets.{Dataset, Begun, InTag, InData}
 use Rattle.iim_dataset.specs.States.Reading.{DatasetEvent, HeadRead, DataOctet, DatasetEnd, events_of, handed_on, AfterStep}
-use Rattle.iim_fields.specs.Format.Records.{AreSections, data_of}
+use Rattle.iim_dataset.specs.declared.{head.Head.Head, sink.Step.Step}
+use Rattle.iim_fields.specs.{Format.Records.AreSections, Format.Records.data_of, States.Standing.room_of}
+use Rattle.iim_fields.specs.{States.Standing.begun_head, declared.limits.Limits.Limits}
 use Rattle.iim_fields.specs.States.Standing as records
 use Rattle.wire_message.specs.Format.Causes as wire_format
-use Rattle.iim_places.specs.Format.Admitted.{object_of}
-use Rattle.iim_places.specs.Format.Open.{object_so_far, AllCanContinue, IsUnfinished}
 use Rattle.iim_unpack.specs.States.Unpacking.{AreLed, has_ended, CountsFor, Parts}
-use Rattle.iim_fields.specs.States.Standing.{room_of, begun_head}
-use Rattle.iim_dataset.specs.declared.head.Head.{Head}
-use Rattle.iim_object.specs.declared.reading.state.State.{State}
-use Rattle.iim_object.specs.declared.reading.fault.SizeCause.{SizeCause}
-use Rattle.iim_places.specs.declared.fault.TokenFault.{TokenFault}
-use Rattle.iim_unpack.specs.declared.parts.message.ToMessage.{ToMessage}
-use Rattle.wire_message.specs.declared.place.Place.{Place}
-use Rattle.wire_message.specs.declared.fault.MessageCause.{MessageCause}
-use Rattle.wire_message.specs.declared.fault.MessageCause.TheVariants.{Unfinished}
-use Rattle.iim_fields.specs.declared.limits.Limits.{Limits}
-use Rattle.iim_dataset.specs.declared.sink.Step.{Step}
-use Rattle.iim_unpack.specs.declared.parts.router.Router.{Router}
+use Rattle.iim_unpack.specs.declared.parts.{message.ToMessage.ToMessage, router.Router.Router}
 
 -- an event as an octet of the object
 abbrev pub octets_of : ObjectEvent → List ℕ
 octets_of (ObjectOctet b) = b ∷ []
 octets_of ObjectEnd = []
 
-abbrev pub is_end : ObjectEvent → Bool
-is_end (ObjectOctet b) = false
-is_end ObjectEnd = true
-
 -- whether the end has come and no octet after it, where it had or had not before the events
 abbrev pub end_is_last : Bool → List ObjectEvent → Bool
-end_is_last before events = fold (λ (last : Bool) (event : ObjectEvent). is_end event) before events
-
--- The reader took the events, and the sink was told what is delivered of the text that they add. (Reader and sink, before and after.)
-pub record TellsMessage {S : Type 0} (goes : S → List story.StoryEvent → S → Type 0) (failures : S → ℕ) (old : Option Place × S)
-    (events : List ObjectEvent) (new : Option Place × S) : Type 0 where
-  pub takes_calls : IsSome new.0
-  pub told : TellsStory goes old.1 old.0 (flat_map octets_of events) new.0 new.1
-  pub calm : failures new.1 ≡ failures old.1
-  pub whole : (before : Bool) → (before ≡ true → IsWhole old.0) → end_is_last before events ≡ true → IsWhole new.0
+end_is_last before events = fold (λ (last : Bool) (event : ObjectEvent). length (octets_of event) == 0) before events
 
 -- why the event is refused after these octets
 abbrev pub HasCauseAt : MessageCause → List ℕ → ObjectEvent → Type 0
 HasCauseAt cause octets (ObjectOctet b) = HasCause cause octets b
 HasCauseAt cause octets ObjectEnd = (cause ≡ Unfinished) × MessageDiesAt octets End
 
--- The reader took the events and refused the next one for this cause; the sink was told what is delivered of those. (Reader and sink,
--- before and after: of the reader after it nothing is said.)
-pub record MessageRefuses {S : Type 0} (goes : S → List story.StoryEvent → S → Type 0) (failures : S → ℕ) (cause : Option MessageCause)
-    (old : Option Place × S) (events : List ObjectEvent) (refused : ObjectEvent) (new : Option Place × S) : Type 0 where
-  pub why : MessageCause
-  pub is_cause : cause ≡ Some why
-  pub told : TellsFront goes old.1 old.0 (flat_map octets_of events) new.1
-  pub counts : CountsCause (failures old.1) (failures new.1) why
-  pub has_cause : (octets text : List ℕ) → StandsAt old.0 octets text → HasCauseAt why (octets ++ flat_map octets_of events) refused
-
 -- The object refused the token: the layer dies with it wherever the reader stands, and the fault tells the first cause.
 abbrev pub IsObjectFault : Option State → ObjectToken → Head → TokenFault → Type 0
 IsObjectFault old token h fault = (cause : SizeCause) × Refuses old token cause × (fault ≡ size_on h cause)
 
--- The object refused the token of the head, and the sink was told nothing; or it took the end, and the message refused that. (Message and
--- sink, before and after.)
-abbrev pub RefusesObject : {S : Type 0} → (S → List story.StoryEvent → S → Type 0) → (S → ℕ) → Option State → Head → Option Place × S → Option Place × S
-    → TokenFault → Type 0
-RefusesObject goes failures object h old new fault =
-    (IsObjectFault object (head_token h.rec h.count) h fault × TellsMessage goes failures old [] new)
-    ⊎ ((why : MessageCause) × (fault ≡ message_on h why) × (head_token h.rec h.count ≡ ObjectEnded) × LivesWith object (head_token h.rec h.count)
-    × MessageRefuses goes failures (Some why) old [] ObjectEnd new)
-
 -- Wherever the object stands, there may be one subfile more.
 abbrev pub HasFewSubfiles : Option State → Type 0
 HasFewSubfiles object = (p : ObjectPlace) → objects.StandsAt object p → length p.lengths < max_subfiles
-
--- The head of a subfile is one too many, wherever the object stands, and the sink was told nothing; or object or message refused it.
-abbrev pub RefusesSubfile : {S : Type 0} → (S → List story.StoryEvent → S → Type 0) → (S → ℕ) → Option State → Head → Option Place × S → Option Place × S
-    → TokenFault → Type 0
-RefusesSubfile goes failures object h old new fault =
-    (((p : ObjectPlace) → objects.StandsAt object p → max_subfiles ≤ length p.lengths) × (fault ≡ too_many_on h) × (new.1 ≡ old.1))
-    ⊎ (HasFewSubfiles object × RefusesObject goes failures object h old new fault)
-
--- the same of the sink that holds a reader and a sink: its references stay what they are
-abbrev pub PassesTo : {S : Type 0} → (S → List story.StoryEvent → S → Type 0) → (S → ℕ) → ToMessage S → List ObjectEvent → ToMessage S → Type 0
-PassesTo goes failures a events b = (a.message.ghost_name ≡ b.message.ghost_name) × (a.sink.ghost_name ≡ b.sink.ghost_name)
-    × (IsSome a.message.now → TellsMessage goes failures (a.message.now, a.sink.now) events (b.message.now, b.sink.now))
-
-abbrev pub HaltsAt : {S : Type 0} → (S → List story.StoryEvent → S → Type 0) → (S → ℕ) → ToMessage S → List ObjectEvent → ObjectEvent → ToMessage S → Type 0
-HaltsAt goes failures a events refused b = (a.message.ghost_name ≡ b.message.ghost_name) × (a.sink.ghost_name ≡ b.sink.ghost_name)
-    × (IsSome a.message.now → MessageRefuses goes failures b.cause (a.message.now, a.sink.now) events refused (b.message.now, b.sink.now))
-
-pub goes_nowhere : (old : Option Place) → LeadsOn old [] [] old
-goes_nowhere old octets text at = rw (append-nil octets, append-nil text) at
-
-pub tells_message_nothing : {S : Type 0} {goes : S → List story.StoryEvent → S → Type 0} {failures : S → ℕ} {d : Option Place × S} → IsSome d.0
-    → goes d.1 [] d.1 → TellsMessage goes failures d [] d
-tells_message_nothing {d = d} some g = record { takes_calls = some; told = ([], g, goes_nowhere d.0); calm = refl; whole = λ before w e. w e }
-
--- What holds after some events, from wherever the reader stands, and then after others, holds after both.
-after_both : (p q : Option Place) (xs ys : List ObjectEvent) (added more : List ℕ) (P : List ℕ → List ℕ → Type 0) → LeadsOn p (flat_map octets_of xs) added q
-    → ((octets text : List ℕ) → StandsAt q octets text → P (octets ++ flat_map octets_of ys) (text ++ more)) → (octets text : List ℕ) → StandsAt p octets text
-    → P (octets ++ flat_map octets_of (xs ++ ys)) (text ++ (added ++ more))
-after_both p q xs ys added more P first then octets text at =
-    rw (flat_map-append octets_of xs ys, ← append_assoc octets (flat_map octets_of xs) (flat_map octets_of ys), ← append_assoc text added more)
-    (then (octets ++ flat_map octets_of xs) (text ++ added) (first octets text at))
-
-pub tells_message_joined : {S : Type 0} {goes : S → List story.StoryEvent → S → Type 0} {failures : S → ℕ}
-    → ((a b c : S) (xs ys : List story.StoryEvent) → goes a xs b → goes b ys c → goes a (xs ++ ys) c) → {d e f : Option Place × S} {xs ys : List ObjectEvent}
-    → TellsMessage goes failures d xs e → TellsMessage goes failures e ys f → TellsMessage goes failures d (xs ++ ys) f
-tells_message_joined joined {d} {e} {f} {xs} {ys} h k = record {
-  takes_calls = k.takes_calls;
-  told = (
-    h.told.0 ++ k.told.0,
-    rw (flat_map-append story.events_of h.told.0 k.told.0) (joined d.1 e.1 f.1 _ _ h.told.1 k.told.1),
-    after_both d.0 e.0 xs ys h.told.0 k.told.0 (StandsAt f.0) h.told.2 k.told.2,
-  );
-  calm = k.calm ∙ h.calm;
-  whole = λ before w is. k.whole _ (h.whole before w) (sym (fold-append _ before xs ys) ∙ is);
-}
-
-pub message_refuses_joined : {S : Type 0} {goes : S → List story.StoryEvent → S → Type 0} {failures : S → ℕ}
-    → ((a b c : S) (xs ys : List story.StoryEvent) → goes a xs b → goes b ys c → goes a (xs ++ ys) c) → {cause : Option MessageCause} {d e f : Option Place × S}
-    {xs ys : List ObjectEvent} {refused : ObjectEvent} → TellsMessage goes failures d xs e → MessageRefuses goes failures cause e ys refused f
-    → MessageRefuses goes failures cause d (xs ++ ys) refused f
-message_refuses_joined {failures = failures} joined {d = d} {e = e} {f = f} {xs = xs} {ys = ys} {refused = refused} h k = record {
-  why = k.why;
-  is_cause = k.is_cause;
-  told = (
-    h.told.0 ++ k.told.0,
-    rw (flat_map-append story.events_of h.told.0 k.told.0) (joined d.1 e.1 f.1 _ _ h.told.1 k.told.1),
-    after_both d.0 e.0 xs ys h.told.0 k.told.0 (λ octets text. (place : Place) × LeadsTo octets text place) h.told.2 k.told.2,
-  );
-  counts = subst (λ (n : ℕ). CountsCause n (failures f.1) k.why) h.calm k.counts;
-  has_cause = after_both d.0 e.0 xs ys h.told.0 [] (λ octets text. HasCauseAt k.why octets refused) h.told.2 k.has_cause;
-}
-
--- ---- What heads, data and ends of datasets lead the parts of an unpacker to.
 
 -- The events come in order: with some later ones they are those of whole datasets, one after another.
 pub record AreInOrder (events : List DatasetEvent) : Type 0 where
@@ -197,15 +96,6 @@ pub record LeadsParts (old : Parts) (events : List DatasetEvent) (more : List �
 abbrev pub TellsWhole : Parts → Head → List ℕ → Parts → Type 0
 TellsWhole old h xs new = LeadsParts old (HeadRead h ∷ (map DataOctet xs ++ DatasetEnd ∷ [])) [] new
 
--- From parts to parts by these events, and the sink was told what is delivered of the text that they add. (Parts and sink, before and
--- after.)
-pub record TellsParts {S : Type 0} (goes : S → List story.StoryEvent → S → Type 0) (failures : S → ℕ) (old : Parts × S)
-    (events : List DatasetEvent) (new : Parts × S) : Type 0 where
-  pub more : List ℕ
-  pub leads : LeadsParts old.0 events more new.0
-  pub told : goes old.1 (story.delivered more) new.1
-  pub calm : failures new.1 ≡ failures old.1
-
 -- The event is refused after these, which add this to the text, if all come in order.
 abbrev pub RefusesEvent : Parts → List DatasetEvent → List ℕ → DatasetEvent → TokenFault → Type 0
 RefusesEvent old events more event fault = (before : List DatasetEvent) (text : List ℕ) → AreInOrder ((before ++ events) ++ event ∷ [])
@@ -215,90 +105,167 @@ RefusesEvent old events more event fault = (before : List DatasetEvent) (text : 
 abbrev pub NotClosed : Parts → TokenFault → Type 0
 NotClosed old fault = ((n : ℕ) → CountsFor fault.cause n n) × RefusesEvent old [] [] DatasetEnd fault
 
--- The parts took the events and refused the next one. (What was refused; parts and sink, before and after: of the parts after it nothing
--- is said.)
-pub record PartsRefuse {S : Type 0} (goes : S → List story.StoryEvent → S → Type 0) (failures : S → ℕ) (refused : Option TokenFault)
-    (old : Parts × S) (events : List DatasetEvent) (event : DatasetEvent) (new : Parts × S) : Type 0 where
-  pub fault : TokenFault
-  pub is_fault : refused ≡ Some fault
-  pub more : List ℕ
-  pub told : goes old.1 (story.delivered more) new.1
-  pub counts : CountsFor fault.cause (failures old.1) (failures new.1)
-  pub why : RefusesEvent old.0 events more event fault
-
-abbrev pub Routes : {S : Type 0} → (S → List story.StoryEvent → S → Type 0) → (S → ℕ) → Router S → List DatasetEvent → Router S → Type 0
-Routes goes failures a events b = (a.parts.ghost_name ≡ b.parts.ghost_name) × (a.sink.ghost_name ≡ b.sink.ghost_name)
-    × TellsParts goes failures (a.parts.now, a.sink.now) events (b.parts.now, b.sink.now) × (room_of b.parts.now.fields ≡ room_of a.parts.now.fields)
-
-abbrev pub RefusesRoute : {S : Type 0} → (S → List story.StoryEvent → S → Type 0) → (S → ℕ) → Router S → List DatasetEvent → DatasetEvent → Router S → Type 0
-RefusesRoute goes failures a events event b = (a.parts.ghost_name ≡ b.parts.ghost_name) × (a.sink.ghost_name ≡ b.sink.ghost_name)
-    × PartsRefuse goes failures b.refused (a.parts.now, a.sink.now) events event (b.parts.now, b.sink.now)
-    × (room_of b.parts.now.fields ≡ room_of a.parts.now.fields)
-
 -- The parts take a head, or `left` octets.
 abbrev pub Takes : Parts → Option ℕ → Type 0
 Takes parts None = AreBetween false parts
 Takes parts (Some left) = TakesData parts left
 
--- The parts took a whole dataset, and take a head or have ended after it; or nothing was taken. (Parts and sink, before and after.)
-abbrev pub TookWhole : {S : Type 0} → (S → List story.StoryEvent → S → Type 0) → (S → ℕ) → Parts × S → Head → List ℕ → Parts × S → Option Step → Type 0
-TookWhole goes failures old h xs new None = (new.0 ≡ old.0) × (new.1 ≡ old.1)
-TookWhole goes failures old h xs new (Some step) =
-    TellsParts goes failures old (HeadRead h ∷ (map DataOctet xs ++ DatasetEnd ∷ [])) new × AfterStep Takes (AreBetween true) new.0 step
+-- (What a sink of stories may be told is `goes`, and `failures` are how often it stopped.)
+module _ {S : Type 0} (goes : S → List story.StoryEvent → S → Type 0) (failures : S → ℕ) where
+  -- The reader took the events, and the sink was told what is delivered of the text that they add. (Reader and sink, before and after.)
+  pub record TellsMessage (old : Option Place × S) (events : List ObjectEvent) (new : Option Place × S) : Type 0 where
+    pub takes_calls : IsSome new.0
+    pub told : TellsStory goes old.1 old.0 (flat_map octets_of events) new.0 new.1
+    pub calm : failures new.1 ≡ failures old.1
+    pub whole : (before : Bool) → (before ≡ true → IsWhole old.0) → end_is_last before events ≡ true → IsWhole new.0
 
-abbrev pub TakesNext : {S : Type 0} → Router S → Option ℕ → Type 0
-TakesNext router left = Takes router.parts.now left
+  -- The reader took the events and refused the next one for this cause; the sink was told what is delivered of those. (Reader and sink,
+  -- before and after: of the reader after it nothing is said.)
+  pub record MessageRefuses (cause : Option MessageCause)
+      (old : Option Place × S) (events : List ObjectEvent) (refused : ObjectEvent) (new : Option Place × S) : Type 0 where
+    pub why : MessageCause
+    pub is_cause : cause ≡ Some why
+    pub told : TellsFront goes old.1 old.0 (flat_map octets_of events) new.1
+    pub counts : CountsCause (failures old.1) (failures new.1) why
+    pub has_cause : (octets text : List ℕ) → StandsAt old.0 octets text → HasCauseAt why (octets ++ flat_map octets_of events) refused
 
-abbrev pub IsOver : {S : Type 0} → Router S → Type 0
-IsOver router = AreBetween true router.parts.now
+  -- The object refused the token of the head, and the sink was told nothing; or it took the end, and the message refused that. (Message and
+  -- sink, before and after.)
+  abbrev pub RefusesObject : Option State → Head → Option Place × S → Option Place × S → TokenFault → Type 0
+  RefusesObject object h old new fault =
+      (IsObjectFault object (head_token h.rec h.count) h fault × TellsMessage old [] new)
+      ⊎ ((why : MessageCause) × (fault ≡ message_on h why) × (head_token h.rec h.count ≡ ObjectEnded) × LivesWith object (head_token h.rec h.count)
+      × MessageRefuses (Some why) old [] ObjectEnd new)
 
--- ---- What is told one after another is told joined: the laws of the router.
+  -- The head of a subfile is one too many, wherever the object stands, and the sink was told nothing; or object or message refused it.
+  abbrev pub RefusesSubfile : Option State → Head → Option Place × S → Option Place × S → TokenFault → Type 0
+  RefusesSubfile object h old new fault =
+      (((p : ObjectPlace) → objects.StandsAt object p → max_subfiles ≤ length p.lengths) × (fault ≡ too_many_on h) × (new.1 ≡ old.1))
+      ⊎ (HasFewSubfiles object × RefusesObject object h old new fault)
+
+  -- the same of the sink that holds a reader and a sink: its references stay what they are
+  abbrev pub PassesTo : ToMessage S → List ObjectEvent → ToMessage S → Type 0
+  PassesTo a events b = (a.message.ghost_name ≡ b.message.ghost_name) × (a.sink.ghost_name ≡ b.sink.ghost_name)
+      × (IsSome a.message.now → TellsMessage (a.message.now, a.sink.now) events (b.message.now, b.sink.now))
+
+  abbrev pub HaltsAt : ToMessage S → List ObjectEvent → ObjectEvent → ToMessage S → Type 0
+  HaltsAt a events refused b = (a.message.ghost_name ≡ b.message.ghost_name) × (a.sink.ghost_name ≡ b.sink.ghost_name)
+      × (IsSome a.message.now → MessageRefuses b.cause (a.message.now, a.sink.now) events refused (b.message.now, b.sink.now))
+
+  -- From parts to parts by these events, and the sink was told what is delivered of the text that they add. (Parts and sink, before and
+  -- after.)
+  pub record TellsParts (old : Parts × S) (events : List DatasetEvent) (new : Parts × S) : Type 0 where
+    pub more : List ℕ
+    pub leads : LeadsParts old.0 events more new.0
+    pub told : goes old.1 (story.delivered more) new.1
+    pub calm : failures new.1 ≡ failures old.1
+
+  -- The parts took the events and refused the next one. (What was refused; parts and sink, before and after: of the parts after it nothing
+  -- is said.)
+  pub record PartsRefuse (refused : Option TokenFault) (old : Parts × S) (events : List DatasetEvent) (event : DatasetEvent) (new : Parts × S) : Type 0 where
+    pub fault : TokenFault
+    pub is_fault : refused ≡ Some fault
+    pub more : List ℕ
+    pub told : goes old.1 (story.delivered more) new.1
+    pub counts : CountsFor fault.cause (failures old.1) (failures new.1)
+    pub why : RefusesEvent old.0 events more event fault
+
+  abbrev pub Routes : Router S → List DatasetEvent → Router S → Type 0
+  Routes a events b = (a.parts.ghost_name ≡ b.parts.ghost_name) × (a.sink.ghost_name ≡ b.sink.ghost_name)
+      × TellsParts (a.parts.now, a.sink.now) events (b.parts.now, b.sink.now) × (room_of b.parts.now.fields ≡ room_of a.parts.now.fields)
+
+  abbrev pub RefusesRoute : Router S → List DatasetEvent → DatasetEvent → Router S → Type 0
+  RefusesRoute a events event b = (a.parts.ghost_name ≡ b.parts.ghost_name) × (a.sink.ghost_name ≡ b.sink.ghost_name)
+      × PartsRefuse b.refused (a.parts.now, a.sink.now) events event (b.parts.now, b.sink.now)
+      × (room_of b.parts.now.fields ≡ room_of a.parts.now.fields)
+
+  -- The parts took a whole dataset, and take a head or have ended after it; or nothing was taken. (Parts and sink, before and after.)
+  abbrev pub TookWhole : Parts × S → Head → List ℕ → Parts × S → Option Step → Type 0
+  TookWhole old h xs new None = (new.0 ≡ old.0) × (new.1 ≡ old.1)
+  TookWhole old h xs new (Some step) =
+      TellsParts old (HeadRead h ∷ (map DataOctet xs ++ DatasetEnd ∷ [])) new × AfterStep Takes (AreBetween true) new.0 step
+
+pub goes_nowhere : (old : Option Place) → LeadsOn old [] [] old
+goes_nowhere old octets text at = rw (append-nil octets, append-nil text) at
+
+-- What holds after some events, from wherever the reader stands, and then after others, holds after both.
+after_both : (p q : Option Place) (xs ys : List ObjectEvent) (added more : List ℕ) (P : List ℕ → List ℕ → Type 0) → LeadsOn p (flat_map octets_of xs) added q
+    → ((octets text : List ℕ) → StandsAt q octets text → P (octets ++ flat_map octets_of ys) (text ++ more)) → (octets text : List ℕ) → StandsAt p octets text
+    → P (octets ++ flat_map octets_of (xs ++ ys)) (text ++ (added ++ more))
+after_both p q xs ys added more P first then octets text at =
+    rw (flat_map-append octets_of xs ys, ← append_assoc octets (flat_map octets_of xs) (flat_map octets_of ys), ← append_assoc text added more)
+    (then (octets ++ flat_map octets_of xs) (text ++ added) (first octets text at))
 
 -- the events before others
 pub front_in_order : (xs ys : List DatasetEvent) → AreInOrder (xs ++ ys) → AreInOrder xs
 front_in_order xs ys order = record { later = ys ++ order.later; whole = order.whole; are = sym (append_assoc xs ys order.later) ∙ order.are }
 
-pub leads_parts_joined : {p q r : Parts} (xs ys : List DatasetEvent) (s t : List ℕ) → LeadsParts p xs s q → LeadsParts q ys t r
-    → LeadsParts p (xs ++ ys) (s ++ t) r
-leads_parts_joined xs ys s t h k = record {
-  limits = k.limits ∙ h.limits;
-  leads = λ before text order led.
-      let in_order = (rw (← append_assoc before xs ys) at order) in
-      rw (← append_assoc before xs ys, ← append_assoc text s t)
-      (k.leads (before ++ xs) (text ++ s) in_order (h.leads before text (front_in_order (before ++ xs) ys in_order) led));
-}
+module _ {S : Type 0} {goes : S → List story.StoryEvent → S → Type 0} {failures : S → ℕ} where
+  pub tells_message_nothing : {d : Option Place × S} → IsSome d.0 → goes d.1 [] d.1 → TellsMessage goes failures d [] d
+  tells_message_nothing {d} some g = record { takes_calls = some; told = ([], g, goes_nowhere d.0); calm = refl; whole = λ before w e. w e }
 
-pub tells_parts_nothing : {S : Type 0} {goes : S → List story.StoryEvent → S → Type 0} {failures : S → ℕ} {d : Parts × S} → goes d.1 [] d.1
-    → TellsParts goes failures d [] d
-tells_parts_nothing g =
-    record { more = []; leads = record { limits = refl; leads = λ before text order led. rw (append-nil before, append-nil text) led }; told = g; calm = refl }
+  pub tells_parts_nothing : {d : Parts × S} → goes d.1 [] d.1 → TellsParts goes failures d [] d
+  tells_parts_nothing g =
+      record { more = []; leads = record { limits = refl; leads = λ before text _ led. rw (append-nil before, append-nil text) led }; told = g; calm = refl }
 
-pub tells_parts_joined : {S : Type 0} {goes : S → List story.StoryEvent → S → Type 0} {failures : S → ℕ}
-    → ((a b c : S) (xs ys : List story.StoryEvent) → goes a xs b → goes b ys c → goes a (xs ++ ys) c) → {d e f : Parts × S} {xs ys : List DatasetEvent}
-    → TellsParts goes failures d xs e → TellsParts goes failures e ys f → TellsParts goes failures d (xs ++ ys) f
-tells_parts_joined joined {d} {e} {f} {xs} {ys} h k = record {
-  more = h.more ++ k.more;
-  leads = leads_parts_joined xs ys h.more k.more h.leads k.leads;
-  told = rw (flat_map-append story.events_of h.more k.more) (joined d.1 e.1 f.1 _ _ h.told k.told);
-  calm = k.calm ∙ h.calm;
-}
+  -- what is told one after another is told joined: the laws of the sinks
+  module _ (joined : (a b c : S) (xs ys : List story.StoryEvent) → goes a xs b → goes b ys c → goes a (xs ++ ys) c) where
+    pub tells_message_joined : {d e f : Option Place × S} {xs ys : List ObjectEvent} → TellsMessage goes failures d xs e → TellsMessage goes failures e ys f
+        → TellsMessage goes failures d (xs ++ ys) f
+    tells_message_joined {d} {e} {f} {xs} {ys} h k = record {
+      takes_calls = k.takes_calls;
+      told = (
+        h.told.0 ++ k.told.0,
+        rw (flat_map-append story.events_of h.told.0 k.told.0) (joined d.1 e.1 f.1 _ _ h.told.1 k.told.1),
+        after_both d.0 e.0 xs ys h.told.0 k.told.0 (StandsAt f.0) h.told.2 k.told.2,
+      );
+      calm = k.calm ∙ h.calm;
+      whole = λ before w is. k.whole _ (h.whole before w) (sym (fold-append _ before xs ys) ∙ is);
+    }
 
-pub stopped_joined : {S : Type 0} {goes : S → List story.StoryEvent → S → Type 0} {failures : S → ℕ}
-    → ((a b c : S) (xs ys : List story.StoryEvent) → goes a xs b → goes b ys c → goes a (xs ++ ys) c) → {refused : Option TokenFault} {d e f : Parts × S}
-    {xs ys : List DatasetEvent} {event : DatasetEvent} → TellsParts goes failures d xs e → PartsRefuse goes failures refused e ys event f
-    → PartsRefuse goes failures refused d (xs ++ ys) event f
-stopped_joined {failures = failures} joined {d = d} {e = e} {f = f} {xs = xs} {ys = ys} {event = event} h k = record {
-  fault = k.fault;
-  is_fault = k.is_fault;
-  more = h.more ++ k.more;
-  told = rw (flat_map-append story.events_of h.more k.more) (joined d.1 e.1 f.1 _ _ h.told k.told);
-  counts = subst (λ (n : ℕ). CountsFor k.fault.cause n (failures f.1)) h.calm k.counts;
-  why = λ before text order led.
-      let in_order = (rw (← append_assoc before xs ys) at order) in
-      let first = front_in_order (before ++ xs) ys (front_in_order ((before ++ xs) ++ ys) (event ∷ []) in_order) in
-      rw (← append_assoc before xs ys, ← append_assoc text h.more k.more, ← h.leads.limits)
-      (k.why (before ++ xs) (text ++ h.more) in_order (h.leads.leads before text first led));
-}
+    pub message_refuses_joined : {cause : Option MessageCause} {d e f : Option Place × S} {xs ys : List ObjectEvent} {refused : ObjectEvent}
+        → TellsMessage goes failures d xs e → MessageRefuses goes failures cause e ys refused f → MessageRefuses goes failures cause d (xs ++ ys) refused f
+    message_refuses_joined {d = d} {e = e} {f = f} {xs = xs} {ys = ys} {refused = refused} h k = record {
+      why = k.why;
+      is_cause = k.is_cause;
+      told = (
+        h.told.0 ++ k.told.0,
+        rw (flat_map-append story.events_of h.told.0 k.told.0) (joined d.1 e.1 f.1 _ _ h.told.1 k.told.1),
+        after_both d.0 e.0 xs ys h.told.0 k.told.0 (λ octets text. (place : Place) × LeadsTo octets text place) h.told.2 k.told.2,
+      );
+      counts = subst (λ (n : ℕ). CountsCause n (failures f.1) k.why) h.calm k.counts;
+      has_cause = after_both d.0 e.0 xs ys h.told.0 [] (λ octets text. HasCauseAt k.why octets refused) h.told.2 k.has_cause;
+    }
+
+    pub tells_parts_joined : {d e f : Parts × S} {xs ys : List DatasetEvent} → TellsParts goes failures d xs e → TellsParts goes failures e ys f
+        → TellsParts goes failures d (xs ++ ys) f
+    tells_parts_joined {d} {e} {f} {xs} {ys} h k = record {
+      more = h.more ++ k.more;
+      leads = record {
+        limits = k.leads.limits ∙ h.leads.limits;
+        leads = λ before text order led.
+            let in_order = (rw (← append_assoc before xs ys) at order) in
+            rw (← append_assoc before xs ys, ← append_assoc text h.more k.more)
+            (k.leads.leads (before ++ xs) (text ++ h.more) in_order (h.leads.leads before text (front_in_order (before ++ xs) ys in_order) led));
+      };
+      told = rw (flat_map-append story.events_of h.more k.more) (joined d.1 e.1 f.1 _ _ h.told k.told);
+      calm = k.calm ∙ h.calm;
+    }
+
+    pub stopped_joined : {refused : Option TokenFault} {d e f : Parts × S} {xs ys : List DatasetEvent} {event : DatasetEvent} → TellsParts goes failures d xs e
+        → PartsRefuse goes failures refused e ys event f → PartsRefuse goes failures refused d (xs ++ ys) event f
+    stopped_joined {d = d} {e = e} {f = f} {xs = xs} {ys = ys} {event = event} h k = record {
+      fault = k.fault;
+      is_fault = k.is_fault;
+      more = h.more ++ k.more;
+      told = rw (flat_map-append story.events_of h.more k.more) (joined d.1 e.1 f.1 _ _ h.told k.told);
+      counts = subst (λ (n : ℕ). CountsFor k.fault.cause n (failures f.1)) h.calm k.counts;
+      why = λ before text order led.
+          let in_order = (rw (← append_assoc before xs ys) at order) in
+          let first = front_in_order (before ++ xs) ys (front_in_order ((before ++ xs) ++ ys) (event ∷ []) in_order) in
+          rw (← append_assoc before xs ys, ← append_assoc text h.more k.more, ← h.leads.limits)
+          (k.why (before ++ xs) (text ++ h.more) in_order (h.leads.leads before text first led));
+    }
 
 -- parts of which the last dataset has ended take nothing: no head comes after it, and no dataset is begun
 pub ended_takes_nothing : (parts : Parts) (left : Option ℕ) → AreBetween true parts → Takes parts left → ⊥

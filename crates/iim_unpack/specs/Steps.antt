@@ -2,30 +2,23 @@
 use Rattle.std.specs.Prelude.{◌≡◌, ℕ, ◌≤◌, ◌⊎◌, List, [], length, take, ◌-◌, ◌==◌, if◌then◌else◌, sum, Option, true, false, slice_index, Some, None}
 use Rattle.wire_story.specs.Format.Texts as story
 use Rattle.iim_unpack.specs.States.Unpacking.{Unpacking, Stands, IsDoneWith, limits_in, has_ended, Parts}
-use Rattle.iim_places.specs.Format.Open.{Delivers}
-use Rattle.iim_dataset.specs.Format.Datasets.{Dataset}
-use Rattle.iim_fields.specs.Format.Causes.{section_after}
+use Rattle.iim_unpack.specs.Routes.{AreBetween, TellsParts, PartsRefuse, Takes}
+use Rattle.iim_unpack.specs.declared.intake.IntakeFault.{IntakeFault, TheVariants.Read, TheVariants.Interrupted}
+use Rattle.iim_places.specs.{Format.Open.Delivers, declared.fault.TokenFault.TokenFault, declared.refusal.Cause.Cause}
+use Rattle.iim_places.specs.Format.Tickets.{Phase, TagBegun, DataBegun, AllEnded, ticket_of}
+use Rattle.iim_dataset.specs.{Format.Datasets.Dataset, declared.device.IoFault.IoFault, declared.head.Head.Head}
+use Rattle.iim_dataset.specs.{declared.head.HeadCause.HeadCause}
+use Rattle.iim_dataset.specs.States.Reading.{TellsSink, to_come, named_by, Reader, Stops, TagDies, TookAll, TakesCalls}
+use Rattle.iim_dataset.specs.declared.place.DatasetPlace.{DatasetPlace, DatasetPlace as Place}
+use Rattle.iim_dataset.specs.declared.place.DatasetPlace.TheVariants.{Tag, Inside}
+use Rattle.iim_fields.specs.{Format.Causes.section_after, declared.limits.Limits.Limits}
 use Rattle.iim_fields.specs.States.Standing as records
 use Rattle.iim_object.specs.Format.Objects as object_places
 use Rattle.iim_object.specs.States.Reading as objects
 use Rattle.iim_object.specs.States.Reading.{stated_numbers}
-use Rattle.wire_message.specs.States.Reading.{IsAt}
-use Rattle.iim_places.specs.Format.Tickets.{Phase, TagBegun, DataBegun, AllEnded, ticket_of}
-use Rattle.iim_dataset.specs.States.Reading.{TellsSink, to_come, named_by, Reader, Stops, TagDies, TookAll, TakesCalls}
-use Rattle.iim_unpack.specs.Routes.{AreBetween, TellsParts, PartsRefuse, Takes}
-use Rattle.iim_fields.specs.declared.limits.Limits.{Limits}
-use Rattle.iim_dataset.specs.declared.device.IoFault.{IoFault}
+use Rattle.wire_message.specs.{States.Reading.IsAt, declared.saved.MessagePlace.MessagePlace}
 use Rattle.iim_dataset.specs.declared.device.IoFault.TheVariants as io
-use Rattle.iim_unpack.specs.declared.intake.IntakeFault.{IntakeFault}
-use Rattle.iim_unpack.specs.declared.intake.IntakeFault.TheVariants.{Read, Interrupted}
-use Rattle.iim_dataset.specs.declared.head.Head.{Head}
-use Rattle.iim_dataset.specs.declared.place.DatasetPlace.{DatasetPlace, DatasetPlace as Place}
-use Rattle.iim_dataset.specs.declared.place.DatasetPlace.TheVariants.{Tag, Inside}
-use Rattle.wire_message.specs.declared.saved.MessagePlace.{MessagePlace}
-use Rattle.iim_dataset.specs.declared.head.HeadCause.{HeadCause}
 use Rattle.iim_dataset.specs.declared.head.HeadCause.TheVariants as heads
-use Rattle.iim_places.specs.declared.fault.TokenFault.{TokenFault}
-use Rattle.iim_places.specs.declared.refusal.Cause.{Cause}
 use Rattle.iim_places.specs.declared.refusal.Cause.TheVariants as causes
 use Rattle.iim_places.specs.declared.refusal.Layer.TheVariants as layers
 
@@ -67,9 +60,8 @@ pub record IsSpelled (place : DatasetPlace) (parts : Parts) (ticket : List ℕ) 
   pub message : MessagePlace
   pub after : (ds : List Dataset) → records.StandsAfter parts.fields ds → section ≡ section_after ds
   pub inside : (ds : List Dataset) (h : Head) (given : List ℕ) → records.StandsIn parts.fields ds h given → section ≡ h.rec
-  pub numbers_are : (p : object_places.Place) → objects.StandsAt parts.object p → numbers ≡ stated_numbers p.stated
-  pub taken_is : (p : object_places.Place) → objects.StandsAt parts.object p → taken ≡ sum p.lengths - left_in place
-  pub heads_are : (p : object_places.Place) → objects.StandsAt parts.object p → heads ≡ length p.lengths
+  pub object : (p : object_places.Place) → objects.StandsAt parts.object p
+      → (numbers ≡ stated_numbers p.stated) × (taken ≡ sum p.lengths - left_in place) × (heads ≡ length p.lengths)
   pub message_is : IsAt parts.message message
   pub spelled : ticket ≡ ticket_of (record { section = section; phase = phase_in place parts; fields = parts.fields.kept; numbers = numbers; taken = taken; heads = heads; message = message })
 
@@ -80,41 +72,38 @@ abbrev pub cause_of_tag : HeadCause → Cause
 cause_of_tag heads.Marker = causes.Marker
 cause_of_tag heads.CountForm = causes.CountForm
 
--- ---- how a router leaves what it holds: parts and sink
-
--- The first `used` octets of the piece were used, and parts and sink went by what these complete: all of the piece, or those up to the end
--- of the last dataset. (The place, the parts and the sink before; the reader, the parts and the sink after.)
-pub record HasAdvanced {S : Type 0} (goes : S → List story.StoryEvent → S → Type 0) (failures : S → ℕ) (old : Place × Parts × S)
-    (piece : List ℕ) (new : Reader × Parts × S) (used : ℕ) : Type 0 where
-  pub takes_calls : TakesCalls new.0
-  pub within : used ≤ length piece
-  pub told : TellsSink (TellsParts goes failures) old.0 (take used piece) new.0.place (old.1, old.2) (new.1, new.2)
-  pub onward : TookAll Takes (AreBetween true) new.0.place new.1 (length piece) used
-
--- They went by what the octets before octet k complete, and no tag continues with it.
-pub record StuckInTag {S : Type 0} (goes : S → List story.StoryEvent → S → Type 0) (failures : S → ℕ) (old : Place × Parts × S)
-    (octets : List ℕ) (k : ℕ) (cause : HeadCause) (new : Place × Parts × S) : Type 0 where
-  pub told : TellsSink (TellsParts goes failures) old.0 (take k octets) new.0 (old.1, old.2) (new.1, new.2)
-  pub takes : Takes new.1 (to_come new.0)
-  pub dies : TagDies new.0 (slice_index octets k) cause
-
--- Why octet k is refused: no tag continues with it, or the parts refused what it completes. (What they refused; the place, the parts and
--- the sink, before and after.)
-abbrev pub FailsFor : {S : Type 0} → (S → List story.StoryEvent → S → Type 0) → (S → ℕ) → Option HeadCause → Option TokenFault → Place × Parts × S → List ℕ → ℕ
-    → Place × Parts × S → Type 0
-FailsFor goes failures None refused old octets k new = Stops (PartsRefuse goes failures refused) old.0 octets k (old.1, old.2) (new.1, new.2)
-FailsFor goes failures (Some cause) refused old octets k new = StuckInTag goes failures old octets k cause new
-
 -- the fault of a begun tag, of which these numbers are named
 abbrev pub tag_fault : ℕ × ℕ → HeadCause → TokenFault
 tag_fault names cause = record { layer = layers.Dataset; rec = names.0; set = names.1; cause = cause_of_tag cause }
 
--- why octet k of a piece is refused (the place, the parts and the sink, before and after)
-abbrev pub FailsAs : {S : Type 0} → (S → List story.StoryEvent → S → Type 0) → (S → ℕ) → Place × Parts × S → List ℕ → ℕ → TokenFault → Place × Parts × S
-    → Type 0
-FailsAs goes failures old octets k fault new =
-    ((cause : HeadCause) × StuckInTag goes failures old octets k cause new × (fault ≡ tag_fault (named_by new.0) cause))
-    ⊎ Stops (PartsRefuse goes failures (Some fault)) old.0 octets k (old.1, old.2) (new.1, new.2)
+-- ---- how a router leaves what it holds: parts and sink
+
+module _ {S : Type 0} (goes : S → List story.StoryEvent → S → Type 0) (failures : S → ℕ) where
+  -- The first `used` octets of the piece were used, and parts and sink went by what these complete: all of the piece, or those up to the
+  -- end of the last dataset. (The place, the parts and the sink before; the reader, the parts and the sink after.)
+  pub record HasAdvanced (old : Place × Parts × S) (piece : List ℕ) (new : Reader × Parts × S) (used : ℕ) : Type 0 where
+    pub takes_calls : TakesCalls new.0
+    pub within : used ≤ length piece
+    pub told : TellsSink (TellsParts goes failures) old.0 (take used piece) new.0.place (old.1, old.2) (new.1, new.2)
+    pub onward : TookAll Takes (AreBetween true) new.0.place new.1 (length piece) used
+
+  -- They went by what the octets before octet k complete, and no tag continues with it.
+  pub record StuckInTag (old : Place × Parts × S) (octets : List ℕ) (k : ℕ) (cause : HeadCause) (new : Place × Parts × S) : Type 0 where
+    pub told : TellsSink (TellsParts goes failures) old.0 (take k octets) new.0 (old.1, old.2) (new.1, new.2)
+    pub takes : Takes new.1 (to_come new.0)
+    pub dies : TagDies new.0 (slice_index octets k) cause
+
+  -- Why octet k is refused: no tag continues with it, or the parts refused what it completes. (What they refused; the place, the parts and
+  -- the sink, before and after.)
+  abbrev pub FailsFor : Option HeadCause → Option TokenFault → Place × Parts × S → List ℕ → ℕ → Place × Parts × S → Type 0
+  FailsFor None refused old octets k new = Stops (PartsRefuse goes failures refused) old.0 octets k (old.1, old.2) (new.1, new.2)
+  FailsFor (Some cause) refused old octets k new = StuckInTag old octets k cause new
+
+  -- why octet k of a piece is refused (the place, the parts and the sink, before and after)
+  abbrev pub FailsAs : Place × Parts × S → List ℕ → ℕ → TokenFault → Place × Parts × S → Type 0
+  FailsAs old octets k fault new =
+      ((cause : HeadCause) × StuckInTag old octets k cause new × (fault ≡ tag_fault (named_by new.0) cause))
+      ⊎ Stops (PartsRefuse goes failures (Some fault)) old.0 octets k (old.1, old.2) (new.1, new.2)
 
 -- It stands on some octets, or is done with some.
 abbrev pub Stood : Unpacking → Type 0

@@ -1,31 +1,18 @@
 -- What the program leaves, and why a run can't begin.
 use Rattle.std.specs.Prelude.{◌≡◌, ℕ, ◌⊎◌, ⊤, List, ◌++◌, codes, Result, Ok, Err}
 use Rattle.iim_dataset.specs.States.Devices.{Device}
-use Rattle.iim_request.specs.declared.request.UsageFault.{UsageFault}
+use Rattle.iim_request.specs.declared.request.{UsageFault.UsageFault, Request.Request}
+use Rattle.iim_request.specs.Format.{shown_name}
 use Rattle.iim_request.specs.declared.request.UsageFault.TheVariants as usage
 use Rattle.iimwire.specs.declared.start.RunFault.{RunFault}
 use Rattle.iimwire.specs.declared.start.RunFault.TheVariants.{Usage, NoText, CannotOpen, OutOfMemory}
-use Rattle.iim_output.specs.Format.{IsSaid, status_usage, status_failed}
-use Rattle.iim_request.specs.Format.{shown_name}
-use Rattle.iim_request.specs.declared.request.Request.{Request}
+use Rattle.iim_output.specs.Format.{IsSaid, fault_line, status_usage, status_failed}
+use Rattle.iim_output.specs.declared.fault.CommandFault.TheVariants as command
 use Rattle.iim_unpack.specs.States.Blocks.{with_held}
 use Rattle.iim_output.specs.States.Devices.{devices}
 use Rattle.iim_commands.specs.Format.{Ran}
 
 -- ---- Why a run can't begin, and what is left of it then.
-
--- the line that tells that memory was refused
--- twin: `tells_refused_memory_at_each_request_of_a_command`
-abbrev pub no_memory_line : List ℕ
-no_memory_line = codes "out of memory\n"
-
--- The text tells the fault of the words. What clap says of words is its own.
--- twin: `refuses_words_of_pack_and_audit`
-abbrev pub IsUsageText : UsageFault → List ℕ → Type 0
-IsUsageText (usage.Words error) text = ⊤
-IsUsageText usage.MaxNeedsUnknown text = text ≡ codes "--max needs --unknown\n"
-IsUsageText usage.BadNow text = text ≡ codes "bad --now\n"
-IsUsageText usage.OutOfMemory text = text ≡ no_memory_line
 
 -- The fault is printed as the other: what clap says of the words, by what it says of the words as they are shown, if there is memory
 -- for these; any other fault as it is.
@@ -35,34 +22,32 @@ IsPrintedAs (usage.Words error) usage.OutOfMemory = ⊤
 IsPrintedAs (usage.Words error) _ = ⊥
 IsPrintedAs fault other = other ≡ fault
 
--- The text tells why the run can't begin.
--- twin: `tells_words_that_are_no_text`, `tells_a_file_that_is_not_there`, `shows_each_character_of_a_name`
+-- The text tells why the run can't begin. What clap says of words is its own.
+-- twin: `refuses_words_of_pack_and_audit`, `tells_words_that_are_no_text`, `tells_a_file_that_is_not_there`,
+--   `shows_each_character_of_a_name`, `tells_refused_memory_at_each_request_of_a_command`
 abbrev pub TellsRunFault : RunFault → List ℕ → Type 0
-TellsRunFault (Usage fault) text = IsUsageText fault text
+TellsRunFault (Usage (usage.Words error)) text = ⊤
+TellsRunFault (Usage usage.MaxNeedsUnknown) text = text ≡ codes "--max needs --unknown\n"
+TellsRunFault (Usage usage.BadNow) text = text ≡ codes "bad --now\n"
+TellsRunFault (Usage usage.OutOfMemory) text = text ≡ fault_line command.OutOfMemory
 TellsRunFault NoText text = text ≡ codes "arguments are no text\n"
 TellsRunFault (CannotOpen name) text = text ≡ codes "cannot open " ++ (shown_name name.now ++ codes "\n")
-TellsRunFault OutOfMemory text = text ≡ no_memory_line
+TellsRunFault OutOfMemory text = text ≡ fault_line command.OutOfMemory
 
 -- the status for it: 2 where the words ask for nothing, else 3
--- twins (with status_of_start): `refuses_other_words`, `tells_words_that_are_no_text`, `tells_a_file_that_is_not_there`,
+-- twin: `refuses_other_words`, `tells_words_that_are_no_text`, `tells_a_file_that_is_not_there`,
 --   `tells_refused_memory_at_each_request_of_a_command`
-abbrev pub status_of_usage : UsageFault → ℕ
-status_of_usage (usage.Words error) = status_usage
-status_of_usage usage.MaxNeedsUnknown = status_usage
-status_of_usage usage.BadNow = status_usage
-status_of_usage usage.OutOfMemory = status_failed
-
 abbrev pub status_of_start : RunFault → ℕ
-status_of_start (Usage fault) = status_of_usage fault
+status_of_start (Usage usage.OutOfMemory) = status_failed
+status_of_start (Usage fault) = status_usage
 status_of_start NoText = status_usage
-status_of_start (CannotOpen name) = status_failed
-status_of_start OutOfMemory = status_failed
+status_of_start fault = status_failed
 
 -- It was told why the run can't begin, or that there is no memory for that.
 -- twin: `fails_where_faults_can_t_be_told`, `tells_a_full_device`
 abbrev pub IsHindered : RunFault → Device → Device → ℕ → Type 0
 IsHindered fault old new status = ((text : List ℕ) × TellsRunFault fault text × IsSaid old new text (status_of_start fault) status)
-    ⊎ IsSaid old new no_memory_line status_failed status
+    ⊎ IsSaid old new (fault_line command.OutOfMemory) status_failed status
 
 -- ---- What the program leaves.
 

@@ -11,10 +11,12 @@ mod start;
 mod words;
 
 ghost use Rattle.std.specs.Prelude.{◌≡◌, ◌≢◌, ◌⊎◌, IfSome, None};
+ghost use Rattle.iim_output.specs.States.Devices.{Devices};
+ghost use Rattle.iim_commands.specs.Format.{Ran};
 ghost use Rattle.std.specs.IoError.{error_kind};
 ghost use Rattle.std.specs.Process.{exit_status};
 ghost use Rattle.iim_output.specs.Format.{status_failed};
-ghost use Rattle.iimwire.specs.Ended.{EndsWith, EndsWithout};
+ghost use Rattle.iimwire.specs.Format.{status_of_start};
 
 use iim_commands::request::{Request, parse};
 use iim_dataset::{FromRead, FromWrite};
@@ -48,9 +50,11 @@ fn given_words(rt: &HostRuntime) -> io::Result<Vec<String>> {
 
 /// Opens the file that the request names, or else takes standard input.
 fn begin(rt: &HostRuntime, request: Request<'_>) -> ExitCode
-    ensures standard { request.entry.file ≡ None → EndsWith request.entry.job (exit_status result) }
+    ensures standard { request.entry.file ≡ None
+        → (old : Devices) × (new : Devices) × Ran request.entry.job old new (exit_status result) }
     ensures named { IfSome request.entry.file
-        (λ name. EndsWith request.entry.job (exit_status result) ⊎ (exit_status result ≡ status_failed)) }
+        (λ name. ((old : Devices) × (new : Devices) × Ran request.entry.job old new (exit_status result))
+        ⊎ (exit_status result ≡ status_failed)) }
 {
     let Some(name) = request.file else {
         return carry_out(rt, request, rt.stdin());
@@ -74,7 +78,7 @@ fn fault_of<'a>(error: &io::Error, other: RunFault<'a>) -> RunFault<'a>
 
 /// Carries out a request between a reader and the standard streams.
 fn carry_out<R: Read + Drop>(rt: &HostRuntime, request: Request<'_>, reader: R) -> ExitCode
-    ensures { EndsWith request.entry.job (exit_status result) }
+    ensures { (old : Devices) × (new : Devices) × Ran request.entry.job old new (exit_status result) }
 {
     let begun = Ok((request, FromRead::new(reader)));
     let output = FromWrite::new(rt.stdout());
@@ -85,7 +89,7 @@ fn carry_out<R: Read + Drop>(rt: &HostRuntime, request: Request<'_>, reader: R) 
 
 /// Tells on the standard streams why there is nothing to carry out.
 fn give_up(rt: &HostRuntime, fault: RunFault<'_>) -> ExitCode
-    ensures { EndsWithout fault.entry (exit_status result) }
+    ensures { (exit_status result ≡ status_of_start fault.entry) ⊎ (exit_status result ≡ status_failed) }
 {
     let output = FromWrite::new(rt.stdout());
     let errors = FromWrite::new(rt.stderr());

@@ -24,11 +24,11 @@ pub enum RunFault<'a> {
 }
 
 ghost use Rattle.iim_request.specs.Format.{shown_name};
-ghost use Rattle.iimwire.specs.Format.{status_of_usage, status_of_start, IsHindered, IsUsageText, TellsRunFault};
+ghost use Rattle.iimwire.specs.Format.{status_of_start, IsHindered, TellsRunFault};
 
 /// The status for a fault of the words.
 fn usage_status(fault: &UsageFault) -> u8
-    ensures { result ≡ status_of_usage fault.now }
+    ensures { result ≡ status_of_start (RunFault.Usage fault.now) }
 {
     match fault {
         UsageFault::Words(_) | UsageFault::MaxNeedsUnknown | UsageFault::BadNow => USAGE,
@@ -49,7 +49,7 @@ fn status(fault: &RunFault<'_>) -> u8
 
 /// The text that tells a fault of the words.
 fn usage_text(alloc: Global, fault: &UsageFault) -> Result<Vec<u8>, AllocError>
-    ensures { IfOk result (λ text. IsUsageText fault.now text.items) }
+    ensures { IfOk result (λ text. TellsRunFault (RunFault.Usage fault.now) text.items) }
 {
     match fault {
         UsageFault::Words(error) => {

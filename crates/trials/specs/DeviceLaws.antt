@@ -1,7 +1,6 @@
 -- The laws of the test reader, handed in by its impl.
 use Rattle.std.proofs.Common.{refl, ◌∙◌, arith}
-use Rattle.trials.specs.declared.device.Plan.{Plan}
-use Rattle.trials.specs.declared.device.TrialReader.{TrialReader}
+use Rattle.trials.specs.declared.device.{Plan.Plan, TrialReader.TrialReader}
 use Rattle.trials.specs.States.{GoesByPlan, ReadsOn, trial_device}
 use Rattle.iim_dataset.specs.Steps.{later_stays, later_leads_on}
 

@@ -1,16 +1,11 @@
 -- Test devices and a sink of tests, as contracts see them.
 use Rattle.std.specs.Prelude.{◌≡◌, ℕ, ◌+◌, ◌<◌, ◌≤◌, ◌⊎◌, ◌↔◌, Bool, true, false, List, length, drop, None, Some, Option, ◌-◌, min}
-use Rattle.iim_dataset.specs.States.Devices.{Device, Calm, LaterThan}
-use Rattle.iim_dataset.specs.declared.device.IoFault.{IoFault}
-use Rattle.iim_dataset.specs.declared.device.IoFault.TheVariants.{Interrupted, Failed}
-use Rattle.trials.specs.declared.device.Plan.{Plan}
-use Rattle.trials.specs.declared.device.Trouble.{Trouble}
+use Rattle.iim_dataset.specs.{States.Devices.Device, States.Devices.Calm, States.Devices.LaterThan, Format.Octets.Rose}
+use Rattle.iim_dataset.specs.declared.device.IoFault.{IoFault, TheVariants.Interrupted, TheVariants.Failed}
+use Rattle.trials.specs.declared.{device.Plan.Plan, device.Trouble.Trouble, device.TrialReader.TrialReader}
+use Rattle.trials.specs.declared.{device.TrialWriter.TrialWriter, sink.TrialSink.TrialSink}
 use Rattle.trials.specs.declared.device.Trouble.TheVariants.{Failure, Interruptions}
-use Rattle.trials.specs.declared.device.TrialReader.{TrialReader}
-use Rattle.trials.specs.declared.device.TrialWriter.{TrialWriter}
-use Rattle.iim_dataset.specs.Format.Octets.{Rose}
 use Rattle.wire_story.specs.Format.Texts.{StoryEvent}
-use Rattle.trials.specs.declared.sink.TrialSink.{TrialSink}
 
 -- ---- Test devices, as contracts see them.
 

@@ -1,10 +1,9 @@
 -- How a header is kept, and the octets of a class.
 use Rattle.std.specs.Prelude.{ℕ, ◌+◌, ◌≤◌, List, drop, length, slice_range, Bool}
 use Rattle.wire_message.specs.Format.Messages.{Header, header_of, IsHeader, is_alphanumeric, is_info_octet, is_trailer_octet, is_filler_octet, is_text_octet}
-use Rattle.iim_dataset.specs.Format.Octets.{is_digit, is_letter}
-use Rattle.wire_message.specs.declared.ends.Ends.{Ends}
-use Rattle.wire_message.specs.declared.class.Class.{Class}
 use Rattle.wire_message.specs.declared.class.Class.TheVariants.{Letter, Digit, Alphanumeric, Info, Trailer, Filler, Text}
+use Rattle.wire_message.specs.declared.{ends.Ends.Ends, class.Class.Class}
+use Rattle.iim_dataset.specs.Format.Octets.{is_digit, is_letter}
 
 -- the header whose parts end there in the octets: the number follows the source at once, and one octet, whichever it is, stands
 -- between other parts

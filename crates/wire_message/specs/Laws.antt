@@ -5,8 +5,7 @@ use Rattle.iim_dataset.specs.Format.Octets.{stx, IsAlive}
 use Rattle.wire_story.specs.Format.Texts.{packed_text, IsText, MakeText, with_end}
 use Rattle.wire_message.specs.Format.Messages.{Header, IsHeader, IsTrailer, IsMessage, BeginsWithHeader, canonical, MessageLanguage, MessageLivesWith, text_so_far, trailer_so_far, StoryLivesIn}
 use Rattle.wire_message.specs.States.Reading.{IsPlace, LeadsTo, Place, StandsAt, head_read, trailer_read, is_ended, saved}
-use Rattle.wire_message.specs.Format.Causes.{HasCause}
-use Rattle.wire_message.specs.declared.fault.MessageCause.{MessageCause}
+use Rattle.wire_message.specs.{Format.Causes.HasCause, declared.fault.MessageCause.MessageCause}
 
 -- An object is a message in one way at most.
 abbrev pub MessagesHaveOneReading : Type 0

@@ -2,19 +2,15 @@
 use Rattle.std.specs.Prelude.{◌≡◌, ℕ, ◌+◌, ◌<◌, ◌&&◌, ◌||◌, ◌==◌, nat_lt, if◌then◌else◌, Bool, false, List, [], ◌∷◌, length, Option, Some, ◌≤◌, ◌++◌, take}
 use Rattle.iim_dataset.specs.Format.Octets.{lf, sp, is_digit, is_letter}
 use Rattle.wire_message.specs.Format.Messages.{is_alphanumeric, is_info_octet, is_trailer_octet, is_filler_octet, max_filler, max_source, max_number, max_priority, max_category, max_words, max_info, max_trailer, Header, header_of, MessageDiesAt}
-use Rattle.wire_message.specs.States.Reading.{IsPlace, saved, Spells, StoryStands, Text, TellsStory, TellsFront, Refuses, CountsCause}
-use Rattle.wire_story.specs.Format.Texts.{StoryEvent, Octet}
-use Rattle.wire_message.specs.declared.part.HeaderPart.{HeaderPart}
+use Rattle.wire_message.specs.States.Reading.{IsPlace, saved, Spells, StoryStands, TellsStory, TellsFront, Refuses, CountsCause}
 use Rattle.wire_message.specs.declared.part.HeaderPart.TheVariants.{Source, Number, Priority, Category, Words}
-use Rattle.wire_message.specs.declared.part.HeaderTexts.{HeaderTexts}
-use Rattle.wire_message.specs.declared.place.Place.{Place}
 use Rattle.wire_message.specs.declared.place.Place.TheVariants.{Filler, InHeader, Info, Gap, Trailer, AfterEnd}
-use Rattle.wire_message.specs.declared.saved.MessagePlace.{MessagePlace}
-use Rattle.wire_story.specs.declared.fault.TextCause.{TextCause}
-use Rattle.wire_story.specs.declared.fault.TextCause.TheVariants as text_cause
-use Rattle.wire_message.specs.declared.fault.MessageCause.{MessageCause}
 use Rattle.wire_message.specs.declared.fault.MessageCause.TheVariants.{LoneReturn, ControlOctet, Sink}
-use Rattle.wire_message.specs.declared.fault.MessageFault.{MessageFault}
+use Rattle.wire_message.specs.declared.{part.HeaderPart.HeaderPart, part.HeaderTexts.HeaderTexts, place.Place.Place}
+use Rattle.wire_message.specs.declared.{saved.MessagePlace.MessagePlace, fault.MessageCause.MessageCause}
+use Rattle.wire_message.specs.declared.{fault.MessageFault.MessageFault}
+use Rattle.wire_story.specs.{Format.Texts.StoryEvent, Format.Texts.Octet, declared.fault.TextCause.TextCause}
+use Rattle.wire_story.specs.declared.fault.TextCause.TheVariants as text_cause
 
 -- ---- the parts of a header before its info
 
@@ -94,11 +90,6 @@ cause_of text_cause.ControlOctet = ControlOctet
 cause_of text_cause.Sink = Sink
 
 -- ---- one place and the next
-
--- It is not the text that is being read.
-abbrev pub IsNoText : Place → Type 0
-IsNoText (Text h reader) = ⊥
-IsNoText _ = Unit {0}
 
 -- With the octet no message can continue.
 abbrev pub DiesWith : Place → ℕ → Type 0

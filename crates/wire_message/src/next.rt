@@ -7,7 +7,7 @@ ghost use Rattle.wire_message.specs.States.Reading.{IsPlace};
 ghost use Rattle.wire_message.specs.declared.part.HeaderPart.{HeaderPart};
 ghost use Rattle.wire_message.specs.declared.part.HeaderTexts.{HeaderTexts};
 ghost use Rattle.wire_story.specs.declared.reader.TextReader.{TextReader};
-ghost use Rattle.wire_message.specs.Steps.{EndsPart, DiesWith, TakesSome, IsNoText};
+ghost use Rattle.wire_message.specs.Steps.{EndsPart, DiesWith, TakesSome};
 
 use crate::place::Place;
 use crate::step::{after_filler, begin_part, ends_part};
@@ -21,7 +21,7 @@ use std::mem;
 /// header's before its info.
 fn next_part(place: Place, rest: &[u8]) -> Option<Place>
     requires place { IsPlace place }
-    requires outside { IsNoText place }
+    requires outside { (head : Header) (text : TextReader) → place ≡ Place.Text head text → ⊥ }
     requires no_header { (part : HeaderPart) (texts : HeaderTexts) → place ≡ Place.InHeader part texts → ⊥ }
     requires some { 0 < length rest.now }
     requires ends { EndsPart place (slice_index rest.now 0) }
@@ -47,7 +47,7 @@ fn next_part(place: Place, rest: &[u8]) -> Option<Place>
 #[inline(never)]
 pub(crate) fn begin_next(place: &mut Place, rest: &[u8]) -> bool
     requires place { IsPlace place.old }
-    requires outside { IsNoText place.old }
+    requires outside { (head : Header) (text : TextReader) → place.old ≡ Place.Text head text → ⊥ }
     requires some { 0 < length rest.now }
     requires ends { EndsPart place.old (slice_index rest.now 0) }
     ensures takes { result ≡ true → TakesSome place.old rest.now place.new 1 }

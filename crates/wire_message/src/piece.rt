@@ -1,9 +1,11 @@
 //! How a piece of a message is read from a place on: by the longest runs that lie in one part, and else octet by octet.
 
 ghost use Rattle.std.specs.Prelude.{◌≡◌, ◌<◌, ◌≤◌, length, slice_index, take, IfOk, IfErr, IfSome, IfNone, OnOk};
+ghost use Rattle.wire_message.specs.Format.Messages.{Header};
 ghost use Rattle.wire_message.specs.States.Reading.{IsPlace};
+ghost use Rattle.wire_story.specs.declared.reader.TextReader.{TextReader};
 ghost use Rattle.wire_message.specs.declared.place.Place.TheVariants.{Filler};
-ghost use Rattle.wire_message.specs.Steps.{DiesWith, TakesSome, IsNoText, TakesOctets, RefusesInPart};
+ghost use Rattle.wire_message.specs.Steps.{DiesWith, TakesSome, TakesOctets, RefusesInPart};
 
 use crate::fault::{MessageCause, MessageFault};
 use crate::lengthen::lengthen;
@@ -40,7 +42,7 @@ fn take_head(place: &mut Place, rest: &[u8]) -> Option<usize>
 #[inline(never)]
 fn outside_text(place: &mut Place, rest: &[u8]) -> Option<usize>
     requires place { IsPlace place.old }
-    requires outside { IsNoText place.old }
+    requires outside { (head : Header) (text : TextReader) → place.old ≡ Place.Text head text → ⊥ }
     requires some { 0 < length rest.now }
     ensures takes { IfSome result (λ used. TakesSome place.old rest.now place.new used) }
     ensures dies { IfNone result (DiesWith place.old (slice_index rest.now 0)) }
@@ -66,7 +68,7 @@ fn take_outside_text<S: StorySink>(
     sink: &mut S,
 ) -> Result<usize, MessageFault>
     requires place { IsPlace place.old }
-    requires outside { IsNoText place.old }
+    requires outside { (head : Header) (text : TextReader) → place.old ≡ Place.Text head text → ⊥ }
     requires some { 0 < length rest.now }
     ensures some { IfOk result (λ used. 0 < used) }
     ensures within { IfOk result (λ used. used ≤ length rest.now) }

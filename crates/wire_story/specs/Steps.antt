@@ -1,16 +1,11 @@
 -- Lines joined by LF, masks of octets, and the laws of collected lines.
 use Rattle.std.specs.Prelude.{ℕ, ◌==◌, List, if◌then◌else◌, ◌≡◌, ◌+◌, ◌-◌, ◌^◌, ◌<◌, ◌≤◌, Bool, nat_lt, length, take, drop, map}
-use Rattle.std.specs.List.{slice_split}
-use Rattle.std.specs.Simd.Lanes.{mask_l}
-use Rattle.std.proofs.Common.{[], ◌∷◌, ◌++◌, refl, ap, ◌∙◌, false, arith, inl, inr, sym, subst}
-use Rattle.std.proofs.lemmas.Bool.{cases_lt}
-use Rattle.std.specs.Io.KnownBytes.{Appends}
+use Rattle.std.specs.{List.slice_split, Simd.Lanes.mask_l}
+use Rattle.std.proofs.Common.{rules, [], ◌∷◌, ◌++◌, refl, ap, ◌∙◌, false, arith}
 use Rattle.std.proofs.lemmas.List.{map-append}
-use Rattle.iim_dataset.specs.Format.Octets.{lf}
+use Rattle.iim_dataset.specs.{Steps.appends_nothing, Steps.appends_joined, Format.Octets.lf, States.Devices.Device}
 use Rattle.wire_story.specs.Format.Texts.{max_returns, line_end, LineOctet, inside_after, StoryEvent, LineEnd, octet_for, is_word_octet, WordsSoFar, words_told, CountsWords}
-use Rattle.wire_story.specs.States.Reading.{add_octet, collect, HasBroken, WritesOn}
-use Rattle.iim_dataset.specs.States.Devices.{Device, max_interruptions}
-use Rattle.iim_dataset.specs.Steps.{appends_nothing, appends_joined, rose_before, rose_after}
+use Rattle.wire_story.specs.States.Reading.{add_octet, collect, WritesOn}
 use Rattle.wire_story.specs.declared.marks.Marks.{Marks}
 
 -- the lines that are kept joined by LF
@@ -66,55 +61,28 @@ told-append inside (LineOctet b ∷ xs) ys = let more = told-append (is_word_oct
 told-append inside (LineEnd ∷ xs) ys = told-append false xs ys
 
 pub counts_nothing : (sink : WordsSoFar) → CountsWords sink [] sink
-counts_nothing sink = record {
-  words = λ few. omega (arith, few);
-  inside = refl;
-}
+counts_nothing sink = search (rules, arith)
 
 pub counts_joined : (a b c : WordsSoFar) (xs ys : List StoryEvent) → CountsWords a xs b → CountsWords b ys c → CountsWords a (xs ++ ys) c
 counts_joined a b c xs ys first later = record {
-  words = λ few.
-      let m = first.words few in
-      let n = rw first.inside at (later.words (omega (arith, m))) in
-      omega (arith, m, n, (told-append a.inside xs ys).0);
+  words = λ few. omega (arith, first.words, rw first.inside at later.words, (told-append a.inside xs ys).0);
   inside = rw (later.inside, first.inside, (told-append a.inside xs ys).1) refl;
 }
 
 -- ---- The laws of writers of lines, handed in by their impl.
 
 pub writes_nothing : (device : Device) (stops : ℕ) → WritesOn device device stops stops []
-writes_nothing device stops = record {
-  octets = appends_nothing device.octets;
-  failures = omega arith;
-  interruptions = omega arith;
-  stops = omega arith;
-  broken = λ more. absurd (omega (arith, more));
-  unbroken = λ same few. refl;
-}
-
-broken_before : (a b c : Device) → b.failures ≤ c.failures → b.interruptions ≤ c.interruptions → HasBroken a b → HasBroken a c
-broken_before a b c f i (inl h) = inl (rose_before 1 a.failures b.failures c.failures f h)
-broken_before a b c f i (inr h) = inr (rose_before max_interruptions a.interruptions b.interruptions c.interruptions i h)
-
-pub broken_after : (a b c : Device) → a.failures ≤ b.failures → a.interruptions ≤ b.interruptions → HasBroken b c → HasBroken a c
-broken_after a b c f i (inl h) = inl (rose_after 1 a.failures b.failures c.failures f h)
-broken_after a b c f i (inr h) = inr (rose_after max_interruptions a.interruptions b.interruptions c.interruptions i h)
+writes_nothing device stops = search (rules, arith, appends_nothing)
 
 pub writes_joined : (a b c : Device) (i j k : ℕ) (xs ys : List StoryEvent) → WritesOn a b i j (map octet_for xs) → WritesOn b c j k (map octet_for ys)
     → WritesOn a c i k (map octet_for (xs ++ ys))
 writes_joined a b c i j k xs ys h l = record {
-  octets = subst (Appends a.octets c.octets) (sym (map-append octet_for xs ys)) (appends_joined a.octets b.octets c.octets (map octet_for xs) (map octet_for ys) h.octets l.octets);
-  failures = omega (arith, h.failures, l.failures);
-  interruptions = omega (arith, h.interruptions, l.interruptions);
-  stops = omega (arith, h.stops, l.stops);
-  broken = λ more. elim (cases_lt i j) [
-    | inl first ↦ broken_before a b c l.failures l.interruptions (h.broken first)
-    | inr le ↦ broken_after a b c h.failures h.interruptions (l.broken (omega (arith, more, le)))
-  ];
-  unbroken = λ same few.
-      let first : j ≡ i = omega (arith, h.stops, l.stops, same) in
-      let later : k ≡ j = omega (arith, first, same) in
-      l.unbroken later few ∙ h.unbroken first (omega (arith, first, same, few));
+  octets = rw map-append (appends_joined a.octets b.octets c.octets (map octet_for xs) (map octet_for ys) h.octets l.octets);
+  failures = omega arith;
+  interruptions = omega arith;
+  stops = omega arith;
+  broken = grind (arith, h.broken, l.broken);
+  unbroken = grind (arith, h.unbroken, l.unbroken);
 }
 
 pub octets_of_line : (line : List ℕ) → map octet_for (map LineOctet line) ≡ line

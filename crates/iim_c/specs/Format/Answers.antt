@@ -1,14 +1,11 @@
 -- What a call answers, and a buffer that octets are written into.
 use Rattle.std.specs.Prelude.{ℕ, ◌≡◌, ◌≤◌, List, ◌++◌, length, take, map}
-use Rattle.iim_places.specs.Format.Causes.{cause_number}
+use Rattle.iim_places.specs.{Format.Causes.cause_number, Format.Streams.raised, declared.refusal.Refusal.Refusal}
+use Rattle.iim_places.specs.{declared.refusal.Layer.Layer, declared.ticket.fault.TicketFault.TicketFault}
+use Rattle.iim_places.specs.declared.refusal.Layer.TheVariants.{Dataset, Record, Limits, Object, Message, Story, Outside}
+use Rattle.iim_places.specs.declared.ticket.fault.TicketFault.TheVariants.{Form, Version, Impossible, HeaderFull, TooManyFields, OutOfMemory}
 use Rattle.iim_c.specs.Format.Statuses as status
 use Rattle.wire_story.specs.Format.Texts.{StoryEvent, octet_for}
-use Rattle.iim_places.specs.Format.Streams.{raised}
-use Rattle.iim_places.specs.declared.refusal.Refusal.{Refusal}
-use Rattle.iim_places.specs.declared.refusal.Layer.{Layer}
-use Rattle.iim_places.specs.declared.refusal.Layer.TheVariants.{Dataset, Record, Limits, Object, Message, Story, Outside}
-use Rattle.iim_places.specs.declared.ticket.fault.TicketFault.{TicketFault}
-use Rattle.iim_places.specs.declared.ticket.fault.TicketFault.TheVariants.{Form, Version, Impossible, HeaderFull, TooManyFields, OutOfMemory}
 pub use Rattle.iim_c.specs.declared.answer.IimAnswer.{IimAnswer}
 use Rattle.iim_c.specs.declared.text_out.TextOut.{TextOut}
 

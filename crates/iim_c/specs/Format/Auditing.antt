@@ -2,24 +2,18 @@
 use Rattle.std.specs.Prelude.{◌≡◌, ℕ, ◌-◌, ℤ, pos, List, ◌++◌, length, replicate, Option, is_some, ◌<◌, ◌≤◌, ◌⊎◌, [], ◌∷◌, take, drop, None, ⊤}
 use Rattle.std.specs.Option.{unwrap_or}
 use Rattle.iim_c.specs.Format.Tables.{TellsInstant, IsInstant, IsToldAs}
-use Rattle.iim_fields.specs.Format.Records.{instant_of_release, instant_of_expiration}
-use Rattle.iim_places.specs.Format.Admitted.{Value}
-use Rattle.iim_places.specs.Format.Open.{IsOpen}
-use Rattle.iim_places.specs.Format.Streams.{IsEnvelopeWithin, raised}
-use Rattle.iim_places.specs.Format.Tickets.{IsTicketOf}
-use Rattle.iim_audit.specs.Format.{HaveWords, Refuses, row_with}
 use Rattle.iim_c.specs.Format.Answers.{status_answer, short_answer, refusal_answer, IimAnswer, HoldsFirst}
 use Rattle.iim_c.specs.Format.Feeding.{IsSaid, IsNowhere, most_of_ticket}
-use Rattle.iim_c.specs.Format.Statuses as status
-use Rattle.iim_c.specs.Format.Tickets.{words_so_far, begins_at}
-use Rattle.iim_audit.specs.declared.copy.CopyState.{CopyState}
+use Rattle.iim_c.specs.{Format.Tickets.words_so_far, Format.Tickets.begins_at, declared.instant.IimInstant.IimInstant}
+use Rattle.iim_fields.specs.Format.Records.{instant_of_release, instant_of_expiration}
+use Rattle.iim_places.specs.{Format.Admitted.Value, Format.Open.IsOpen, Format.Streams.IsEnvelopeWithin}
+use Rattle.iim_places.specs.{Format.Streams.raised, Format.Tickets.IsTicketOf, declared.refusal.Refusal.Refusal}
+use Rattle.iim_audit.specs.Format.{HaveWords, Refuses, row_with}
 use Rattle.iim_audit.specs.declared.copy.CopyState.TheVariants.{Held, Expired, Free}
-use Rattle.iim_audit.specs.declared.row.AuditRow.{AuditRow}
+use Rattle.iim_audit.specs.declared.{copy.CopyState.CopyState, row.AuditRow.AuditRow}
+use Rattle.iim_c.specs.Format.Statuses as status
 use Rattle.iim_fields.specs.declared.limits.Limits.{Limits}
-use Rattle.iim_places.specs.declared.refusal.Refusal.{Refusal}
-use Rattle.iim_c.specs.declared.instant.IimInstant.{IimInstant}
-pub use Rattle.iim_c.specs.declared.row.IimAuditRow.{IimAuditRow}
-pub use Rattle.iim_c.specs.declared.so_far.IimSoFar.{IimSoFar}
+pub use Rattle.iim_c.specs.declared.{row.IimAuditRow.IimAuditRow, so_far.IimSoFar.IimSoFar}
 
 -- octets, and zeros after them up to a number of octets
 abbrev pub padded : ℕ → List ℕ → List ℕ

@@ -1,7 +1,6 @@
 -- What octets in memory are answered.
 use Rattle.std.specs.Prelude.{◌≡◌, ℕ, ◌==◌, ◌⊎◌, if◌then◌else◌, List}
-use Rattle.iim_fields.specs.Format.Records.{wire_limits}
-use Rattle.iim_fields.specs.declared.limits.Limits.{Limits}
+use Rattle.iim_fields.specs.{Format.Records.wire_limits, declared.limits.Limits.Limits}
 use Rattle.iim_places.specs.Format.Streams.{Answer, Finished, Refused, Truncated, Answers}
 use Rattle.iim_c.specs.declared.limits.IimLimits.{IimLimits}
 use Rattle.iim_c.specs.Format.Answers.{status_answer, refusal_answer, IimAnswer}

@@ -2,16 +2,13 @@
 use Rattle.std.specs.Prelude.{◌≡◌, ◌≢◌, ℕ, ◌+◌, ◌*◌, ◌<◌, ◌≤◌, ◌⊎◌, List, [], ◌∷◌, ◌++◌, length, take, map}
 use Rattle.iim_fields.specs.declared.limits.Limits.{Limits}
 use Rattle.wire_story.specs.Format.Texts.{StoryEvent, octet_for}
-use Rattle.iim_places.specs.Format.Admitted.{Value}
+use Rattle.iim_places.specs.{Format.Admitted.Value, States.Restored.IsTicketAt, States.Restored.IsRestoreFault}
+use Rattle.iim_places.specs.{Format.Streams.IsEnvelopeWithin, Format.Streams.raised, declared.refusal.Refusal.Refusal}
+use Rattle.iim_places.specs.{declared.refusal.Cause.TheVariants.Message, declared.ticket.fault.TicketFault.TicketFault}
 use Rattle.iim_places.specs.Format.Open.{IsOpen, Delivers, IsTruncatedAt}
-use Rattle.iim_places.specs.States.Restored.{IsTicketAt, IsRestoreFault}
-use Rattle.iim_places.specs.Format.Streams.{IsEnvelopeWithin, raised}
 use Rattle.iim_places.specs.Format.Tickets.{Place, IsPlaceOf, IsTicketOf}
 use Rattle.iim_unpack.specs.States.Unpacking.{IsRefusedIn}
-use Rattle.iim_places.specs.declared.refusal.Refusal.{Refusal}
-use Rattle.iim_places.specs.declared.refusal.Cause.TheVariants.{Message}
 use Rattle.wire_message.specs.declared.fault.MessageCause.TheVariants.{Sink}
-use Rattle.iim_places.specs.declared.ticket.fault.TicketFault.{TicketFault}
 use Rattle.iim_c.specs.Format.Answers.{status_answer, short_answer, refusal_answer, ticket_answer, IimAnswer, counted, HoldsFirst}
 use Rattle.iim_c.specs.Format.Statuses as status
 

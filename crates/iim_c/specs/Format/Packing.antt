@@ -1,12 +1,10 @@
 -- What a script and the way of packing are answered.
 use Rattle.std.specs.Prelude.{◌≡◌, ℕ, ◌<◌, ◌≤◌, ◌⊎◌, true, false, IsTrue, if◌then◌else◌, List, [], ◌++◌, length, drop, Some, None}
-use Rattle.iim_object.specs.Format.Objects.{is_plan}
-use Rattle.iim_object.specs.declared.size.Size.TheVariants.{Unknown}
+use Rattle.iim_object.specs.{Format.Objects.is_plan, declared.size.Size.TheVariants.Unknown}
 use Rattle.iim_pack_script.specs.Format.{Asked, asked, IsFormOf, IsScriptRefusal, IsScriptOf, ScriptContent, refusal_line}
 use Rattle.iim_request.specs.Format.{default_subfile}
-use Rattle.iim_c.specs.declared.packing.IimPacking.{IimPacking}
+use Rattle.iim_c.specs.{declared.packing.IimPacking.IimPacking, Format.Checking.given_or}
 use Rattle.iim_c.specs.Format.Answers.{status_answer, IimAnswer}
-use Rattle.iim_c.specs.Format.Checking.{given_or}
 use Rattle.iim_c.specs.Format.Statuses as status
 
 -- what is asked for, as the command has it: 1,024 octets of a full subfile stand for 0

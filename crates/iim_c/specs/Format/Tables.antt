@@ -1,31 +1,26 @@
 -- The tables, causes, names and instants, as C sees them.
 use Rattle.std.specs.Prelude.{ℕ, false, Option, Some, None, ◌==◌, List, [], ◌∷◌, codes, ◌≡◌, ◌+◌, ◌<◌, ◌≤◌, ◌&&◌, ◌⊎◌, Bool, ◌++◌, length, drop, ℤ, pos, ◌+ℤ◌, ◌*ℤ◌, true}
-use Rattle.std.specs.List.{find}
-use Rattle.std.specs.Option.{option_map}
+use Rattle.std.specs.{List.find, Option.option_map}
 use Rattle.iim_object.specs.Format.Causes.{pack_number}
 use Rattle.iim_places.specs.Format.Causes.{cause_name, cause_number, layer_name}
+use Rattle.iim_places.specs.declared.refusal.{Cause.Cause, Layer.Layer}
 use Rattle.iim_script.specs.Format.Causes as script_words
 use Rattle.iim_c.specs.Format.Answers.{ticket_number, layer_number}
+use Rattle.iim_c.specs.declared.{rule.IimRule.IimRule, instant.IimInstant.IimInstant}
 use Rattle.jiff.specs.Words.{IsTimestampNanos}
 use Rattle.iim_tables.specs.Format.Dates.{nanoseconds_in_second}
-use Rattle.iim_tables.specs.declared.shape.Kind.{Kind}
+use Rattle.iim_tables.specs.declared.shape.{Kind.Kind, Duty.Duty, Row.Row}
 use Rattle.iim_tables.specs.declared.shape.Kind.TheVariants.{Graphic, Spaced, SpacedLines, Letters, Digits, Date, PartDate, Time, Binary, Octets, Mode, Size, SizeFromOne}
-use Rattle.iim_tables.specs.declared.shape.Duty.{Duty}
 use Rattle.iim_tables.specs.declared.shape.Duty.TheVariants.{Mandatory, Optional, ByMode}
-use Rattle.iim_tables.specs.declared.shape.Row.{Row}
-use Rattle.iim_c.specs.declared.rule.IimRule.{IimRule}
 use Rattle.iim_fields.specs.declared.fault.FieldCause.TheVariants as fields
 use Rattle.iim_object.specs.declared.reading.fault.SizeCause.TheVariants as sizes
 use Rattle.iim_object.specs.declared.writing.cause.PackCause.TheVariants as packs
 use Rattle.wire_message.specs.declared.fault.MessageCause.TheVariants as messages
-use Rattle.iim_places.specs.declared.refusal.Cause.{Cause}
 use Rattle.iim_places.specs.declared.refusal.Cause.TheVariants as octets
 use Rattle.iim_places.specs.declared.ticket.fault.TicketFault.TheVariants as tickets
 use Rattle.iim_script.specs.declared.fault.ScriptCause.{ScriptCause}
 use Rattle.iim_script.specs.declared.fault.ScriptCause.TheVariants as script
 use Rattle.iim_places.specs.declared.refusal.Layer.TheVariants as layers
-use Rattle.iim_places.specs.declared.refusal.Layer.{Layer}
-use Rattle.iim_c.specs.declared.instant.IimInstant.{IimInstant}
 
 -- the kinds by their numbers
 -- twins (with duty_number): `tells_each_value_as_it_is_written`, `tells_the_tables`

@@ -1,30 +1,21 @@
 -- What a ticket tells: its parts and where they stand, what is begun at its place, and which octets can come next.
 use Rattle.std.specs.Prelude.{◌≡◌, ℕ, ◌+◌, ◌≤◌, ◌⊎◌, Bool, false, List, [], ◌∷◌, length, get_or, take, drop, None, is_some, ◌≢◌, ◌-◌, ◌==◌, if◌then◌else◌, ◌++◌, ◌<◌, ◌/◌, ◌%◌, ◌↔◌, replicate, ⊤}
-use Rattle.std.specs.Option.{unwrap_or}
-use Rattle.std.specs.Int.{bit_at}
+use Rattle.std.specs.{Option.unwrap_or, Int.bit_at}
 use Rattle.iim_dataset.specs.Format.Datasets.{Dataset, SpellsTag, count_octets, head_of, Begun, InTag, InData, Reads}
 use Rattle.iim_places.specs.Format.TicketForm.{Split, SplitsTicket, IsFaultOf}
-use Rattle.iim_c.specs.Format.Answers.{status_answer, ticket_answer, IimAnswer}
-use Rattle.iim_c.specs.Format.Statuses as status
-use Rattle.iim_fields.specs.Format.Causes.{section_after}
 use Rattle.iim_places.specs.Format.Causes.{Token, AtOctet, AtHead, AtValue, begun_record, begun_number}
-use Rattle.iim_places.specs.Format.Open.{RefusesNext, IsOpen}
 use Rattle.iim_places.specs.Format.Tickets.{Phase, TagBegun, DataBegun, AllEnded}
-use Rattle.iim_places.specs.Format.Admitted.{Value}
-use Rattle.iim_places.specs.Format.Streams.{IsEnvelopeWithin, Kills}
-use Rattle.iim_places.specs.States.Restored.{IsRestoreFault}
-use Rattle.iim_c.specs.Format.Feeding.{IsSaid}
+use Rattle.iim_places.specs.{Format.Open.RefusesNext, Format.Open.IsOpen, Format.Admitted.Value}
+use Rattle.iim_places.specs.{Format.Streams.IsEnvelopeWithin, Format.Streams.Kills, States.Restored.IsRestoreFault}
+use Rattle.iim_places.specs.declared.{ticket.fault.TicketFault.TicketFault, fault.TokenFault.TokenFault}
+use Rattle.iim_c.specs.Format.{Answers.status_answer, Answers.ticket_answer, Answers.IimAnswer, Feeding.IsSaid}
+use Rattle.iim_c.specs.declared.{field.IimDataset.IimDataset, header.IimMessage.IimMessage, sizes.IimObject.IimObject}
+use Rattle.iim_c.specs.declared.{begun.IimBegun.IimBegun, so_far.IimSoFar.IimSoFar}
+use Rattle.iim_c.specs.Format.Statuses as status
+use Rattle.iim_fields.specs.{Format.Causes.section_after, declared.limits.Limits.Limits}
 use Rattle.wire_story.specs.Format.Texts.{WordsSoFar}
 use Rattle.iim_audit.specs.Format.{no_words}
-use Rattle.iim_places.specs.declared.ticket.fault.TicketFault.{TicketFault}
-use Rattle.iim_c.specs.declared.field.IimDataset.{IimDataset}
-use Rattle.iim_c.specs.declared.header.IimMessage.{IimMessage}
-use Rattle.iim_c.specs.declared.sizes.IimObject.{IimObject}
 pub use Rattle.iim_c.specs.declared.span.IimSpan.{IimSpan}
-use Rattle.iim_fields.specs.declared.limits.Limits.{Limits}
-use Rattle.iim_places.specs.declared.fault.TokenFault.{TokenFault}
-use Rattle.iim_c.specs.declared.begun.IimBegun.{IimBegun}
-use Rattle.iim_c.specs.declared.so_far.IimSoFar.{IimSoFar}
 
 -- ---- places in a ticket
 

@@ -3,12 +3,10 @@ use Rattle.std.specs.Prelude.{◌≡◌, ℕ, ◌+◌, ◌^◌, ◌<◌, ◌≤�
 use Rattle.std.specs.List.{filter}
 use Rattle.byteorder.specs.Endian.{big_bytes}
 use Rattle.iim_dataset.specs.Format.Octets.{IsOctet, Octets, number, IsProperPrefix, sp, digit_zero, capital_a, backslash, small_x}
-pub use Rattle.iim_dataset.specs.declared.head.Head.{Head}
-pub use Rattle.iim_dataset.specs.declared.head.HeadFault.{HeadFault}
-use Rattle.iim_dataset.specs.declared.head.HeadCause.{HeadCause}
 use Rattle.iim_dataset.specs.declared.head.HeadCause.TheVariants.{Marker, CountForm}
-use Rattle.iim_dataset.specs.declared.device.IoFault.{IoFault}
 use Rattle.iim_dataset.specs.declared.device.IoFault.TheVariants.{Interrupted, Failed}
+use Rattle.iim_dataset.specs.declared.{head.HeadCause.HeadCause, device.IoFault.IoFault}
+pub use Rattle.iim_dataset.specs.declared.head.{Head.Head, HeadFault.HeadFault}
 
 -- a dataset: the number of its record, its number in the record, and its data
 pub record Dataset : Type 0 where

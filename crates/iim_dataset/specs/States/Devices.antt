@@ -1,12 +1,9 @@
 -- Sources and targets of octets, as contracts see them, and octets in memory that is taken once.
 use Rattle.std.specs.Prelude.{◌≡◌, ℕ, ◌≤◌, List, ◌+◌, ◌*◌, ◌^◌, ◌<◌, ◌⊎◌, length, take, Option}
 use Rattle.std.specs.Io.KnownBytes.{Appends, Consumes, Keeps, IsAtEnd}
-use Rattle.iim_dataset.specs.Format.Octets.{Rose}
-use Rattle.iim_dataset.specs.declared.device.IoFault.{IoFault}
+use Rattle.iim_dataset.specs.{Format.Octets.Rose, declared.device.IoFault.IoFault, declared.device.Faults.Faults}
+use Rattle.iim_dataset.specs.{declared.source.FromRead.FromRead, declared.target.FromWrite.FromWrite}
 use Rattle.iim_dataset.specs.declared.device.IoFault.TheVariants.{Interrupted, Failed}
-use Rattle.iim_dataset.specs.declared.device.Faults.{Faults}
-use Rattle.iim_dataset.specs.declared.source.FromRead.{FromRead}
-use Rattle.iim_dataset.specs.declared.target.FromWrite.{FromWrite}
 
 -- The octets of a device where they are known (those that a source will give, those that a target took), and its faults so far.
 pub record Device : Type 0 where

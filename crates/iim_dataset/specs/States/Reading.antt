@@ -1,15 +1,11 @@
 -- Where a reader of datasets stands, what it hands on, and how octets are refused.
 use Rattle.std.specs.Prelude.{ℕ, List, [], ◌∷◌, ◌++◌, map, flat_map, Option, Some, None, ◌≡◌, ◌+◌, ◌<◌, ◌≤◌, length, get_or, ◌⊎◌, take, slice_index, Bool, true, false}
 use Rattle.iim_dataset.specs.Format.Datasets.{Dataset, head_of, Head, Begun, InTag, InData, SpellsTag, count_octets, Reads, BeginsTag, BeginsNoTag, Concerns}
-pub use Rattle.iim_dataset.specs.declared.place.DatasetPlace.{DatasetPlace}
-pub use Rattle.iim_dataset.specs.declared.place.DatasetPlace.TheVariants.{Tag, Inside}
-use Rattle.iim_dataset.specs.declared.head.HeadCause.{HeadCause}
-use Rattle.iim_dataset.specs.declared.head.HeadCause.TheVariants as tags
-use Rattle.iim_dataset.specs.declared.sink.Step.{Step}
-use Rattle.iim_dataset.specs.declared.sink.Step.TheVariants.{More, Last}
-use Rattle.iim_dataset.specs.declared.fault.Fault.{Fault}
-use Rattle.iim_dataset.specs.declared.fault.FaultCause.{FaultCause}
 use Rattle.iim_dataset.specs.declared.fault.FaultCause.TheVariants.{Marker, CountForm, Stopped}
+use Rattle.iim_dataset.specs.declared.{head.HeadCause.HeadCause, sink.Step.Step, sink.Step.TheVariants.More}
+use Rattle.iim_dataset.specs.declared.{sink.Step.TheVariants.Last, fault.Fault.Fault, fault.FaultCause.FaultCause}
+pub use Rattle.iim_dataset.specs.declared.place.DatasetPlace.{DatasetPlace, TheVariants.Tag, TheVariants.Inside}
+use Rattle.iim_dataset.specs.declared.head.HeadCause.TheVariants as tags
 
 -- a complete head, an octet of data, or the end of a dataset
 pub data DatasetEvent : Type 0 where

@@ -1,20 +1,15 @@
 -- Why a head or a value is refused: the causes, the fault that is told, and how both are printed.
 use Rattle.std.specs.Prelude.{ℕ, Bool, false, not, ◌&&◌, ◌||◌, ◌==◌, ◌+◌, nat_le, if◌then◌else◌, List, [], ◌∷◌, length, flat_map, Option, Some, None, ◌≡◌, ◌≢◌, ◌<◌, ◌≤◌, ◌⊎◌, true, IsSomeAnd, IsTrue, codes, ◌++◌, decimal}
-use Rattle.std.specs.List.{find, filter, list_any}
-use Rattle.std.specs.Option.{option_or, option_map}
+use Rattle.std.specs.{List.find, List.filter, List.list_any, Option.option_or, Option.option_map}
 use Rattle.iim_dataset.specs.Format.Datasets.{Dataset, head_of, of_record, dataset_name}
-use Rattle.iim_dataset.specs.Format.Octets.{within, number}
-use Rattle.iim_tables.specs.Format.Rows.{row_of, is_admitted, Meets}
-use Rattle.iim_fields.specs.Format.Records.{after}
+use Rattle.iim_dataset.specs.{Format.Octets.within, Format.Octets.number, declared.head.Head.Head}
+use Rattle.iim_tables.specs.{Format.Rows.row_of, Format.Rows.is_admitted, Format.Rows.Meets, declared.shape.Row.Row}
 use Rattle.iim_tables.specs.Format.Records.{mandatory, occurs, has_file_format, repeats}
-use Rattle.iim_dataset.specs.declared.head.Head.{Head}
-use Rattle.iim_tables.specs.declared.shape.Row.{Row}
-pub use Rattle.iim_fields.specs.declared.limits.Limits.{Limits}
-pub use Rattle.iim_fields.specs.declared.fault.FieldFault.{FieldFault}
-use Rattle.iim_fields.specs.declared.fault.FieldCause.{FieldCause}
+use Rattle.iim_fields.specs.{Format.Records.after, declared.fault.FieldCause.FieldCause}
+use Rattle.iim_fields.specs.{declared.fault.CopyFault.CopyFault}
 use Rattle.iim_fields.specs.declared.fault.FieldCause.TheVariants.{RecordOrder, UnknownDataset, Repeated, CountRange, Missing, BadValue, FileFormat, HeaderFull, TooManyFields}
-use Rattle.iim_fields.specs.declared.fault.CopyFault.{CopyFault}
 use Rattle.iim_fields.specs.declared.fault.CopyFault.TheVariants.{Passed, OutOfMemory}
+pub use Rattle.iim_fields.specs.declared.{limits.Limits.Limits, fault.FieldFault.FieldFault}
 
 -- ---- the record layer
 

@@ -1,15 +1,11 @@
 -- Good records, what can continue to them, and what an envelope's fields are, tell and keep to.
 use Rattle.std.specs.Prelude.{◌≡◌, ℕ, ◌==◌, if◌then◌else◌, List, [], ◌∷◌, ◌++◌, Bool, ◌||◌, Option, Some, None, ◌≤◌, nat_eq, ◌&&◌, map, codes, ℤ}
-use Rattle.std.specs.List.{after_first, filter}
-use Rattle.std.specs.declared.cmp.Ordering.{Ordering}
+use Rattle.std.specs.{List.after_first, List.filter, declared.cmp.Ordering.Ordering, Cmp.Lexicographic.pointwise}
+use Rattle.std.specs.{Cmp.Lexicographic.slice_cmp, Option.option_and_then, Option.option_or}
 use Rattle.std.specs.Ordering.{nat_cmp, on, then_cmp, eq_of_both}
-use Rattle.std.specs.Cmp.Lexicographic.{pointwise, slice_cmp}
-use Rattle.std.specs.Option.{option_and_then, option_or}
-use Rattle.iim_dataset.specs.Format.Datasets.{Dataset, head_of}
-use Rattle.iim_tables.specs.Format.Records.{IsGoodRecord}
-use Rattle.iim_dataset.specs.Format.Octets.{IsAlive, number}
-use Rattle.iim_tables.specs.Format.Dates.{instant_in}
+use Rattle.iim_dataset.specs.Format.{Datasets.Dataset, Datasets.head_of, Octets.IsAlive, Octets.number}
 use Rattle.iim_dataset.specs.declared.head.Head.{Head}
+use Rattle.iim_tables.specs.Format.{Records.IsGoodRecord, Dates.instant_in}
 use Rattle.iim_fields.specs.declared.limits.Limits.{Limits}
 
 -- the records of an envelope, in their order

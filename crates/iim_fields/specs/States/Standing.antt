@@ -1,25 +1,17 @@
 -- Where a check of records, a reader of them and a builder of envelopes stand, and why they refuse.
 use Rattle.std.specs.Prelude.{◌≡◌, ℕ, Bool, false, List, length, slice_index_or, ◌≢◌, ⊤, [], ◌∷◌, ◌++◌, Option, Some, None, ◌+◌, ◌≤◌, ◌⊎◌, IsTrue, ◌^◌, ◌<◌, not, if◌then◌else◌}
-use Rattle.std.specs.Option.{option_and_then, option_or}
-use Rattle.std.specs.Int.{IsInRange}
+use Rattle.std.specs.{Option.option_and_then, Option.option_or, Int.IsInRange}
 use Rattle.iim_dataset.specs.Format.Datasets.{Dataset, head_of, of_record}
-use Rattle.iim_tables.specs.Format.Records.{occurs}
-use Rattle.iim_fields.specs.Format.Causes.{section_after, section_run, record_fault, value_fault, Limits, FieldFault, IsFault, first_fault, kept, kept_octets, is_kept, joined, missing_fault, missing_of, fault_on, limit_passed}
-use Rattle.iim_dataset.specs.Format.Octets.{Octets, number}
-use Rattle.iim_tables.specs.Format.Rows.{row_of}
-use Rattle.iim_fields.specs.Format.Records.{SectionsLive, SectionsLiveAt, number_told, data_of, IsWithin}
-use Rattle.iim_fields.specs.Format.Causes.Token.{AtHead, AtValue}
-use Rattle.iim_fields.specs.States.Stores.{Room}
-use Rattle.iim_tables.specs.Format.Kinds.{size_octets}
-use Rattle.iim_fields.specs.declared.order.Order.{Order}
-use Rattle.iim_dataset.specs.declared.head.Head.{Head}
+use Rattle.iim_dataset.specs.{Format.Octets.Octets, Format.Octets.number, declared.head.Head.Head}
+use Rattle.iim_tables.specs.Format.{Records.occurs, Rows.row_of, Kinds.size_octets}
 use Rattle.iim_tables.specs.declared.shape.Row.{Row}
-use Rattle.iim_fields.specs.declared.check.Begun.{Begun}
+use Rattle.iim_fields.specs.Format.Causes.{section_after, section_run, record_fault, value_fault, Limits, FieldFault, IsFault, first_fault, kept, kept_octets, is_kept, joined, missing_fault, missing_of, fault_on, limit_passed}
+use Rattle.iim_fields.specs.Format.Records.{SectionsLive, SectionsLiveAt, number_told, data_of, IsWithin}
+use Rattle.iim_fields.specs.{Format.Causes.Token.AtHead, Format.Causes.Token.AtValue, States.Stores.Room}
+use Rattle.iim_fields.specs.declared.{order.Order.Order, check.Begun.Begun, fault.FieldCause.FieldCause}
+use Rattle.iim_fields.specs.declared.{fault.FieldCause.TheVariants.RecordOrder, fault.CopyFault.CopyFault}
+use Rattle.iim_fields.specs.declared.{fault.CopyFault.TheVariants.Passed, fault.CopyFault.TheVariants.OutOfMemory}
 pub use Rattle.iim_fields.specs.declared.check.RecordPlace.{RecordPlace}
-use Rattle.iim_fields.specs.declared.fault.FieldCause.{FieldCause}
-use Rattle.iim_fields.specs.declared.fault.FieldCause.TheVariants.{RecordOrder}
-use Rattle.iim_fields.specs.declared.fault.CopyFault.{CopyFault}
-use Rattle.iim_fields.specs.declared.fault.CopyFault.TheVariants.{Passed, OutOfMemory}
 
 -- the number has occurred in the present record
 abbrev pub has_seen : Order → ℕ → Bool

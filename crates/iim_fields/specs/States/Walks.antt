@@ -1,10 +1,8 @@
 -- What a walk over an envelope has left.
 use Rattle.std.specs.Prelude.{ℕ, List}
-use Rattle.iim_fields.specs.Format.Records.{all_data}
-use Rattle.iim_fields.specs.declared.walk.DataIter.{DataIter}
+use Rattle.iim_fields.specs.{Format.Records.all_data, States.Stores.fields_from}
+use Rattle.iim_fields.specs.declared.walk.{DataIter.DataIter, FieldIter.FieldIter}
 use Rattle.iim_dataset.specs.Format.Datasets.{Dataset}
-use Rattle.iim_fields.specs.States.Stores.{fields_from}
-use Rattle.iim_fields.specs.declared.walk.FieldIter.{FieldIter}
 
 -- the datasets that are left
 abbrev pub rest_of : FieldIter → List Dataset

@@ -2,12 +2,11 @@
 use Rattle.std.specs.Prelude.{◌≡◌, ◌⊎◌, ℕ, ◌+◌, ◌<◌, List, [], ◌∷◌, ◌++◌, sum, Some, None, ◌==◌, Bool, false, ◌&&◌, not, nat_lt, min, if◌then◌else◌, is_some, Option, unwrap_or, codes, decimal}
 use Rattle.iim_dataset.specs.Format.Octets.{greatest_size}
 use Rattle.iim_object.specs.Format.Objects.{Stated, number_at, ObjectToken, NumberRead, SubfileBegun, ObjectEnded, Confirmed, Place}
-use Rattle.iim_object.specs.declared.reading.fault.SizeCause.{SizeCause}
 use Rattle.iim_object.specs.declared.reading.fault.SizeCause.TheVariants.{ModeClash, SizeClash, SubfileTooLong, PastSize, Short, ConfirmedWrong}
-use Rattle.iim_object.specs.declared.reading.fault.ObjectFault.{ObjectFault}
 use Rattle.iim_object.specs.declared.reading.fault.ObjectFault.TheVariants.{Size, Stopped}
-use Rattle.iim_object.specs.declared.writing.cause.PackCause.{PackCause}
 use Rattle.iim_object.specs.declared.writing.cause.PackCause.TheVariants.{OutOfMemory, PastAnnounced, ShortOfAnnounced, BadTextOctet, BadTrailer, Write, Failed}
+use Rattle.iim_object.specs.declared.{reading.fault.SizeCause.SizeCause, reading.fault.ObjectFault.ObjectFault}
+use Rattle.iim_object.specs.declared.{writing.cause.PackCause.PackCause}
 
 -- twin: "Each cause of sizes, and of a packer"; `names_each_cause`
 abbrev pub number_of : SizeCause → ℕ

@@ -1,13 +1,10 @@
 -- Objects: what records 7, 8 and 9 say of one, its tokens, and how far it has been read.
 use Rattle.std.specs.Prelude.{◌≡◌, ℕ, ◌≤◌, ◌==◌, ◌⊎◌, Bool, true, false, cond, List, [], ◌∷◌, length, sum, is_some, Option, Some, None, IfSome, ◌+◌, ◌*◌, ◌^◌, ◌&&◌, nat_le, nat_lt, min, unwrap_or, ◌<◌, ◌++◌, map, if◌then◌else◌}
-use Rattle.std.specs.List.{AllByRecursion}
-use Rattle.std.specs.Option.{option_or}
+use Rattle.std.specs.{List.AllByRecursion, Option.option_or}
 use Rattle.iim_dataset.specs.Format.Octets.{greatest_size, greatest_u32, number}
 use Rattle.iim_dataset.specs.Format.Datasets.{tag_octets, Dataset, of_record}
 use Rattle.iim_tables.specs.Format.Records.{IsGoodRecord}
-pub use Rattle.iim_object.specs.declared.size.Sizes.{Sizes}
-pub use Rattle.iim_object.specs.declared.size.Size.{Size}
-pub use Rattle.iim_object.specs.declared.size.Size.TheVariants.{Known, Unknown}
+pub use Rattle.iim_object.specs.declared.size.{Sizes.Sizes, Size.Size, Size.TheVariants.Known, Size.TheVariants.Unknown}
 
 -- the number of a dataset of record 7, with the dataset's own number
 pub record Stated : Type 0 where

@@ -2,11 +2,9 @@
 use Rattle.std.specs.Prelude.{◌≡◌, ℕ, ◌<◌, ◌==◌, true, if◌then◌else◌, is_some, Option, Some, None, ◌*◌, ◌≤◌, List, [], ◌∷◌, IfSome, ◌⊎◌, Bool, ◌++◌, length, map, sum, take, slice_index, ◌+◌}
 use Rattle.iim_object.specs.Format.Objects.{max_subfiles, InRow, mode_number, AreStated, number_at, sizes_at, Sizes, ObjectToken, ObjectEnded, Confirmed, ObjectLanguage, Place, NotEnded, MayFollow, HasBoth, place_after, tokens_of, ObjectEvent, ObjectOctet, ObjectEnd, Stated}
 use Rattle.iim_object.specs.Format.Causes.{number_cause, subfile_cause, bound, cause_at}
+use Rattle.iim_object.specs.declared.reading.fault.ObjectFault.{ObjectFault, TheVariants.Size, TheVariants.Stopped}
 use Rattle.iim_dataset.specs.Format.Octets.{greatest_size, IsAlive, DiesAt}
-pub use Rattle.iim_object.specs.declared.reading.state.State.{State}
-pub use Rattle.iim_object.specs.declared.reading.fault.SizeCause.{SizeCause}
-use Rattle.iim_object.specs.declared.reading.fault.ObjectFault.{ObjectFault}
-use Rattle.iim_object.specs.declared.reading.fault.ObjectFault.TheVariants.{Size, Stopped}
+pub use Rattle.iim_object.specs.declared.reading.{state.State.State, fault.SizeCause.SizeCause}
 
 abbrev pub state_start : State
 state_start = record { mode = None; subfile = None; announced = None; maximum = None; subfiles = 0; total = 0 }

@@ -5,8 +5,7 @@ use Rattle.std.specs.Io.KnownBytes.{Appends}
 use Rattle.iim_dataset.specs.Format.Datasets.{canonical_stream}
 use Rattle.iim_object.specs.Format.Objects.{bound_of, is_short, Known}
 use Rattle.iim_object.specs.Format.Packing.{AreFull, joined_parts, plan_datasets, subfile_datasets, IsWritten}
-use Rattle.iim_object.specs.declared.plan.Plan.{Plan}
-use Rattle.iim_object.specs.declared.writing.cause.PackCause.{PackCause}
+use Rattle.iim_object.specs.declared.{plan.Plan.Plan, writing.cause.PackCause.PackCause}
 use Rattle.iim_object.specs.declared.writing.cause.PackCause.TheVariants as causes
 
 -- A writer of subfiles is seen as its plan, the octets of the object that it holds, how many it has room for, how many octets of

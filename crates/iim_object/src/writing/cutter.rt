@@ -4,7 +4,7 @@ ghost use Rattle.std.specs.Prelude.{◌≡◌, ◌+◌, ◌-◌, ◌^◌, ◌<�
 ghost use Rattle.iim_dataset.specs.Format.Datasets.{canonical_dataset};
 ghost use Rattle.iim_object.specs.Format.Packing.{subfile_dataset};
 ghost use Rattle.iim_object.specs.States.Writing.{most_of, total_of, Lengthens, BreaksOff, ContinuesWith, IsTheWhole, Finishes, write_cause, finish_cause};
-ghost use Rattle.iim_object.specs.Steps.{writing_of, HasRoom, Puts, Cuts};
+ghost use Rattle.iim_object.specs.Steps.{writing_of, HasRoom, MayTake, Becomes, Puts, Cuts};
 ghost use Rattle.iim_object.specs.declared.writing.cause.PackCause.TheVariants as causes;
 
 use crate::laws::objects_are_cut_one_way;
@@ -45,19 +45,15 @@ impl<W: Target> Cutter<W> {
         requires unfailed { self.old.failed ≡ false }
         requires full { length self.old.held.items ≡ self.old.plan.subfile }
         ensures ok { OnOk result (Puts W.state self.old.output self.new.output
-            (canonical_dataset (subfile_dataset self.old.held.items))) }
-        ensures flushed { OnOk result (self.new ≡ record self.old {
-          held = self.new.held;
-          sent = self.old.sent + length self.old.held.items;
-          output = self.new.output;
-        }) }
-        ensures empty { OnOk result (self.new.held.items ≡ []) }
-        ensures room { HasRoom self.new }
-        ensures same_room { self.new.held.room ≡ self.old.held.room }
-        ensures err { OnErr result (Cuts W.state self.old.output self.new.output
-            (canonical_dataset (subfile_dataset self.old.held.items))) }
-        ensures halted { OnErr result (self.new ≡ record self.old { output = self.new.output; failed = true }) }
-        ensures cause { IfErr result (λ cause. cause ≡ causes.Write) }
+            (canonical_dataset (subfile_dataset self.old.held.items))
+            × Becomes self.new (record self.old {
+              held = record { items = []; room = self.old.held.room };
+              sent = self.old.sent + length self.old.held.items;
+              output = self.new.output;
+            })) }
+        ensures err { IfErr result (λ cause. (cause ≡ causes.Write)
+            × Cuts W.state self.old.output self.new.output (canonical_dataset (subfile_dataset self.old.held.items))
+            × Becomes self.new (record self.old { output = self.new.output; failed = true })) }
     {
         match self
             .output
@@ -80,12 +76,10 @@ impl<W: Target> Cutter<W> {
         requires room { HasRoom self.old }
         requires fits { total_of (writing_of self.old) + length rest.now ≤ most_of self.old.plan }
         requires short { length self.old.held.items < self.old.plan.subfile }
-        ensures within { result ≤ length rest.now }
-        ensures some { 0 < length rest.now → 0 < result }
-        ensures held { self.new.held.items ≡ self.old.held.items ++ take result rest.now }
-        ensures same { self.new ≡ record self.old { held = self.new.held } }
-        ensures same_room { self.new.held.room ≡ self.old.held.room }
-        ensures room { HasRoom self.new }
+        ensures some { (result ≤ length rest.now) × (0 < length rest.now → 0 < result) }
+        ensures fills { Becomes self.new (record self.old {
+          held = record { items = self.old.held.items ++ take result rest.now; room = self.old.held.room };
+        }) }
     {
         let room = (self.plan.subfile - self.held.len() as u64) as usize;
         let taken = room.min(rest.len());
@@ -95,19 +89,13 @@ impl<W: Target> Cutter<W> {
 
     /// Takes octets from the front, one at least, and answers how many.
     fn take_front(&mut self, rest: &[u8]) -> Result<usize, PackCause>
-        requires room { HasRoom self.old }
-        requires unfailed { self.old.failed ≡ false }
-        requires some { 0 < length rest.now }
-        requires within { total_of (writing_of self.old) + length rest.now ≤ most_of self.old.plan }
+        requires { MayTake self.old rest.now }
         ensures room { HasRoom self.new }
         ensures same_room { self.new.held.room ≡ self.old.held.room }
-        ensures within { IfOk result (λ taken. taken ≤ length rest.now) }
-        ensures some { IfOk result (λ taken. 0 < taken) }
-        ensures ok { IfOk result (λ taken.
-            Lengthens W.state (writing_of self.old) (writing_of self.new) (take taken rest.now)) }
-        ensures err { OnErr result (BreaksOff W.state (ContinuesWith self.old.plan rest.now) (writing_of self.old)
-            (writing_of self.new)) }
-        ensures cause { IfErr result (λ cause. cause ≡ causes.Write) }
+        ensures ok { IfOk result (λ taken. (0 < taken) × (taken ≤ length rest.now)
+            × Lengthens W.state (writing_of self.old) (writing_of self.new) (take taken rest.now)) }
+        ensures err { IfErr result (λ cause. (cause ≡ causes.Write)
+            × BreaksOff W.state (ContinuesWith self.old.plan rest.now) (writing_of self.old) (writing_of self.new)) }
     {
         texts_join();
         if self.held.len() as u64 == self.plan.subfile {

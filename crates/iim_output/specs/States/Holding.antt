@@ -2,8 +2,7 @@
 use Rattle.std.specs.Prelude.{◌≡◌, ℕ, ◌+◌, ◌<◌, List, [], ◌++◌, length, map}
 use Rattle.iim_dataset.specs.States.Devices.{Device, Wrote, BrokeAfter, WithinInterruptionLimit}
 use Rattle.iim_dataset.specs.Format.Octets.{Rose}
-use Rattle.wire_story.specs.Format.Texts.{StoryEvent, octet_for}
-use Rattle.wire_story.specs.States.Reading.{WritesOn}
+use Rattle.wire_story.specs.{Format.Texts.StoryEvent, Format.Texts.octet_for, States.Reading.WritesOn}
 pub use Rattle.iim_output.specs.declared.block_writer.BlockWriter.{BlockWriter}
 use Rattle.iim_output.specs.Format.{CommandFault, CannotWrite}
 

@@ -2,8 +2,7 @@
 use Rattle.std.specs.Prelude.{◌≡◌, ℕ, List, ◌++◌}
 use Rattle.iim_dataset.specs.Format.Datasets.{Dataset, canonical_stream}
 use Rattle.iim_fields.specs.Format.Records.{IsEnvelope}
-use Rattle.iim_object.specs.Format.Packing.{IsWritten, Suits}
-use Rattle.iim_object.specs.declared.plan.Plan.{Plan}
+use Rattle.iim_object.specs.{Format.Packing.IsWritten, Format.Packing.Suits, declared.plan.Plan.Plan}
 use Rattle.wire_message.specs.Format.Messages.{Header, IsMessage, canonical}
 use Rattle.wire_story.specs.Format.Texts.{IsText}
 

@@ -1,21 +1,18 @@
 -- Where a packer stands: how it begins, what it has taken and written, and a whole envelope in one call.
 use Rattle.std.specs.Prelude.{◌≡◌, ℕ, ◌+◌, ◌&&◌, not, nat_le, Bool, false, if◌then◌else◌, IsTrue, List, ◌++◌, length, Option, Some, None, ◌⊎◌, []}
-use Rattle.std.specs.List.{list_all}
-use Rattle.std.specs.Io.KnownBytes.{Appends}
+use Rattle.std.specs.{List.list_all, Io.KnownBytes.Appends}
 use Rattle.iim_dataset.specs.States.Devices.{Device, Wrote, Broke, WithinInterruptionLimit}
 use Rattle.iim_dataset.specs.Format.Datasets.{Dataset, canonical_stream}
 use Rattle.iim_fields.specs.Format.Records.{IsEnvelope}
-use Rattle.iim_object.specs.Format.Objects.{is_short}
-use Rattle.iim_object.specs.States.Writing as object
+use Rattle.iim_object.specs.{Format.Objects.is_short, declared.plan.Plan.Plan}
+use Rattle.iim_object.specs.{declared.writing.cause.PackCause.PackCause, declared.writing.cause.StartFault.StartFault}
 use Rattle.iim_object.specs.States.Writing.{Writing, total_of, passes_plan, Begins}
+use Rattle.iim_object.specs.States.Writing as object
 use Rattle.wire_story.specs.Format.Texts.{is_line_octet, StoryEvent, events_of_lines}
 use Rattle.wire_story.specs.Format.Packing.{packed_events, AreEvents, lines_of}
 use Rattle.wire_message.specs.Format.Messages.{is_trailer_octet, max_trailer, Header, IsHeader, packed_head, packed_tail, canonical}
 use Rattle.iim_pack.specs.Format.Packed.{Packed}
-use Rattle.iim_object.specs.declared.plan.Plan.{Plan}
-use Rattle.iim_object.specs.declared.writing.cause.PackCause.{PackCause}
 use Rattle.iim_object.specs.declared.writing.cause.PackCause.TheVariants as causes
-use Rattle.iim_object.specs.declared.writing.cause.StartFault.{StartFault}
 
 -- A packer is seen as how many octets records 1 and 2 have, and the writer of its object.
 pub record Packing (W : Type 0) : Type 0 where
@@ -81,10 +78,6 @@ pub record BreaksOff {W : Type 0} (state : W → Device) (Form : List Dataset �
 abbrev pub ContinuesWith : List StoryEvent → List Dataset → Header → List StoryEvent → Plan → List ℕ → Type 0
 ContinuesWith events fields head before plan whole = FormWith fields head plan (before ++ events) whole
 
--- the form of the lines of the text, with this trailer
-abbrev pub EndsIn : List ℕ → List Dataset → Header → List StoryEvent → Plan → List ℕ → Type 0
-EndsIn trailer fields head before plan whole = Packed fields head (lines_of before) trailer plan whole
-
 -- The form is out. A million interruptions at most came for each octet that was not out before.
 pub record Finishes {W : Type 0} (state : W → Device) (old : Packing W) (trailer : List ℕ) (writer : W) : Type 0 where
   pub more : List ℕ
@@ -117,29 +110,24 @@ line_end_cause k =
 abbrev pub is_trailer : List ℕ → Bool
 is_trailer trailer = list_all is_trailer_octet trailer && nat_le (length trailer) max_trailer
 
--- the first cause against an ending with the trailer, after `total` octets of the object
--- twins (with finish_cause): "An object that is below the known size", "Writers that take an octet a call and then fail", "A packer, call
---   by call"
+-- the first cause against an object of so many octets with this trailer: a bad trailer, an object that passes the bound, one below a
+-- known size
+-- twins (with finish_cause, pack_cause): "An object that is below the known size", "Writers that take an octet a call and then fail",
+--   "The first cause by order: a bad trailer, an object past the bound, one below a known size", "A packer, call by call"
 abbrev pub ending_cause : Plan → ℕ → List ℕ → Option PackCause
-ending_cause plan total trailer =
+ending_cause plan size trailer =
     if not (is_trailer trailer) then Some causes.BadTrailer
-    else if passes_plan plan (total + length (packed_tail trailer)) then Some causes.PastAnnounced
-    else if is_short plan.size (total + length (packed_tail trailer)) then Some causes.ShortOfAnnounced
+    else if passes_plan plan size then Some causes.PastAnnounced
+    else if is_short plan.size size then Some causes.ShortOfAnnounced
     else None
 
 abbrev pub finish_cause : {W : Type 0} → Packing W → List ℕ → Option PackCause
 finish_cause k trailer =
     if k.object.failed then Some causes.Failed
-    else ending_cause k.object.plan (total_of k.object) trailer
+    else ending_cause k.object.plan (total_of k.object + length (packed_tail trailer)) trailer
 
--- against `pack`: a bad trailer, an object that passes the bound, an object below a known size
--- twin: "The first cause by order: a bad trailer, an object past the bound, one below a known size"
 abbrev pub pack_cause : Header → List (List ℕ) → List ℕ → Plan → Option PackCause
-pack_cause head lines trailer plan =
-    if not (is_trailer trailer) then Some causes.BadTrailer
-    else if passes_plan plan (length (canonical head lines trailer)) then Some causes.PastAnnounced
-    else if is_short plan.size (length (canonical head lines trailer)) then Some causes.ShortOfAnnounced
-    else None
+pack_cause head lines trailer plan = ending_cause plan (length (canonical head lines trailer)) trailer
 
 -- The packer has taken these fields, this header and the text that comes in these events, and has not failed. Since its writer
 -- stood so, exactly this was written, `written` octets: the fields, record 7 of the plan and full subfiles. The data of those and
@@ -180,16 +168,13 @@ pub record StartBreaksOff {W : Type 0} (state : W → Device) (Form : List ℕ �
 
 -- The packer stands with an empty text, and what is out was written in this call. A million interruptions at most came for each octet.
 pub record Starts {W : Type 0} (state : W → Device) (writer : W) (fields : List Dataset) (head : Header) (plan : Plan) (k : Packing W) : Type 0 where
-  pub out : List ℕ
-  pub wrote : Wrote (state writer) (state k.object.writer) out
-  pub patience : WithinInterruptionLimit (length out) (state writer) (state k.object.writer)
-  pub counted : written_of k ≡ length out
+  pub begun : HasBegun state (state writer) k fields head [] plan
+  pub patience : WithinInterruptionLimit (length begun.out) (state writer) (state k.object.writer)
   pub total : total_of k.object ≡ length (packed_head head)
-  pub stands : HasPacked k fields head [] plan out
 
--- Memory was refused, and nothing was written; or a write failed.
-abbrev pub IsStartFault : {W : Type 0} → (W → Device) → List Dataset → Header → Plan → W → StartFault W → Type 0
-IsStartFault state fields head plan writer fault = StartIsRefused causes.OutOfMemory writer fault ⊎ StartBreaksOff state (FormWith fields head plan []) writer fault
+-- Memory was refused, and nothing was written; or a write failed, and what is out begins every such form.
+abbrev pub IsStartFault : {W : Type 0} → (W → Device) → (List ℕ → Type 0) → W → StartFault W → Type 0
+IsStartFault state Form writer fault = StartIsRefused causes.OutOfMemory writer fault ⊎ StartBreaksOff state Form writer fault
 
 -- The packed form is out. A million interruptions at most came for each octet.
 pub record Packs {W : Type 0} (state : W → Device) (writer : W) (fields : List Dataset) (head : Header) (lines : List (List ℕ)) (trailer : List ℕ) (plan : Plan) (last : W) : Type 0 where
@@ -197,7 +182,3 @@ pub record Packs {W : Type 0} (state : W → Device) (writer : W) (fields : List
   pub wrote : Wrote (state writer) (state last) out
   pub patience : WithinInterruptionLimit (length out) (state writer) (state last)
   pub packed : Packed fields head lines trailer plan out
-
--- Memory was refused, and nothing was written; or a write failed, and what is out begins the form.
-abbrev pub IsPackFault : {W : Type 0} → (W → Device) → List Dataset → Header → List (List ℕ) → List ℕ → Plan → W → StartFault W → Type 0
-IsPackFault state fields head lines trailer plan writer fault = StartIsRefused causes.OutOfMemory writer fault ⊎ StartBreaksOff state (Packed fields head lines trailer plan) writer fault

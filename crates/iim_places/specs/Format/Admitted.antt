@@ -1,13 +1,11 @@
 -- Octets that are an envelope with a message and a story in it, the value that they have, and envelopes as far as datasets and sizes go.
 use Rattle.std.specs.Prelude.{◌≡◌, ℕ, List, ◌≤◌, length}
 use Rattle.iim_dataset.specs.Format.Datasets.{Dataset, SpellsStream, count_octets, of_record}
-use Rattle.iim_fields.specs.Format.Records.{AreSections, IsWithin}
+use Rattle.iim_fields.specs.{Format.Records.AreSections, Format.Records.IsWithin, declared.limits.Limits.Limits}
 use Rattle.iim_fields.specs.Format.Causes.{kept, joined, kept_octets}
-use Rattle.iim_object.specs.Format.Objects.{HaveSizes, max_subfiles}
+use Rattle.iim_object.specs.{Format.Objects.HaveSizes, Format.Objects.max_subfiles, declared.size.Sizes.Sizes}
 use Rattle.wire_message.specs.Format.Messages.{Header, IsMessage}
 use Rattle.wire_story.specs.Format.Texts.{IsText}
-use Rattle.iim_object.specs.declared.size.Sizes.{Sizes}
-use Rattle.iim_fields.specs.declared.limits.Limits.{Limits}
 
 -- What an envelope has: the datasets of records 1 and 2, the header of the message, the lines of the story, the trailer of the
 -- message, and the sizes of the object.

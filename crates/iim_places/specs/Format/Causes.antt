@@ -1,34 +1,27 @@
 -- Why a token is refused: the causes with their numbers, names, layers and conditions, and the fault that is told.
 use Rattle.std.specs.Prelude.{ℕ, List, [], ◌∷◌, get_or, ◌≡◌, ◌≢◌, ◌+◌, ◌<◌, ◌≤◌, ◌⊎◌, ◌==◌, false, ◌++◌, length, sum, Option, None, Some, IsTrue, IsSomeAnd, codes, decimal, ◌&&◌, ◌||◌, not, nat_lt, if◌then◌else◌}
-use Rattle.std.specs.List.{list_any}
-use Rattle.std.specs.Option.{option_or, option_map}
+use Rattle.std.specs.{List.list_any, Option.option_or, Option.option_map}
 use Rattle.iim_dataset.specs.Format.Datasets.{Begun, InTag, InData, Dataset, head_of, of_record, count_octets, tag_marker, extended, dataset_name}
 use Rattle.iim_dataset.specs.Format.Octets.{soh, stx, etx, eot, lf, cr, number, greatest_size, IsAlive}
 use Rattle.iim_fields.specs.Format.Causes.{IsOutOfOrder, HasNoRow, IsRepeated, IsOutOfRange, IsAbsent, EndsTooEarly, IsBad, IsOtherFormat, PassesOctets, PassesFields, section_after, name_of_cause, kept, kept_octets, is_kept, first_fault, value_fault}
+use Rattle.iim_fields.specs.Format.Records.{SectionsLive, SectionsLiveAt, IsWithin, tells_number}
+use Rattle.iim_fields.specs.declared.{fault.FieldFault.FieldFault, fault.FieldCause.FieldCause, limits.Limits.Limits}
 use Rattle.iim_object.specs.Format.Objects.{max_subfiles, number_at, numbers_of, lengths_of, ObjectLanguage, Place, tokens_of, head_token, value_token, place_after_datasets, place_ended}
+use Rattle.iim_object.specs.{Format.Causes.name_of, Format.Causes.cause_at, declared.reading.fault.SizeCause.SizeCause}
 use Rattle.wire_story.specs.Format.Texts.{Holds, max_returns, with_end}
 use Rattle.wire_message.specs.Format.Messages.{MessageLanguage, MessageLivesWith, after_stx, text_so_far}
+use Rattle.wire_message.specs.{Format.Causes.name_of_message, declared.fault.MessageCause.MessageCause}
 use Rattle.iim_places.specs.Format.Admitted.{object_of, AreWithin}
-use Rattle.iim_object.specs.Format.Causes.{name_of, cause_at}
-use Rattle.wire_message.specs.Format.Causes.{name_of_message}
-use Rattle.iim_dataset.specs.Format.Octets as languages
-use Rattle.iim_fields.specs.Format.Records.{SectionsLive, SectionsLiveAt, IsWithin, tells_number}
-use Rattle.iim_dataset.specs.declared.head.Head.{Head}
-use Rattle.iim_fields.specs.declared.fault.FieldFault.{FieldFault}
-use Rattle.iim_fields.specs.declared.fault.FieldCause.{FieldCause}
-use Rattle.iim_fields.specs.declared.fault.FieldCause.TheVariants as fields
-use Rattle.iim_object.specs.declared.reading.fault.SizeCause.{SizeCause}
-use Rattle.wire_message.specs.declared.fault.MessageCause.{MessageCause}
-use Rattle.wire_message.specs.declared.fault.MessageCause.TheVariants as messages
-pub use Rattle.iim_places.specs.declared.fault.TokenFault.{TokenFault}
-use Rattle.iim_places.specs.declared.refusal.Refusal.{Refusal}
-pub use Rattle.iim_places.specs.declared.refusal.Layer.{Layer}
-use Rattle.iim_places.specs.declared.refusal.Layer.TheVariants as layers
-use Rattle.iim_places.specs.declared.refusal.Cause.{Cause}
-use Rattle.iim_places.specs.declared.refusal.Cause.TheVariants as causes
-use Rattle.iim_fields.specs.declared.limits.Limits.{Limits}
-use Rattle.iim_object.specs.declared.reading.fault.SizeCause.TheVariants as sizes
 use Rattle.iim_places.specs.declared.refusal.Cause.TheVariants.{Marker, CountForm, Truncated, Field, Size, Message, TooManySubfiles, Failed}
+use Rattle.iim_places.specs.declared.refusal.{Refusal.Refusal, Cause.Cause}
+use Rattle.iim_dataset.specs.Format.Octets as languages
+use Rattle.iim_dataset.specs.declared.head.Head.{Head}
+use Rattle.iim_fields.specs.declared.fault.FieldCause.TheVariants as fields
+use Rattle.wire_message.specs.declared.fault.MessageCause.TheVariants as messages
+pub use Rattle.iim_places.specs.declared.{fault.TokenFault.TokenFault, refusal.Layer.Layer}
+use Rattle.iim_places.specs.declared.refusal.Layer.TheVariants as layers
+use Rattle.iim_places.specs.declared.refusal.Cause.TheVariants as causes
+use Rattle.iim_object.specs.declared.reading.fault.SizeCause.TheVariants as sizes
 
 -- the layer that refuses for a cause of the records: the limits, or the record layer
 -- twins (with layer_of_message, tag_cause): law `refusals_tell_the_lowest_cause`; `refuses_random_envelopes`, `changes_each_octet`

@@ -1,23 +1,19 @@
 -- Octets from which every layer can continue, what they say of the text, and the refusal of the next one.
 use Rattle.std.specs.Prelude.{◌≡◌, ◌≢◌, ℕ, ◌==◌, ◌⊎◌, if◌then◌else◌, List, [], ◌∷◌, ◌++◌, length, map}
-use Rattle.iim_dataset.specs.Format.Octets.{IsOctet}
+use Rattle.iim_dataset.specs.{Format.Octets.IsOctet, declared.head.Head.Head}
 use Rattle.iim_dataset.specs.Format.Datasets.{Dataset, SpellsTag, head_of, count_octets, Begun, InTag, InData, Reads, CompletesData, BeginsNoTag}
 use Rattle.iim_dataset.specs.Format.Octets as languages
-use Rattle.iim_dataset.specs.declared.head.Head.{Head}
 use Rattle.iim_fields.specs.Format.Records.{SectionsLive, SectionsLiveAt, AreSections, data_of}
-use Rattle.iim_fields.specs.Format.Causes.{section_after}
-use Rattle.iim_fields.specs.declared.limits.Limits.{Limits}
+use Rattle.iim_fields.specs.{Format.Causes.section_after, declared.limits.Limits.Limits}
 use Rattle.iim_object.specs.Format.Objects.{place_after_datasets}
 use Rattle.wire_story.specs.Format.Texts as story
 use Rattle.wire_story.specs.Format.Texts.{OctetOrEnd, End, Octet}
 use Rattle.wire_message.specs.Format.Messages.{MessageLanguage, MessageLivesWith, MessageDiesAt, text_so_far, StoryLivesIn}
+use Rattle.wire_message.specs.declared.fault.MessageCause.{MessageCause, TheVariants.Unfinished}
 use Rattle.wire_message.specs.Format.Causes as wire
-use Rattle.wire_message.specs.declared.fault.MessageCause.{MessageCause}
-use Rattle.wire_message.specs.declared.fault.MessageCause.TheVariants.{Unfinished}
 use Rattle.iim_places.specs.Format.Admitted.{object_of}
 use Rattle.iim_places.specs.Format.Causes.{Token, AtOctet, AtHead, AtValue, IsNoOctet, IsNoEnd, TellsTheLowest, Names, CanContinueAt, HaveRoom, IsRefusedHead, IsRefusedValue, MayContinue, ObjectLives, place_at, message_on, begun_record, begun_number, tag_cause, TokenFault, Layer}
-use Rattle.iim_places.specs.declared.refusal.Cause.TheVariants.{Truncated}
-use Rattle.iim_places.specs.declared.refusal.Refusal.{Refusal}
+use Rattle.iim_places.specs.declared.refusal.{Cause.TheVariants.Truncated, Refusal.Refusal}
 use Rattle.iim_places.specs.declared.refusal.Layer.TheVariants as layers
 
 -- ---- what octets so far say

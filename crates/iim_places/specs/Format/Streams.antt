@@ -1,13 +1,11 @@
 -- What a whole stream is answered, and the envelopes that an input begins with.
 use Rattle.std.specs.Prelude.{◌≡◌, ◌≢◌, ℕ, ◌<◌, ◌≤◌, List, length, take, slice_index, ◌+◌, min, true, false, [], ◌∷◌, Bool, ◌⊎◌, ◌++◌, map}
 use Rattle.std.specs.List.{AllByRecursion}
-use Rattle.iim_places.specs.Format.Admitted.{Value, Admits, AreWithin}
-use Rattle.iim_places.specs.Format.Causes.{refusal_at, TokenFault}
-use Rattle.iim_places.specs.Format.Open.{IsOpen, RefusesNext, IsTruncatedAt}
+use Rattle.iim_places.specs.Format.{Admitted.Value, Admitted.Admits, Admitted.AreWithin, Causes.refusal_at}
+use Rattle.iim_places.specs.Format.{Causes.TokenFault, Open.IsOpen, Open.RefusesNext, Open.IsTruncatedAt}
+use Rattle.iim_places.specs.declared.refusal.{Refusal.Refusal, Cause.TheVariants.Message}
 use Rattle.iim_dataset.specs.Format.Octets.{greatest_u64}
 use Rattle.iim_fields.specs.declared.limits.Limits.{Limits}
-use Rattle.iim_places.specs.declared.refusal.Refusal.{Refusal}
-use Rattle.iim_places.specs.declared.refusal.Cause.TheVariants.{Message}
 use Rattle.wire_message.specs.declared.fault.MessageCause.TheVariants.{Sink}
 
 -- The octets are an envelope with this value, within the limits.

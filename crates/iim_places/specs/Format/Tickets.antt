@@ -1,15 +1,12 @@
 -- The place that octets lead to, and its ticket.
 use Rattle.std.specs.Prelude.{◌≡◌, ℕ, ◌+◌, ◌-◌, ◌==◌, if◌then◌else◌, List, [], ◌∷◌, ◌++◌, length, codes, Option, Some, None}
-use Rattle.std.specs.List.{flat_map}
-use Rattle.std.specs.Int.{w32, w64, to_be_bytes}
+use Rattle.std.specs.{List.flat_map, Int.w32, Int.w64, Int.to_be_bytes}
 use Rattle.iim_dataset.specs.Format.Datasets.{Dataset, of_record, count_octets, Begun, InTag, InData, Reads}
 use Rattle.iim_fields.specs.Format.Causes.{kept, section_after}
-use Rattle.iim_object.specs.Format.Objects.{numbers_of}
-use Rattle.iim_object.specs.States.Reading.{stated_numbers}
+use Rattle.iim_object.specs.{Format.Objects.numbers_of, States.Reading.stated_numbers}
 use Rattle.wire_message.specs.States.Reading.{LeadsToSaved}
-use Rattle.wire_message.specs.declared.saved.MessagePart.{MessagePart}
+use Rattle.wire_message.specs.declared.saved.{MessagePart.MessagePart, MessagePlace.MessagePlace}
 use Rattle.wire_message.specs.declared.saved.MessagePart.TheVariants as part
-use Rattle.wire_message.specs.declared.saved.MessagePlace.{MessagePlace}
 use Rattle.iim_places.specs.Format.Open.{object_so_far, section}
 
 -- ---- places

@@ -1,28 +1,23 @@
 -- Places at which an envelope can be: by datasets that lead there, by what each layer says, and by smaller sizes.
 use Rattle.std.specs.Prelude.{◌≡◌, ℕ, ◌+◌, ◌⊎◌, ◌≤◌, true, ⊤, Option, None, Some, if◌then◌else◌, List, length, zero, suc, Bool, [], ◌∷◌, ◌++◌, take, drop, ◌↔◌, ◌-◌, ◌==◌, false}
-use Rattle.std.specs.List.{AllByRecursion}
-use Rattle.std.specs.Option.{unwrap_or}
+use Rattle.std.specs.{List.AllByRecursion, Option.unwrap_or}
 use Rattle.iim_fields.specs.Format.Causes.{is_kept, joined, section_after}
 use Rattle.iim_fields.specs.Format.Records.{IsWithin, tells_number, SectionsLive, SectionsLiveAt, AreSections}
 use Rattle.iim_places.specs.Format.Admitted.{Value, Admits, object_of, AreWithin}
 use Rattle.iim_places.specs.Format.Open.{IsOpen, message_tokens, object_so_far}
-use Rattle.iim_places.specs.Format.Streams.{IsEnvelopeWithin}
 use Rattle.iim_places.specs.Format.Tickets.{Place, Phase, TagBegun, DataBegun, AllEnded, IsPlaceOf, first_version}
+use Rattle.iim_places.specs.Format.{Streams.IsEnvelopeWithin, TicketForm.came, Causes.HaveRoom, Causes.place_at}
 use Rattle.iim_dataset.specs.Format.Octets.{greatest_u32, Octets, number, IsAlive}
 use Rattle.iim_dataset.specs.Format.Datasets.{BeginsTag, Dataset, count_octets, SpellsStream, head_of, Begun, InTag, InData, Reads}
-use Rattle.iim_object.specs.Format.Packing.{number_dataset, subfile_datasets, confirmed_datasets}
 use Rattle.iim_dataset.specs.States.Reading.{IsPlace}
+use Rattle.iim_dataset.specs.declared.{head.Head.Head, place.DatasetPlace.TheVariants.Inside}
+use Rattle.iim_object.specs.Format.Packing.{number_dataset, subfile_datasets, confirmed_datasets}
 use Rattle.iim_object.specs.Format.Objects.{ObjectEnded, Confirmed, LanguageWithin, place_after_datasets}
 use Rattle.iim_object.specs.Format.Objects as objects
 use Rattle.iim_object.specs.States.Reading.{IsAt, IsPossible}
-use Rattle.wire_message.specs.States.Reading.{LeadsToSaved}
-use Rattle.iim_places.specs.Format.TicketForm.{came}
+use Rattle.wire_message.specs.{States.Reading.LeadsToSaved, declared.saved.MessagePart.TheVariants.AfterEnd}
 use Rattle.wire_message.specs.Format.Messages.{MessageLanguage, StoryLivesIn}
-use Rattle.iim_places.specs.Format.Causes.{HaveRoom, place_at}
 use Rattle.iim_fields.specs.declared.limits.Limits.{Limits}
-use Rattle.iim_dataset.specs.declared.head.Head.{Head}
-use Rattle.iim_dataset.specs.declared.place.DatasetPlace.TheVariants.{Inside}
-use Rattle.wire_message.specs.declared.saved.MessagePart.TheVariants.{AfterEnd}
 
 -- the widest limits: 4,294,967,295 octets and as many fields
 -- twin that nothing finds: no test has a ticket of 4 GB. Heads of up to 65,536 octets: "Long tickets"

@@ -1,25 +1,18 @@
 -- The readers that a ticket's place has.
 use Rattle.std.specs.Prelude.{ℕ, ◌≡◌, ◌==◌, if◌then◌else◌, Bool, true, List, Option, IsSome}
-use Rattle.iim_dataset.specs.States.Reading.{between, TakesCalls}
-use Rattle.iim_dataset.specs.declared.place.DatasetPlace.{DatasetPlace}
-use Rattle.iim_dataset.specs.declared.place.DatasetPlace.TheVariants.{Tag, Inside}
+use Rattle.iim_dataset.specs.{States.Reading.between, States.Reading.TakesCalls, Format.Datasets.Dataset}
+use Rattle.iim_dataset.specs.declared.place.DatasetPlace.{DatasetPlace, TheVariants.Tag, TheVariants.Inside}
 use Rattle.iim_places.specs.States.Possible.{head_of_numbers, LeadsByLayers, begun_of_object, object_after, record_datasets, IsSmallPlace, AreHeadsWithin}
 use Rattle.iim_places.specs.Format.Tickets.{Phase, TagBegun, DataBegun, AllEnded, Place}
-use Rattle.iim_dataset.specs.Format.Datasets.{Dataset}
+use Rattle.iim_places.specs.{Laws.split_of, Format.TicketForm.Split, declared.ticket.possible.Readers.Readers}
+use Rattle.iim_places.specs.{States.Restored.octets_told, States.Restored.fields_told, Format.Streams.are_some}
 use Rattle.iim_fields.specs.States.Standing.{FieldsPlace, StandsAfter, StandsIn}
 use Rattle.iim_object.specs.Format.Objects as objects
 use Rattle.iim_object.specs.States.Reading as reading
-use Rattle.iim_object.specs.States.Reading.{IsAt, IsPossible}
-use Rattle.iim_object.specs.declared.reading.state.State.{State}
+use Rattle.iim_object.specs.{States.Reading.IsAt, States.Reading.IsPossible, declared.reading.state.State.State}
 use Rattle.wire_message.specs.States.Reading as wire
-use Rattle.wire_message.specs.States.Reading.{LeadsToSaved}
-use Rattle.wire_message.specs.declared.place.Place.{Place as Message}
+use Rattle.wire_message.specs.{States.Reading.LeadsToSaved, declared.place.Place.Place as Message}
 use Rattle.iim_fields.specs.declared.limits.Limits.{Limits}
-use Rattle.iim_places.specs.Laws.{split_of}
-use Rattle.iim_places.specs.Format.TicketForm.{Split}
-use Rattle.iim_places.specs.declared.ticket.possible.Readers.{Readers}
-use Rattle.iim_places.specs.States.Restored.{octets_told, fields_told}
-use Rattle.iim_places.specs.Format.Streams.{are_some}
 
 -- where the next octet stands
 abbrev pub tag_place : ℕ → Phase → DatasetPlace

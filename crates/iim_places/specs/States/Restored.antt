@@ -1,14 +1,12 @@
 -- The tickets of possible places, what they tell, and why one is refused.
 use Rattle.std.specs.Prelude.{◌≡◌, ℕ, ◌+◌, ◌<◌, ◌≤◌, List, length, map}
-use Rattle.iim_fields.specs.Format.Causes.{joined}
+use Rattle.iim_fields.specs.{Format.Causes.joined, declared.limits.Limits.Limits}
 use Rattle.iim_places.specs.States.Possible.{IsPossibleIn, AreHeadsWithin, begun_count, begun_fields}
 use Rattle.iim_places.specs.Format.TicketForm.{Split, IsVersion, SplitsTicket, IsFaultOf, Form, Version, Impossible, HeaderFull, TooManyFields, OutOfMemory}
 use Rattle.iim_places.specs.Format.Tickets.{Place, ticket_in, Phase, TagBegun, DataBegun, AllEnded}
-use Rattle.iim_fields.specs.declared.limits.Limits.{Limits}
-use Rattle.iim_places.specs.declared.ticket.fault.TicketFault.{TicketFault}
-use Rattle.iim_places.specs.declared.ticket.split.TicketParts.{TicketParts}
-use Rattle.iim_places.specs.declared.ticket.split.TicketPhase.{TicketPhase}
 use Rattle.iim_places.specs.declared.ticket.split.TicketPhase.TheVariants.{Tag, Data, Ended}
+use Rattle.iim_places.specs.declared.ticket.{fault.TicketFault.TicketFault, split.TicketParts.TicketParts}
+use Rattle.iim_places.specs.declared.ticket.{split.TicketPhase.TicketPhase}
 
 -- The octets are the ticket of this place in a version in which it is possible.
 pub record IsTicketAt (ticket : List ℕ) (place : Place) : Type 0 where

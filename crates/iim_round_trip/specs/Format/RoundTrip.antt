@@ -3,31 +3,32 @@ use Rattle.std.specs.Prelude.{ℕ, List, ◌≡◌, ◌++◌, length, ◌≢◌,
 pub use Rattle.iim_dataset.specs.Format.Datasets.{Dataset}
 use Rattle.iim_object.specs.Format.Packing.{packed_sizes}
 pub use Rattle.wire_message.specs.Format.Messages.{Header}
-use Rattle.wire_message.specs.Format.Messages.{canonical}
+use Rattle.wire_message.specs.{Format.Messages.canonical, declared.fault.MessageCause.TheVariants.Sink}
 pub use Rattle.iim_places.specs.Format.Admitted.{Value}
-use Rattle.iim_fields.specs.Format.Causes.{joined}
-use Rattle.iim_fields.specs.Format.Records.{IsWithin}
+use Rattle.iim_fields.specs.Format.{Causes.joined, Records.IsWithin}
 use Rattle.wire_story.specs.Format.Texts as story
 pub use Rattle.iim_pack.specs.Format.Packed.{Packed}
 use Rattle.iim_unpack.specs.Format.Pieces.{HasParts}
 use Rattle.iim_dataset.specs.Format.Octets.{Rose}
 use Rattle.iim_unpack.specs.Format.Pieces as pieces
-use Rattle.iim_places.specs.Format.Streams.{Answer}
+use Rattle.iim_places.specs.{Format.Streams.Answer, declared.refusal.Cause.TheVariants.Message}
 pub use Rattle.iim_object.specs.declared.plan.Plan.{Plan}
 pub use Rattle.iim_fields.specs.declared.limits.Limits.{Limits}
 pub use Rattle.iim_unpack.specs.declared.unpacker.Unpacked.{Unpacked}
-use Rattle.iim_places.specs.declared.refusal.Cause.TheVariants.{Message}
-use Rattle.wire_message.specs.declared.fault.MessageCause.TheVariants.{Sink}
 pub use Rattle.iim_round_trip.specs.declared.unpacking.UnpackFault.{UnpackFault}
 pub use Rattle.iim_round_trip.specs.declared.unpacking.UnpackFault.TheVariants.{OutOfMemory, Refused}
-use Rattle.iim_places.specs.declared.refusal.Cause.{Cause}
 
 -- The fields have no more octets than the limits allow, and are no more.
 abbrev pub FieldsAreWithin : Limits → List Dataset → Type 0
 FieldsAreWithin limits fields = IsWithin limits (length (joined fields)) (length fields)
 
--- The stream begins with what was packed, within the limits. Anything may follow.
-pub record BeginsPacked (limits : Limits) (stream : List ℕ) (fields : List Dataset) (head : Header) (lines : List (List ℕ)) (trailer : List ℕ) (plan : Plan) : Type 0 where
+-- The stream begins with what was packed of these, within the limits. Anything may follow.
+pub record BeginsPacked (limits : Limits) (stream : List ℕ) : Type 0 where
+  pub fields : List Dataset
+  pub head : Header
+  pub lines : List (List ℕ)
+  pub trailer : List ℕ
+  pub plan : Plan
   pub octets : List ℕ
   pub packed : Packed fields head lines trailer plan octets
   pub within : FieldsAreWithin limits fields
@@ -36,13 +37,6 @@ pub record BeginsPacked (limits : Limits) (stream : List ℕ) (fields : List Dat
 
 -- ---- a stream that was unpacked
 
--- The envelope, the header, the trailer and the sizes are those that were packed; just the packed octets were used, and the sink was
--- told the lines.
-pub record IsGivenBack {S : Type 0} (goes : S → List story.StoryEvent → S → Type 0) (value : Value) (octets : List ℕ) (a b : S) (got : Unpacked) (used : ℕ) : Type 0 where
-  pub used_is : used ≡ length octets
-  pub parts : HasParts got value
-  pub told : goes a (story.events_of_lines value.lines) b
-
 -- the value that was packed, in these parts
 -- twin: law `packed_octets_are_admitted`, which ties it to that of the octets; `packs_random_values`; "The two last ones unpacked again"
 abbrev pub packed_value : List Dataset → Header → List (List ℕ) → List ℕ → Plan → List (List ℕ) → Value
@@ -50,22 +44,17 @@ packed_value fields head lines trailer plan parts =
     let sizes = packed_sizes plan.subfile plan.size (canonical head lines trailer) parts in
     record { fields = fields; head = head; lines = lines; trailer = trailer; sizes = sizes }
 
--- If the stream begins with what was packed, within the limits, then this is given back.
+-- If the stream begins with what was packed, within the limits, then this is given back: just the packed octets were used; the envelope, the
+-- header, the trailer and the sizes are those that were packed; and the sink was told the lines.
 abbrev pub GivesBack : {S : Type 0} → (S → List story.StoryEvent → S → Type 0) → Limits → List ℕ → S → S → Unpacked → ℕ → Type 0
-GivesBack goes limits stream a b got used = (fields : List Dataset) (head : Header) (lines : List (List ℕ)) (trailer : List ℕ) (plan : Plan)
-    → (p : BeginsPacked limits stream fields head lines trailer plan)
-    → IsGivenBack goes (packed_value fields head lines trailer plan p.packed.written.parts) p.octets a b got used
+GivesBack goes limits stream a b got used = (p : BeginsPacked limits stream) → (used ≡ length p.octets)
+    × HasParts got (packed_value p.fields p.head p.lines p.trailer p.plan p.packed.written.parts) × goes a (story.events_of_lines p.lines) b
 
 -- The octets are not at fault: memory was refused for the unpacker, or the sink stopped.
 -- no twin: no body has these words; `packed_streams_have_their_answer` ties them to the octets' answer
 abbrev pub IsOutside : UnpackFault → Type 0
 IsOutside OutOfMemory = Unit {0}
 IsOutside (Refused e) = e.cause ≡ Message Sink
-
--- If the stream begins with what was packed, within the limits, then the octets are not at fault.
-abbrev pub FailsOutside : Limits → List ℕ → UnpackFault → Type 0
-FailsOutside limits stream fault = (fields : List Dataset) (head : Header) (lines : List (List ℕ)) (trailer : List ℕ) (plan : Plan)
-    → BeginsPacked limits stream fields head lines trailer plan → IsOutside fault
 
 -- Why there is no envelope. Where memory was refused for the unpacker, the sink was told nothing. Else the stream has none at its
 -- front: a layer is dead, or the stream is truncated, or the sink stopped.
@@ -80,11 +69,7 @@ IsAnswer (Err OutOfMemory) answer = ⊥
 IsAnswer (Err (Refused e)) answer = pieces.IsAnswer (Err e) answer
 
 -- The sink's count of failures rose where the sink stopped, and nowhere else.
-pub record CountsCause (cause : Cause) (old new : ℕ) : Type 0 where
-  pub stopped : cause ≡ Message Sink → Rose old new
-  pub others : cause ≢ Message Sink → new ≡ old
-
 -- no twin: no body has these words; `packed_streams_have_their_answer` ties them to the octets' answer
 abbrev pub CountsFor : UnpackFault → ℕ → ℕ → Type 0
 CountsFor OutOfMemory old new = new ≡ old
-CountsFor (Refused e) old new = CountsCause e.cause old new
+CountsFor (Refused e) old new = (e.cause ≡ Message Sink → Rose old new) × (e.cause ≢ Message Sink → new ≡ old)

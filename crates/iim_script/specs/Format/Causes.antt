@@ -2,15 +2,12 @@
 use Rattle.std.specs.Prelude.{ℕ, List, codes, ◌≡◌, ◌+◌, ◌<◌, ◌≤◌, ◌⊎◌, [], ◌∷◌, ◌++◌, length, Some}
 use Rattle.std.specs.List.{AllByRecursion}
 use Rattle.iim_fields.specs.Format.Causes.{number_of_cause, name_of_cause}
-use Rattle.iim_dataset.specs.Format.Octets.{lf}
-use Rattle.iim_dataset.specs.Format.Datasets.{Dataset}
 use Rattle.iim_fields.specs.States.Standing.{add_fault, finish_fault}
+use Rattle.iim_fields.specs.declared.{limits.Limits.Limits, fault.FieldCause.FieldCause, fault.FieldFault.FieldFault}
+use Rattle.iim_dataset.specs.Format.{Octets.lf, Datasets.Dataset}
 use Rattle.wire_message.specs.Format.Messages.{Header, IsTrailer}
 use Rattle.wire_story.specs.Format.Texts.{IsLine}
 use Rattle.iim_script.specs.Format.Scripts.{HasNo, NextLine, NextLines, TellsField, TellsHead, TellsTrailer, text_word, AreFieldLines, IsFront, max_script}
-use Rattle.iim_fields.specs.declared.limits.Limits.{Limits}
-use Rattle.iim_fields.specs.declared.fault.FieldCause.{FieldCause}
-use Rattle.iim_fields.specs.declared.fault.FieldFault.{FieldFault}
 pub use Rattle.iim_script.specs.declared.fault.ScriptCause.{ScriptCause}
 pub use Rattle.iim_script.specs.declared.fault.ScriptCause.TheVariants.{ScriptLine, ScriptTooLong, Field, BadTrailer, BadTextOctet, OutOfMemory}
 
@@ -86,15 +83,6 @@ abbrev pub IsNextWrong : Limits → Stage → List ℕ → ScriptCause → Type 
 IsNextWrong limits stage rest cause =
     (HasNo lf rest × (cause ≡ ScriptLine)) ⊎ ((line : List ℕ) × (after : List ℕ) × NextLine rest line after × IsWrong limits stage line cause)
 
--- The line with this number, before the story, is the first that is wrong.
-pub record IsFrontFault (limits : Limits) (octets : List ℕ) (number : ℕ) (cause : ScriptCause) : Type 0 where
-  pub stage : Stage
-  pub rest : List ℕ
-  pub count : ℕ
-  pub stands : Stands limits octets stage rest count
-  pub number_is : number ≡ count + 1
-  pub wrong : IsNextWrong limits stage rest cause
-
 -- A line of the story has an octet that may stand in no line, and none before it has: with its end, or at the end of the story. The
 -- line `text` has that number.
 -- twin: "Stories: an end at the end begins no further line", "Octets that may not stand in a line"
@@ -110,20 +98,19 @@ pub record IsBadStory (story : List ℕ) (text_line number : ℕ) : Type 0 where
 
 -- What stands before the story is that of a script, and the line of the story with this number is the first that is wrong.
 pub record IsStoryFault (limits : Limits) (octets : List ℕ) (number : ℕ) : Type 0 where
-  pub front : List ℕ
   pub story : List ℕ
-  pub parts : octets ≡ front ++ story
   pub fields : List Dataset
   pub head : Header
   pub trailer : List ℕ
   pub text_line : ℕ
-  pub is_front : IsFront limits front fields head trailer text_line
+  pub is_front : IsFront limits octets fields head trailer text_line story
   pub is_bad : IsBadStory story text_line number
 
--- Why octets are no script: they are too many (of line 0); else the first line that is wrong, and why. Memory may be refused at
--- any place (of line 0).
+-- Why octets are no script: they are too many (of line 0); else the first line that is wrong, and why: of the story, or the one after
+-- `count` lines before it. Memory may be refused at any place (of line 0).
 abbrev pub IsScriptFault : Limits → List ℕ → ℕ → ScriptCause → Type 0
 IsScriptFault limits octets number ScriptTooLong = (max_script < length octets) × (number ≡ 0)
 IsScriptFault limits octets number OutOfMemory = (length octets ≤ max_script) × (number ≡ 0)
 IsScriptFault limits octets number BadTextOctet = (length octets ≤ max_script) × IsStoryFault limits octets number
-IsScriptFault limits octets number cause = (length octets ≤ max_script) × IsFrontFault limits octets number cause
+IsScriptFault limits octets number cause = (length octets ≤ max_script) × (stage : Stage) × (rest : List ℕ) × (count : ℕ)
+    × Stands limits octets stage rest count × (number ≡ count + 1) × IsNextWrong limits stage rest cause

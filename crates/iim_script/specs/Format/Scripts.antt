@@ -4,10 +4,8 @@ use Rattle.std.specs.List.{AllByRecursion, list_all, flat_map, join_with_byte}
 use Rattle.iim_dataset.specs.Format.Octets.{lf, cr, sp, digit_zero, capital_a, small_a, backslash, small_x, colon, is_digit}
 use Rattle.iim_dataset.specs.Format.Datasets.{Dataset, shown, dataset_name}
 use Rattle.wire_message.specs.Format.Messages.{Header, IsHeader, IsTrailer}
-use Rattle.iim_fields.specs.States.Standing.{add_fault, finish_fault}
-use Rattle.wire_story.specs.Format.Texts.{IsLine, delivered}
-use Rattle.wire_story.specs.Format.Packing.{lines_of}
-use Rattle.iim_fields.specs.declared.limits.Limits.{Limits}
+use Rattle.iim_fields.specs.{States.Standing.add_fault, States.Standing.finish_fault, declared.limits.Limits.Limits}
+use Rattle.wire_story.specs.Format.{Texts.IsLine, Texts.delivered, Packing.lines_of}
 
 -- None of the octets is this one.
 abbrev pub HasNo : ℕ → List ℕ → Type 0
@@ -93,16 +91,8 @@ pub record TellsField (line : List ℕ) (d : Dataset) : Type 0 where
   pub names : TellsNames line d.rec d.set end
   pub is_end : TellsLast end d.octets
 
--- `message` and SP
--- twins (with trailer_word, text_word): "The lines of the script of the smallest envelope", "Lines after the fields"
-abbrev pub message_word : List ℕ
-message_word = codes "message "
-
--- `trailer`
-abbrev pub trailer_word : List ℕ
-trailer_word = codes "trailer"
-
 -- `text`
+-- twin: "The lines of the script of the smallest envelope", "Lines after the fields"
 abbrev pub text_word : List ℕ
 text_word = codes "text"
 
@@ -126,14 +116,14 @@ pub record TellsHead (line : List ℕ) (head : Header) : Type 0 where
   pub end : List ℕ
   pub is_header : IsHeader head
   pub is_end : TellsLast end head.info
-  pub line_is : line ≡ message_word ++ head_words head end
+  pub line_is : line ≡ codes "message " ++ head_words head end
 
 -- A line `trailer`, and SP and the octets as text where there are some.
 -- twin: "A line in the place of line 4", "Lines after the fields"
 pub record TellsTrailer (line octets : List ℕ) : Type 0 where
   pub end : List ℕ
   pub is_end : TellsLast end octets
-  pub line_is : line ≡ trailer_word ++ end
+  pub line_is : line ≡ codes "trailer" ++ end
 
 -- ---- What a script is, and what it tells.
 
@@ -155,14 +145,15 @@ AreTrailer [] octets = octets ≡ []
 AreTrailer (line ∷ []) octets = TellsTrailer line octets × IsTrailer octets
 AreTrailer (line ∷ next ∷ lines) octets = ⊥
 
--- What stands before the story: lines of datasets, which make an envelope; the line of the header; that of the trailer, if any; and
--- the line `text`.
+-- The octets begin with what stands before the story, and the story follows: lines of datasets, which make an envelope; the line of the
+-- header; that of the trailer, if any; and the line `text`.
 -- twin: "Lines after the fields", "The script of an envelope with by-lines": text at line 18
-pub record IsFront (limits : Limits) (octets : List ℕ) (fields : List Dataset) (head : Header) (trailer : List ℕ) (text_line : ℕ) : Type 0 where
+pub record IsFront (limits : Limits) (octets : List ℕ) (fields : List Dataset) (head : Header) (trailer : List ℕ) (text_line : ℕ)
+    (story : List ℕ) : Type 0 where
   pub field_lines : List (List ℕ)
   pub message : List ℕ
   pub trailers : List (List ℕ)
-  pub lined : NextLines octets (field_lines ++ (message ∷ trailers ++ text_word ∷ [])) []
+  pub lined : NextLines octets (field_lines ++ (message ∷ trailers ++ text_word ∷ [])) story
   pub are_fields : AreFieldLines limits [] field_lines fields
   pub whole : finish_fault fields ≡ None
   pub is_head : TellsHead message head
@@ -183,11 +174,9 @@ text_lines text = lines_of (delivered text)
 
 -- A script tells datasets of records 1 and 2, a header, a trailer, and the lines of a story; the line `text` has this number.
 pub record IsScript (limits : Limits) (octets : List ℕ) (fields : List Dataset) (head : Header) (trailer : List ℕ) (lines : List (List ℕ)) (text_line : ℕ) : Type 0 where
-  pub front : List ℕ
   pub story : List ℕ
-  pub parts : octets ≡ front ++ story
   pub short : length octets ≤ max_script
-  pub is_front : IsFront limits front fields head trailer text_line
+  pub is_front : IsFront limits octets fields head trailer text_line story
   pub is_story : IsStory story lines
   pub texts : AllByRecursion IsLine lines
 

@@ -1,13 +1,10 @@
 -- Good records: each dataset as its row says, those that must occur, and those that occur once (IIM version 4, the chapters on
 -- the envelope, application, pre-ObjectData descriptor, ObjectData and post-ObjectData descriptor records).
 use Rattle.std.specs.Prelude.{◌≡◌, ℕ, Bool, true, false, not, ◌&&◌, ◌||◌, ◌==◌, ◌≤◌, List, map, count_by, length}
-use Rattle.std.specs.List.{AllByRecursion, list_any, filter}
-use Rattle.std.specs.Option.{option_map_or}
-use Rattle.iim_dataset.specs.Format.Octets.{IsOctet, Octets, number}
-use Rattle.iim_dataset.specs.Format.Datasets.{Dataset}
+use Rattle.std.specs.{List.AllByRecursion, List.list_any, List.filter, Option.option_map_or}
+use Rattle.iim_dataset.specs.Format.{Octets.IsOctet, Octets.Octets, Octets.number, Datasets.Dataset}
 use Rattle.iim_tables.specs.Format.Rows.{Meets, row_of, table}
-use Rattle.iim_tables.specs.declared.shape.Duty.{Duty}
-use Rattle.iim_tables.specs.declared.shape.Duty.TheVariants.{Mandatory}
+use Rattle.iim_tables.specs.declared.shape.Duty.{Duty, TheVariants.Mandatory}
 
 -- 7:90 has to occur by the mode: that is a matter of sizes
 -- twins (with mandatory): "Without each mandatory dataset in turn", "Of several missing datasets that of the lowest number is named";

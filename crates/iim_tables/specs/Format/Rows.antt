@@ -1,14 +1,11 @@
 -- The rows: how many octets each dataset may have, of which kind, whether it must occur and whether it may repeat.
 use Rattle.std.specs.Prelude.{ℕ, IsTrue, Bool, true, false, ◌&&◌, ◌||◌, ◌==◌, if◌then◌else◌, List, [], ◌∷◌, length, Option, Some, None, IsSomeAnd}
-use Rattle.std.specs.List.{find}
-use Rattle.std.specs.Option.{option_map, option_or}
+use Rattle.std.specs.{List.find, Option.option_map, Option.option_or}
 use Rattle.iim_dataset.specs.Format.Octets.{within, greatest_size}
 use Rattle.iim_tables.specs.Format.Kinds.{size_octets, has_kind}
-use Rattle.iim_tables.specs.declared.shape.Kind.{Kind}
 use Rattle.iim_tables.specs.declared.shape.Kind.TheVariants.{Graphic, Spaced, SpacedLines, Letters, Digits, Date, PartDate, Time, Binary, Octets, Mode, Size, SizeFromOne}
-use Rattle.iim_tables.specs.declared.shape.Duty.{Duty}
 use Rattle.iim_tables.specs.declared.shape.Duty.TheVariants.{Mandatory, Optional, ByMode}
-use Rattle.iim_tables.specs.declared.shape.Row.{Row}
+use Rattle.iim_tables.specs.declared.shape.{Kind.Kind, Duty.Duty, Row.Row}
 
 -- A line of the table: a dataset and its row.
 pub record Entry : Type 0 where

@@ -1,14 +1,12 @@
 -- What a stream that comes in pieces is answered, and the value that is handed over.
 use Rattle.std.specs.Prelude.{◌≡◌, ℕ, ◌⊎◌, List, [], take, flat_map, Result, Ok, Err}
 use Rattle.std.specs.Borrow.{Bor}
-use Rattle.iim_places.specs.Format.Admitted.{Value}
-use Rattle.wire_story.specs.Format.Texts as story
+use Rattle.iim_places.specs.{Format.Admitted.Value, Format.Open.Delivers, declared.refusal.Refusal.Refusal}
 use Rattle.iim_places.specs.Format.Streams.{Answer, Finished, Refused, Truncated, IsFinished, IsRefused, IsTruncated}
-use Rattle.iim_places.specs.Format.Open.{Delivers}
+use Rattle.wire_story.specs.Format.Texts as story
 pub use Rattle.iim_unpack.specs.declared.unpacker.Unpacked.{Unpacked}
 use Rattle.iim_unpack.specs.declared.unpacker.UnpackedRef.{UnpackedRef}
 use Rattle.iim_fields.specs.declared.limits.Limits.{Limits}
-use Rattle.iim_places.specs.declared.refusal.Refusal.{Refusal}
 
 -- It has the parts of the value, but for the lines.
 pub record HasParts (got : Unpacked) (v : Value) : Type 0 where

@@ -1,25 +1,19 @@
 -- What an intake has next in line.
-use Rattle.std.specs.Prelude.{◌≡◌, ℕ, ◌+◌, ◌<◌, ◌⊎◌, ⊤, false, List, [], ◌++◌, length, take, slice_index, Option, None, Some, Bool, true, Result, IfOk, IfErr}
+use Rattle.std.specs.Prelude.{◌≡◌, ◌≢◌, ℕ, ◌+◌, ◌<◌, ◌⊎◌, false, List, [], ◌++◌, length, take, slice_index, Option, None, Some, Bool, true, Result, IfOk, IfErr}
 use Rattle.std.specs.Io.KnownBytes.{IsAtEnd}
 use Rattle.iim_dataset.specs.States.Devices.{Device, HasGiven, MissedAfter, WithinInterruptionLimit}
 use Rattle.iim_dataset.specs.declared.device.IoFault.{IoFault}
 use Rattle.iim_dataset.specs.declared.device.IoFault.TheVariants as io
 use Rattle.iim_fields.specs.declared.limits.Limits.{Limits}
 use Rattle.wire_story.specs.Format.Texts as story
-use Rattle.iim_places.specs.Format.Admitted.{Value, Admits, AreWithin}
-use Rattle.iim_unpack.specs.States.Blocks.{with_held}
-use Rattle.iim_unpack.specs.States.Unpacking.{CountsFor, has_ended, Unpacking, Stands, IsDoneWith, LeftAs, limits_in}
-use Rattle.iim_places.specs.Format.Causes.{refusal_at}
-use Rattle.iim_places.specs.Format.Streams.{raised}
+use Rattle.iim_places.specs.Format.{Admitted.Value, Causes.refusal_at, Streams.raised, Streams.IsEnvelopeWithin}
 use Rattle.iim_places.specs.Format.Open.{IsOpen, Delivers, RefusesNext, IsTruncatedAt}
-use Rattle.iim_unpack.specs.Format.Pieces.{HasParts, Unpacked}
-use Rattle.iim_places.specs.declared.fault.TokenFault.{TokenFault}
-use Rattle.iim_unpack.specs.declared.intake.Fed.{Fed}
-use Rattle.iim_unpack.specs.declared.intake.Fed.TheVariants as piece
-use Rattle.iim_unpack.specs.declared.intake.Intake.{Intake}
-use Rattle.iim_unpack.specs.declared.intake.IntakeFault.{IntakeFault}
+use Rattle.iim_places.specs.declared.{fault.TokenFault.TokenFault, refusal.Refusal.Refusal}
+use Rattle.iim_unpack.specs.{States.Blocks.with_held, Format.Pieces.HasParts, Format.Pieces.Unpacked}
+use Rattle.iim_unpack.specs.States.Unpacking.{CountsFor, has_ended, Unpacking, Stands, IsDoneWith, LeftAs, limits_in}
+use Rattle.iim_unpack.specs.declared.intake.{Fed.Fed, Intake.Intake, IntakeFault.IntakeFault}
 use Rattle.iim_unpack.specs.declared.intake.IntakeFault.TheVariants.{Refused, Read, Interrupted}
-use Rattle.iim_places.specs.declared.refusal.Refusal.{Refusal}
+use Rattle.iim_unpack.specs.declared.intake.Fed.TheVariants as piece
 
 -- an intake's reader as a device, with the octets of the block put before its own: what is next in line
 abbrev pub in_line : {R : Type 0} → (R → Device) → Intake R → Device
@@ -143,12 +137,6 @@ abbrev pub GivesNothing : {R S : Type 0} → (S → List story.StoryEvent → S 
 GivesNothing goes failures state (old, u, a) (new, v, b) fault = (kept : ℕ) × (new.failed ≡ Some kept)
     × Faults goes failures (in_line state old) (in_line state new) u v a b kept fault
 
--- It is a fault of the reader.
-abbrev pub IsOfReader : IntakeFault → Type 0
-IsOfReader (Refused e) = ⊥
-IsOfReader Read = ⊤
-IsOfReader Interrupted = ⊤
-
 -- Nothing is read where octets are held.
 pub record ReadsWhereEmpty {R S : Type 0} (old new : Intake R) (u v : Unpacking) (a b : S) (result : Result Fed IntakeFault) : Type 0 where
   -- Where octets were held, the reader is as before.
@@ -156,23 +144,16 @@ pub record ReadsWhereEmpty {R S : Type 0} (old new : Intake R) (u v : Unpacking)
   -- There is an end only where none were held.
   pub ended : IfOk result (λ fed. fed ≡ piece.End → old.block ≡ [])
   -- The reader has a fault only where none were held, and then nothing was fed: unpacker and sink are as before.
-  pub unread : IfErr result (λ fault. IsOfReader fault → (old.block ≡ []) × LeftAs u a v b)
+  pub unread : IfErr result (λ fault. ((e : Refusal) → fault ≢ Refused e) → (old.block ≡ []) × LeftAs u a v b)
 
--- The octets, after those on which an unpacker stood, are an envelope with this value.
-pub record ComesNext (limits : Limits) (p octets : List ℕ) (more : List story.StoryEvent) (got : Unpacked) : Type 0 where
-  pub value : Value
-  pub admits : Admits (p ++ octets) value
-  pub within : AreWithin limits admits.datasets
-  pub parts : HasParts got value
-  pub adds : Delivers p octets more
-
--- Octets came, with which the envelope ends; `used` tells how many.
+-- Octets came, with which the envelope ends: after those on which the unpacker stood, they are one with this value; `used` tells how many.
 pub record WasGiven {S : Type 0} (goes : S → List story.StoryEvent → S → Type 0) (old new : Device) (u : Unpacking) (a b : S) (used : ℕ) (got : Unpacked) : Type 0 where
   pub octets : List ℕ
   pub more : List story.StoryEvent
   pub came : Came goes old new a b octets more
   pub counts : used ≡ raised 0 (length octets)
-  pub envelope : (p : List ℕ) (n : ℕ) → Stands u p n → ComesNext (limits_in u) p octets more got
+  pub envelope : (p : List ℕ) (n : ℕ) → Stands u p n
+      → (value : Value) × IsEnvelopeWithin (limits_in u) (p ++ octets) value × HasParts got value × Delivers p octets more
 
 -- what an intake gives (what is next in line and the sink, before and after; before, the unpacker; and how many octets it tells)
 abbrev pub Gives : {S : Type 0} → (S → List story.StoryEvent → S → Type 0) → Device × Unpacking × S → Device × S → ℕ → Option Unpacked

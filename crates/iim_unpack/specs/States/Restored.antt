@@ -1,13 +1,10 @@
 -- What a ticket is restored to.
 use Rattle.std.specs.Prelude.{◌≡◌, ℕ, ◌⊎◌, List, ◌+◌, ◌*◌, ◌≤◌, length, take}
 use Rattle.iim_fields.specs.declared.limits.Limits.{Limits}
-use Rattle.iim_places.specs.Format.Admitted.{Value}
-use Rattle.iim_places.specs.States.Possible.{AreHeadsWithin}
-use Rattle.iim_places.specs.Format.Streams.{IsEnvelopeWithin}
+use Rattle.iim_places.specs.{Format.Admitted.Value, States.Possible.AreHeadsWithin, Format.Streams.IsEnvelopeWithin}
+use Rattle.iim_places.specs.{Format.Open.IsOpen, States.Restored.IsTicketAt}
 use Rattle.iim_places.specs.Format.Tickets.{Place, IsPlaceOf, IsTicketOf}
 use Rattle.iim_unpack.specs.States.Unpacking.{Unpacking, Stands, IsDoneWith, limits_in}
-use Rattle.iim_places.specs.Format.Open.{IsOpen}
-use Rattle.iim_places.specs.States.Restored.{IsTicketAt}
 
 -- The octets are the ticket of a possible place, whose heads are within the limits. The unpacker reads under these: it stands on all
 -- octets that lead to the place and are open, it is done with all that are an envelope, and there are some of the one or the other. It

@@ -3,36 +3,28 @@ use Rattle.std.specs.Prelude.{◌≡◌, ℕ, ◌<◌, ◌≤◌, ◌==◌, ◌&
 use Rattle.iim_dataset.specs.Format.Octets.{Octets, Rose}
 use Rattle.iim_dataset.specs.Format.Datasets.{Dataset, of_record, Begun, InTag, InData, count_octets}
 use Rattle.iim_dataset.specs.States.Reading.{DatasetEvent, handed_on, LeadsTo, between, Reader}
+use Rattle.iim_dataset.specs.declared.{head.Head.Head, place.DatasetPlace.DatasetPlace}
 use Rattle.iim_fields.specs.Format.Causes.{section_after, is_kept, joined}
+use Rattle.iim_fields.specs.States.Standing.{limits_of, room_of, begun_head_of}
+use Rattle.iim_fields.specs.{States.Stores.Room, declared.limits.Limits.Limits}
 use Rattle.iim_fields.specs.States.Standing as records
 use Rattle.iim_object.specs.Format.Objects.{max_subfiles, place_after_datasets}
 use Rattle.iim_object.specs.States.Reading as objects
-use Rattle.wire_message.specs.Format.Messages.{text_so_far}
+use Rattle.wire_message.specs.{Format.Messages.text_so_far, States.Reading.saved}
+use Rattle.wire_message.specs.declared.{fault.MessageCause.TheVariants.Sink, place.Place.Place}
+use Rattle.wire_message.specs.declared.{place.Place.TheVariants.Text}
 use Rattle.wire_message.specs.States.Reading as wire
 use Rattle.iim_places.specs.Format.Admitted.{object_of, Value, Admits, AreWithin}
 use Rattle.iim_places.specs.Format.Causes.{place_at, refusal_at}
 use Rattle.iim_places.specs.Format.Open.{object_so_far, IsTextOf, Delivers, IsOpen, RefusesNext}
-use Rattle.iim_fields.specs.States.Standing.{limits_of, room_of, begun_head_of}
-use Rattle.iim_fields.specs.States.Stores.{Room}
-use Rattle.wire_story.specs.Format.Texts as story
 use Rattle.iim_places.specs.Format.Streams.{are_some, raised}
-use Rattle.wire_message.specs.States.Reading.{saved}
-use Rattle.iim_dataset.specs.declared.head.Head.{Head}
-pub use Rattle.iim_unpack.specs.declared.parts.Parts.{Parts}
-use Rattle.iim_places.specs.declared.refusal.Cause.{Cause}
 use Rattle.iim_places.specs.declared.refusal.Cause.TheVariants.{Message, Failed}
-use Rattle.wire_message.specs.declared.fault.MessageCause.TheVariants.{Sink}
-use Rattle.iim_fields.specs.declared.limits.Limits.{Limits}
-pub use Rattle.iim_unpack.specs.declared.unpacker.Progress.{Progress}
+use Rattle.iim_places.specs.declared.{refusal.Cause.Cause, fault.TokenFault.TokenFault, refusal.Refusal.Refusal}
+use Rattle.wire_story.specs.Format.Texts as story
+pub use Rattle.iim_unpack.specs.declared.{parts.Parts.Parts, unpacker.Progress.Progress}
 pub use Rattle.iim_unpack.specs.declared.unpacker.Progress.TheVariants.{More, Done}
-use Rattle.iim_places.specs.declared.fault.TokenFault.{TokenFault}
-use Rattle.iim_places.specs.declared.refusal.Refusal.{Refusal}
 use Rattle.iim_places.specs.declared.refusal.Layer.TheVariants as layers
-use Rattle.iim_dataset.specs.declared.place.DatasetPlace.{DatasetPlace}
 use Rattle.iim_dataset.specs.declared.place.DatasetPlace.TheVariants as tags
-use Rattle.wire_message.specs.declared.place.Place.{Place}
-use Rattle.wire_message.specs.declared.place.Place.TheVariants.{Text}
-use Rattle.wire_message.specs.declared.saved.MessagePlace.{MessagePlace}
 
 -- after these datasets
 -- twins (with Within): "Before the first octet, and an envelope in one piece", "Empty subfiles among others"; `reads_random_envelopes`
@@ -152,38 +144,30 @@ abbrev pub tag_held : DatasetPlace → ℕ
 tag_held (tags.Tag held) = length held.items
 tag_held (tags.Inside head left) = 0
 
--- the octets of the header and the trailer so far
-abbrev pub texts_held : MessagePlace → ℕ
-texts_held m =
-    length m.source.items + length m.number.items + length m.priority.items + length m.category.items + length m.words.items + length m.info.items
-    + length m.trailer.items
-
 -- the CR that no LF has followed yet
 abbrev pub returns_held : Place → ℕ
 returns_held (Text head (Some held)) = held
 returns_held _ = 0
 
--- what is held of a message
+-- what is held of a message: the octets of the header and the trailer so far, and CR
 abbrev pub message_held : Option Place → ℕ
 message_held None = 0
-message_held (Some place) = texts_held (saved place) + returns_held place
-
--- The octets that it holds: the data of records 1 and 2, and those so far of a begun value of record 1, 2, 7 or 9; a begun tag; the
--- texts of the message; and CR.
-abbrev pub held_octets : Unpacking → ℕ
-held_octets u = length (joined u.parts.fields.kept) + length u.parts.fields.taken + (tag_held u.reader.place + message_held u.parts.message)
+message_held (Some place) =
+    let m = saved place in
+    length m.source.items + length m.number.items + length m.priority.items + length m.category.items + length m.words.items + length m.info.items
+    + length m.trailer.items + returns_held place
 
 -- one for a begun dataset of record 1 or 2
 abbrev pub begun_entries : Option Head → ℕ
 begun_entries None = 0
 begun_entries (Some h) = if is_kept h.rec then 1 else 0
 
--- Its entries: the heads of records 1 and 2.
-abbrev pub held_entries : Unpacking → ℕ
-held_entries u = length u.parts.fields.kept + begun_entries (begun_head_of u.parts.fields)
-
 -- It holds 256 octets at most beside those that its limits allow, and no more entries than they allow.
 -- no twin: a bound that is proved of it; no code has the number
 pub record HoldsFew (u : Unpacking) : Type 0 where
-  pub octets : held_octets u ≤ (limits_in u).octets + 256
-  pub entries : held_entries u ≤ (limits_in u).fields
+  -- The octets that it holds: the data of records 1 and 2, and those so far of a begun value of record 1, 2, 7 or 9; a begun tag; the
+  -- texts of the message; and CR.
+  pub octets : length (joined u.parts.fields.kept) + length u.parts.fields.taken + (tag_held u.reader.place + message_held u.parts.message)
+      ≤ (limits_in u).octets + 256
+  -- Its entries: the heads of records 1 and 2.
+  pub entries : length u.parts.fields.kept + begun_entries (begun_head_of u.parts.fields) ≤ (limits_in u).fields

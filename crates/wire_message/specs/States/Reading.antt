@@ -4,18 +4,14 @@ use Rattle.iim_dataset.specs.Format.Octets.{soh, stx, etx, sp, is_digit, is_lett
 use Rattle.wire_story.specs.Format.Texts.{AreLines, StoryEvent, delivered}
 use Rattle.wire_story.specs.States.Reading as story
 use Rattle.wire_message.specs.Format.Messages.{Are, IsField, is_alphanumeric, is_filler_octet, is_text_octet, max_filler, max_source, max_number, max_priority, max_category, max_words, IsHeader, IsTrailer, IsFiller, IsGap, IsMessage, SpellsInfo, fixed_header, has_feed, Header, MessageLivesWith, StoryLivesIn, packed_info}
-use Rattle.wire_message.specs.Format.Causes.{HasCause}
-use Rattle.wire_message.specs.declared.part.HeaderPart.{HeaderPart}
 use Rattle.wire_message.specs.declared.part.HeaderPart.TheVariants.{Source, Number, Priority, Category, Words}
-use Rattle.wire_message.specs.declared.part.HeaderTexts.{HeaderTexts}
+use Rattle.wire_message.specs.{Format.Causes.HasCause, declared.part.HeaderPart.HeaderPart}
+use Rattle.wire_message.specs.{declared.part.HeaderTexts.HeaderTexts, declared.fault.MessageCause.MessageCause}
+use Rattle.wire_message.specs.{declared.fault.MessageCause.TheVariants.Sink, declared.fault.MessageFault.MessageFault}
+use Rattle.wire_message.specs.{declared.saved.MessagePart.MessagePart, declared.saved.MessagePlace.MessagePlace}
 pub use Rattle.wire_message.specs.declared.place.Place.{Place}
 pub use Rattle.wire_message.specs.declared.place.Place.TheVariants.{Filler, InHeader, Info, Gap, Text, Trailer, AfterEnd}
-use Rattle.wire_message.specs.declared.fault.MessageCause.{MessageCause}
-use Rattle.wire_message.specs.declared.fault.MessageCause.TheVariants.{Sink}
-use Rattle.wire_message.specs.declared.fault.MessageFault.{MessageFault}
-use Rattle.wire_message.specs.declared.saved.MessagePart.{MessagePart}
 use Rattle.wire_message.specs.declared.saved.MessagePart.TheVariants as part
-use Rattle.wire_message.specs.declared.saved.MessagePlace.{MessagePlace}
 
 -- ---- the parts of a header
 

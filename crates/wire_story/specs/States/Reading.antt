@@ -2,12 +2,11 @@
 use Rattle.std.specs.Prelude.{ℕ, List, [], ◌∷◌, ◌++◌, ◌≡◌, ◌≢◌, ◌<◌, ◌≤◌, length, take, slice_index, Option, Some, ◌+◌, ◌^◌, ◌⊎◌, map}
 use Rattle.std.specs.Io.KnownBytes.{Appends}
 use Rattle.wire_story.specs.Format.Texts.{StoryEvent, LineOctet, LineEnd, Holds, max_returns, delivered, Octet, LivesWith, StoryDiesAt, octet_for}
+use Rattle.wire_story.specs.declared.fault.TextCause.TheVariants.{LoneReturn, ControlOctet, Sink}
+use Rattle.wire_story.specs.declared.{fault.TextCause.TextCause, fault.TextFault.TextFault}
+use Rattle.wire_story.specs.declared.{writer.LineWriter.LineWriter}
 use Rattle.iim_dataset.specs.Format.Octets.{soh, eot, lf, cr, Rose}
 use Rattle.iim_dataset.specs.States.Devices.{Device, RoseAtLeast, max_interruptions}
-use Rattle.wire_story.specs.declared.fault.TextCause.{TextCause}
-use Rattle.wire_story.specs.declared.fault.TextCause.TheVariants.{LoneReturn, ControlOctet, Sink}
-use Rattle.wire_story.specs.declared.fault.TextFault.{TextFault}
-use Rattle.wire_story.specs.declared.writer.LineWriter.{LineWriter}
 
 -- collected lines, how often their growth was refused, and for how many octets there is memory
 pub record Collected : Type 0 where

@@ -30,6 +30,6 @@ returns g c =
       subst (λ (r : g.row.R.Denot). g.R.Source.leads r intake.reader) c.new-intake.ensures.reader c.narrate-answer.ensures.leads,
       elim ended [
         | inl (told, same) ↦ inl (rw same told)
-        | inr (fault, why, told, failed) ↦ inr (fault, errors, why, told, failed)
+        | inr (fault, before, (why, is), told, failed) ↦ inr (fault, errors, why, rw is at told, failed)
       ],
     )

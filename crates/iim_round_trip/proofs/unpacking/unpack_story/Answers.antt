@@ -1,5 +1,5 @@
 use Rattle.iim_unpack.specs.Format.Pieces.{stream_of}
-use Rattle.iim_round_trip.proofs.Given.{comes, story_in, one_story, no_story, same_fault}
+use Rattle.iim_round_trip.proofs.Given.{comes, story_in, one_story, no_story}
 use Rattle.iim_round_trip.specs.declared.unpacking.Story.{Story}
 use Rattle.iim_round_trip.proofs.unpacking.unpack_story.Goals as goal
 
@@ -19,6 +19,3 @@ returns-in-Ok-clause-only c = λ answer is other.
 
 pub returns-in-Err-clause-turned_down : goal.returns-in-Err-clause-turned_down
 returns-in-Err-clause-turned_down c = no_story c.args.limits (stream_of c.args.pieces.now) c.new-lines.result c.unpack_packed.new.sink c.in-Err.fault c.in-Err.ensures.turned_down
-
-pub returns-in-Err-clause-only : goal.returns-in-Err-clause-only
-returns-in-Err-clause-only c = λ answer is other. same_fault c.in-Err.fault answer (c.in-Err.ensures.only answer is other)

@@ -1,7 +1,6 @@
 use Rattle.iim_pack.proofs.Words.{◌+◌, inr, refl, ◌∙◌, if_none, start_cause}
 use Rattle.iim_object.specs.declared.writing.cause.PackCause.TheVariants as causes
 use Rattle.iim_pack.proofs.Startings.{fields_broke, object_broke, started}
-use Rattle.iim_pack.proofs.Beginnings.{begun_at_start}
 use Rattle.iim_pack.proofs.packer.Packer.start.Goals as goal
 
 pub returns-in-Err-put_fields-clause-fault : goal.returns-in-Err-put_fields-clause-fault
@@ -30,5 +29,4 @@ returns-in-Err-open_object-clause-fault g c =
     (record { cause = fault.cause; writer = fault.writer; written = c.in-Ok-put_fields.before + fault.written }) c.texts_join.ensures c.in-Ok-put_fields.ensures.ok c.in-Ok-put_fields.ensures.all c.in-Ok-put_fields.ensures.patience halts refl refl refl)))
 
 pub returns-in-Ok-open_object-clause-begun : goal.returns-in-Ok-open_object-clause-begun
-returns-in-Ok-open_object-clause-begun g c =
-    begun_at_start g.W.Target.state c.args.writer c.args.envelope.now c.args.head.now c.args.plan _ (returns-in-Ok-open_object-clause-ok g c)
+returns-in-Ok-open_object-clause-begun g c = (returns-in-Ok-open_object-clause-ok g c).begun

@@ -49,3 +49,6 @@ returns-in-Err-clause-faults g c =
           (g.met.S.StorySink.nothing _) c.in-Err.ensures.patience c.in-Err.fault c.octets.result c.read_fault.result c.in-Err.ensures.missed c.octets.ensures
           c.read_fault.ensures,
     )
+
+pub returns-in-Some-clause-reads : goal.returns-in-Some-clause-reads
+returns-in-Some-clause-reads g c = record { held = λ some. refl; ended = tt; unread = λ other. absurd (other _ refl) }

@@ -1,4 +1,4 @@
-use Rattle.iim_object.proofs.Words.{true, ◌++◌, refl, sym, ◌∙◌, arith, length-append, canonical_dataset, number_dataset, subfile_dataset, total_of, finish_cause, writing_of, dataset_length}
+use Rattle.iim_object.proofs.Words.{◌++◌, sym, ◌∙◌, arith, length-append, canonical_dataset, number_dataset, subfile_dataset, total_of, finish_cause, writing_of, dataset_length}
 use Rattle.iim_object.proofs.Outputs.{puts_more, cuts_later, cuts_more}
 use Rattle.iim_object.proofs.PlanParts.{number_length}
 use Rattle.iim_object.proofs.Rooms.{room_halted}

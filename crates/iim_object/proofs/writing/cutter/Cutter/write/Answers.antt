@@ -17,9 +17,9 @@ pub loop-at-preserved : goal.loop-at-preserved
 loop-at-preserved g c =
     let xs = c.args.octets.now in
     let at = c.loop-at.at in
-    let more = (rw (take_rest xs at) at c.in-Ok.ensures.ok) in
+    let more = (rw (take_rest xs at) at c.in-Ok.ensures.ok.2) in
     record {
-      within = omega (arith, ap length (take_rest xs at), length-drop at xs, c.in-Ok.ensures.within, c.loop-at.invariant.within);
+      within = omega (arith, ap length (take_rest xs at), length-drop at xs, c.in-Ok.ensures.ok.1, c.loop-at.invariant.within);
       room = c.take_front.ensures.room;
       same_room = c.take_front.ensures.same_room ∙ c.loop-at.invariant.same_room;
       lengthened = rw (take-add at c.in-Ok.taken xs) (leads_on g.W.Target.state (writing_of c.args.self.now) (writing_of c.loop-at.self) (writing_of c.take_front.new.self) (take at xs) (take c.in-Ok.taken (drop at xs))
@@ -31,7 +31,7 @@ returns-in-Err-clause-broke g c =
     let xs = c.args.octets.now in
     let at = c.loop-at.at in
     let a = writing_of c.args.self.now in
-    let here = (rw (take_rest xs at) at c.in-Err.ensures.err) in
+    let here = (rw (take_rest xs at) at c.in-Err.ensures.err.1) in
     if_none (write_cause a (length xs)) _
     (rw (take-append-drop at xs) at
     (breaks_later g.W.Target.state a (writing_of c.loop-at.self) (writing_of c.take_front.new.self) (take at xs) (drop at xs) c.texts_join.ensures c.loop-at.invariant.lengthened here))
