@@ -74,6 +74,9 @@ pub record IsLost {W E : Type 0} (ws : W → Device) (es : E → Device) (a b : 
   pub broke : (StaysStuck ws a.output b.output × (errors_of es b ≡ errors_of es a))
       ⊎ (TextIsOut ws a b × (n : ℕ) × Stopped (errors_of es a) (errors_of es b) (a.lines.items ++ line) n)
 
+abbrev pub IsStuck : {W E : Type 0} → (W → Device) → (E → Device) → Narrator W E → Narrator W E → Type 0
+IsStuck ws es a b = IsLost ws es a b []
+
 -- Why a last line isn't told. Where memory was refused for it, all that was held is out.
 abbrev pub IsUntold : {W E : Type 0} → (W → Device) → (E → Device) → Narrator W E → Narrator W E → List ℕ → CommandFault → Type 0
 IsUntold ws es a b line CannotRead = ⊥

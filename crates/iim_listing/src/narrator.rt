@@ -153,18 +153,18 @@ impl<'o, 'e, W: Target, E: Target> StorySink for Narrator<'o, 'e, W, E> {
 }
 
 impl<'o, 'e, W: Target, E: Target> Outlet for Narrator<'o, 'e, W, E> {
-    ghost use Rattle.iim_listing.specs.Steps.{IsLost, IsSettled, LetsOut, TellsOn, stops_of};
+    ghost use Rattle.iim_listing.specs.Steps.{IsSettled, IsStuck, LetsOut, TellsOn, stops_of};
 
     ghost settled = { IsSettled };
 
-    ghost stuck = { λ old new. IsLost W.state E.state old new [] };
+    ghost stuck = { IsStuck W.state E.state };
 
     fn let_out(&mut self) -> Result<(), Stop>
         ensures told { OnOk result (TellsOn W.state E.state self.old [] self.new) }
         ensures calm { OnOk result (stops_of self.new ≡ stops_of self.old) }
         ensures settled { OnOk result (IsSettled self.new) }
         ensures out { OnOk result (LetsOut W.state E.state self.old self.new []) }
-        ensures stuck { OnErr result (IsLost W.state E.state self.old self.new []) }
+        ensures stuck { OnErr result (IsStuck W.state E.state self.old self.new) }
     {
         self.output.flush()?;
         match put(&mut *self.errors, self.lines.as_slice()) {

@@ -15,12 +15,11 @@ pub struct Silent<'w, W> {
 }
 
 impl<'w, W: Target> StorySink for Silent<'w, W> {
-    ghost use Rattle.iim_output.specs.States.Holding.{HasPut};
+    ghost use Rattle.iim_output.specs.States.Holding.{PassesOver, refuses_never};
 
-    // Whatever it was told, its writer took nothing more.
-    ghost goes = { λ old _ new. HasPut W.state old.output new.output [] };
+    ghost goes = { PassesOver W.state };
 
-    ghost failures = { λ _. 0 };
+    ghost failures = { refuses_never };
 
     ghost use Rattle.iim_output.specs.HoldingLaws.{put_nothing, put_on};
 
@@ -38,11 +37,11 @@ impl<'w, W: Target> StorySink for Silent<'w, W> {
 }
 
 impl<'w, W: Target> Outlet for Silent<'w, W> {
-    ghost use Rattle.iim_output.specs.States.Holding.{HoldsNothing, StaysStuck};
+    ghost use Rattle.iim_output.specs.States.Holding.{IsSettled, IsStuck};
 
-    ghost settled = { λ sink. HoldsNothing sink.output };
+    ghost settled = { IsSettled };
 
-    ghost stuck = { λ old new. StaysStuck W.state old.output new.output };
+    ghost stuck = { IsStuck W.state };
 
     fn let_out(&mut self) -> Result<(), Stop> {
         self.output.flush()

@@ -1,5 +1,5 @@
 -- What a router of datasets does: what it is told, in which order, and what its parts are led to and told.
-use Rattle.std.specs.Prelude.{◌≡◌, ℕ, ◌≤◌, ◌<◌, ◌==◌, ◌⊎◌, Bool, true, false, List, [], ◌∷◌, ◌++◌, length, flat_map, fold, Option, Some, IsSome, map, None}
+use Rattle.std.specs.Prelude.{◌≡◌, ℕ, ◌≤◌, ◌<◌, ◌⊎◌, Bool, true, false, List, [], ◌∷◌, ◌++◌, length, flat_map, fold, Option, Some, IsSome, map, None}
 use Rattle.std.proofs.Common.{refl, sym, subst, ◌∙◌, append_assoc, append-nil, ap}
 use Rattle.std.proofs.lemmas.List.Concat.{flat_map-append}
 use Rattle.std.proofs.lemmas.List.Sums.{fold-append}
@@ -31,9 +31,13 @@ abbrev pub octets_of : ObjectEvent → List ℕ
 octets_of (ObjectOctet b) = b ∷ []
 octets_of ObjectEnd = []
 
+abbrev pub is_end : ObjectEvent → Bool
+is_end (ObjectOctet b) = false
+is_end ObjectEnd = true
+
 -- whether the end has come and no octet after it, where it had or had not before the events
 abbrev pub end_is_last : Bool → List ObjectEvent → Bool
-end_is_last before events = fold (λ (last : Bool) (event : ObjectEvent). length (octets_of event) == 0) before events
+end_is_last before events = fold (λ (last : Bool) (event : ObjectEvent). is_end event) before events
 
 -- why the event is refused after these octets
 abbrev pub HasCauseAt : MessageCause → List ℕ → ObjectEvent → Type 0
@@ -109,6 +113,12 @@ NotClosed old fault = ((n : ℕ) → CountsFor fault.cause n n) × RefusesEvent 
 abbrev pub Takes : Parts → Option ℕ → Type 0
 Takes parts None = AreBetween false parts
 Takes parts (Some left) = TakesData parts left
+
+abbrev pub TakesNext : {S : Type 0} → Router S → Option ℕ → Type 0
+TakesNext router left = Takes router.parts.now left
+
+abbrev pub IsOver : {S : Type 0} → Router S → Type 0
+IsOver router = AreBetween true router.parts.now
 
 -- (What a sink of stories may be told is `goes`, and `failures` are how often it stopped.)
 module _ {S : Type 0} (goes : S → List story.StoryEvent → S → Type 0) (failures : S → ℕ) where

@@ -1,9 +1,10 @@
--- A writer of blocks: what it holds, and what is out.
+-- A writer of blocks: what it holds, and what is out; and a sink that passes over the text of a story.
 use Rattle.std.specs.Prelude.{◌≡◌, ℕ, ◌+◌, ◌<◌, List, [], ◌++◌, length, map}
 use Rattle.iim_dataset.specs.States.Devices.{Device, Wrote, BrokeAfter, WithinInterruptionLimit}
 use Rattle.iim_dataset.specs.Format.Octets.{Rose}
 use Rattle.wire_story.specs.{Format.Texts.StoryEvent, Format.Texts.octet_for, States.Reading.WritesOn}
 pub use Rattle.iim_output.specs.declared.block_writer.BlockWriter.{BlockWriter}
+use Rattle.iim_output.specs.declared.silent.Silent.{Silent}
 use Rattle.iim_output.specs.Format.{CommandFault, CannotWrite}
 
 -- what it has taken and not let out
@@ -73,3 +74,19 @@ pub record IsCutShort {W : Type 0} (state : W → Device) (old new : BlockWriter
 -- The output broke inside the text.
 abbrev pub IsUnadded : {W : Type 0} → (W → Device) → BlockWriter W → BlockWriter W → List ℕ → CommandFault → Type 0
 IsUnadded state old new text fault = (fault ≡ CannotWrite) × IsCutShort state old new text
+
+-- ---- A sink that passes over the text of a story.
+
+-- Whatever it was told, its writer took nothing more.
+abbrev pub PassesOver : {W : Type 0} → (W → Device) → Silent W → List StoryEvent → Silent W → Type 0
+PassesOver state old events new = HasPut state old.output new.output []
+
+-- It refuses nothing.
+abbrev pub refuses_never : {W : Type 0} → Silent W → ℕ
+refuses_never sink = 0
+
+abbrev pub IsSettled : {W : Type 0} → Silent W → Type 0
+IsSettled sink = HoldsNothing sink.output
+
+abbrev pub IsStuck : {W : Type 0} → (W → Device) → Silent W → Silent W → Type 0
+IsStuck state old new = StaysStuck state old.output new.output

@@ -1,8 +1,8 @@
 //! The way of datasets to the parts of an unpacker.
 
-ghost use Rattle.std.specs.Prelude.{refl, true};
+ghost use Rattle.std.specs.Prelude.{refl};
 ghost use Rattle.std.proofs.Common.{◌∙◌};
-ghost use Rattle.iim_unpack.specs.Routes.{tells_parts_nothing, tells_parts_joined, stopped_joined, ended_takes_nothing, Routes, RefusesRoute, AreBetween, Takes};
+ghost use Rattle.iim_unpack.specs.Routes.{tells_parts_nothing, tells_parts_joined, stopped_joined, ended_takes_nothing, Routes, RefusesRoute, TakesNext, IsOver};
 
 use crate::parts::Parts;
 use iim_dataset::{DatasetSink, Head, Step, Stop};
@@ -25,9 +25,9 @@ impl<'p, 's, S: StorySink> DatasetSink for Router<'p, 's, S> {
 
     ghost stops = { RefusesRoute S.goes S.failures };
 
-    ghost stands = { λ router left. Takes router.parts.now left };
+    ghost stands = { TakesNext };
 
-    ghost ends = { λ router. AreBetween true router.parts.now };
+    ghost ends = { IsOver };
 
     ghost nothing = { λ a. (
       refl,
