@@ -71,7 +71,8 @@ order_of ids sorted few moved in_order =
       below = λ k d there.
           let inside : k < length sorted = omega (arith, there, counted) in
           rw (get_or-map index_at sorted k 0 d inside) (all k 0 inside).below;
-      each = λ i there. Contains-permutation (map index_at places) (map index_at sorted) i (IsPermutation-map index_at places sorted moved) (each_there ids few i there);
+      each = λ i there. Contains-permutation (map index_at places) (map index_at sorted) i (IsPermutation-map index_at places sorted moved)
+          (each_there ids few i there);
       sorted = λ k d low high.
           let next : k + 1 < length sorted = omega (arith, high, counted) in
           let here : k < length sorted = omega (arith, next) in
@@ -220,7 +221,8 @@ missing n id (x ∷ ids) (suc at) fits apart =
 
 -- what the first index of a run tells a row with its id
 pub first_of_run : (ids : List Identity) (order : List ℕ) (k group at : ℕ) (id : Identity) → IsRun ids order k group → at < length ids
-    → slice_get ids at ≡ Some id → AreSame ids at group → (group < at → first_same 1 id (take at ids) ≡ Some (group + 1)) × ((group < at → ⊥) → first_same 1 id (take at ids) ≡ None)
+    → slice_get ids at ≡ Some id → AreSame ids at group → (group < at → first_same 1 id (take at ids) ≡ Some (group + 1))
+    × ((group < at → ⊥) → first_same 1 id (take at ids) ≡ None)
 first_of_run ids order k group at id run there here same =
     let earlier : (i : ℕ) → i < group → option_cmp keyed_cmp (Some id) (slice_get ids i) ≡ Equal → ⊥ = λ i less tied.
     let with_at : AreSame ids at i = rw here tied in

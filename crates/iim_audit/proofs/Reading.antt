@@ -24,7 +24,8 @@ pub record HasRead (limits : Limits) (now : ℤ) (old new : Device) (ledger : Le
   pub tells : told ≡ told_after before envelopes
 
 -- without memory for the unpacker
-pub short_first : (limits : Limits) (old : Device) (before : ℕ) (left : Option ℕ) → GiftsJoin → left ≡ None → FailsLeaving limits (old, before) (old, left, before) 1 causes.OutOfMemory
+pub short_first : (limits : Limits) (old : Device) (before : ℕ) (left : Option ℕ) → GiftsJoin → left ≡ None
+    → FailsLeaving limits (old, before) (old, left, before) 1 causes.OutOfMemory
 short_first limits old before left joins lives =
     let divides : Divides limits [] [] [] = record { admitted = tt; parts = refl; few = omega arith } in
     (record { input = []; given = joins.none old; envelopes = []; divides = divides; in_hand = inl refl }, (lives, refl))

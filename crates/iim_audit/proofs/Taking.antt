@@ -1,11 +1,8 @@
 -- From what an intake and an unpacker answer to what an audit takes of it.
 use Rattle.iim_audit.proofs.Words.{◌≡◌, ℕ, List, [], length, refl, sym, ap, subst, ◌∙◌, false, ◌≢◌, ◌⊎◌, Option, Some, None, Bool, true, inl, inr, ⊎_elim, arith, ℤ, ◌≤◌, ◌++◌, take, Result, Ok, Err, IfOk, IfErr, OctetsAreHandedOnOneWay, EventsTellTheDatasets, WordsSoFar, CountsWords, capped, words, Value, Admits, object_of, Device, IoFault, Limits, FedEnvelope, Faults, WasMissed, WasRefused, WasTruncated, Unpacking, IsDoneWith, Stands, limits_in, Goes, IsDone, IsRefusedIn, failed_at, cause_of, IsCutOff, IsRefusal, TookEnvelope, TookOne, TookNone, IsTaken, option_map, raised, ShowsParts, UnpackedRef, row_with, counted_words, PieceAudit}
-use Rattle.iim_dataset.specs.Format.Datasets.{count_octets, InTag}
-use Rattle.iim_dataset.specs.States.Reading.{handed_on, HandsOn}
-use Rattle.wire_story.specs.Format.Texts.{StoryEvent, IsText}
-use Rattle.wire_story.specs.Laws.{TextsAreCountedAsLines, DeliveryMayBeCut}
-use Rattle.wire_message.specs.Laws.{TextsStandBetweenStxAndEtx}
-use Rattle.wire_message.specs.Format.Messages.{text_so_far}
+use Rattle.iim_dataset.specs.{Format.Datasets.count_octets, Format.Datasets.InTag, States.Reading.handed_on, States.Reading.HandsOn}
+use Rattle.wire_story.specs.{Format.Texts.StoryEvent, Format.Texts.IsText, Laws.TextsAreCountedAsLines, Laws.DeliveryMayBeCut, Steps.counts_joined}
+use Rattle.wire_message.specs.{Laws.TextsStandBetweenStxAndEtx, Format.Messages.text_so_far}
 use Rattle.wire_message.specs.declared.place.Place.TheVariants.{AfterEnd}
 use Rattle.iim_places.specs.Format.Open.{object_so_far, IsTextOf, Delivers}
 use Rattle.iim_places.proofs.Answering.{leads_to, no_text, reads_envelope}
@@ -17,11 +14,9 @@ use Rattle.iim_places.specs.declared.refusal.Cause.TheVariants.{Message}
 use Rattle.wire_message.specs.declared.fault.MessageCause.TheVariants.{Sink}
 use Rattle.iim_places.specs.declared.refusal.Refusal.{Refusal}
 use Rattle.iim_fields.specs.Format.Records.{instant_of_release, instant_of_expiration}
-use Rattle.wire_story.specs.Steps.{counts_joined}
 use Rattle.iim_unpack.specs.declared.unpacker.Progress.{Progress}
 use Rattle.iim_unpack.specs.declared.unpacker.Progress.TheVariants.{More, Done}
-use Rattle.iim_audit.specs.Steps.{HasFed, IsRefusedFor}
-use Rattle.iim_audit.specs.Format.{Finds, HaveWords, IsRowOf, Refuses, StandsOn, no_words}
+use Rattle.iim_audit.specs.{Steps.HasFed, Steps.IsRefusedFor, Format.Finds, Format.HaveWords, Format.IsRowOf, Format.Refuses, Format.StandsOn, Format.no_words}
 use Rattle.iim_audit.specs.declared.pieces.PieceRow.{PieceRow}
 use Rattle.iim_dataset.specs.declared.device.IoFault.TheVariants as io
 use Rattle.iim_unpack.specs.declared.intake.IntakeFault.TheVariants as intakes
@@ -76,7 +71,8 @@ took_one laws limits old new u v a b used n whole is_whole same stands none outs
     }
 
 -- the input has ended
-pub took_end : (limits : Limits) (old new : Device) (u v : Unpacking) (a b : WordsSoFar) (used : ℕ) (whole : Bool) → whole ≡ false → FedEnvelope CountsWords (old, u, a) (new, v, b) used whole
+pub took_end : (limits : Limits) (old new : Device) (u v : Unpacking) (a b : WordsSoFar) (used : ℕ) (whole : Bool) → whole ≡ false
+    → FedEnvelope CountsWords (old, u, a) (new, v, b) used whole
     → TookEnvelope limits old new v used None
 took_end limits old new u v a b used whole is fed =
     let (none, was) = rw is at fed in
@@ -125,7 +121,8 @@ pub none_by : (count : WordsSoFar) → count.words ≡ 0 → count.inside ≡ fa
 none_by count none outside = record { more = []; delivers = adds_none []; counts = record { words = λ few. omega (arith, none); inside = outside } }
 
 -- and of a piece more
-pub more_words : DeliveryMayBeCut → (p piece : List ℕ) (old new : WordsSoFar) (more : List StoryEvent) → HaveWords p old → Delivers p piece more → CountsWords old more new
+pub more_words : DeliveryMayBeCut → (p piece : List ℕ) (old new : WordsSoFar) (more : List StoryEvent) → HaveWords p old → Delivers p piece more
+    → CountsWords old more new
     → HaveWords (p ++ piece) new
 more_words cut p piece old new more before delivers counts = record {
   more = before.more ++ more;
@@ -183,7 +180,8 @@ refused_as (Err e) u old new piece refuses counts = record { more = refuses.0; r
 
 -- ---- what is found
 
-pub found_none : DeliveryMayBeCut → (limits : Limits) (now : ℤ) (old new : PieceAudit) (piece : List ℕ) → HasFed old.unpacker old.count piece new.unpacker new.count More
+pub found_none : DeliveryMayBeCut → (limits : Limits) (now : ℤ) (old new : PieceAudit) (piece : List ℕ)
+    → HasFed old.unpacker old.count piece new.unpacker new.count More
     → (p : List ℕ) (a : ℕ) → StandsOn old p a → Finds limits now p a piece new None
 found_none cut limits now old new piece fed p a stands =
     let goes = fed.goes p a stands.unpacker in
@@ -202,7 +200,8 @@ found_row cut limits now old mid new piece used found fed same is_used counts ro
     subst (λ (n : ℕ). (n ≤ length piece) × (found.octets ≡ raised a n) × IsRowOf limits now (p ++ take n piece) found × StandsOn new [] 0) (sym is_used)
     (goes.0, counts ∙ done.counts, is_row, again)
 
-pub refused_by : (u : Unpacking) (piece : List ℕ) (e : Refusal) → IsRefusedFor u piece e → (p : List ℕ) (a : ℕ) → Stands u p a → Refuses (limits_in u) p a piece e
+pub refused_by : (u : Unpacking) (piece : List ℕ) (e : Refusal) → IsRefusedFor u piece e → (p : List ℕ) (a : ℕ) → Stands u p a
+    → Refuses (limits_in u) p a piece e
 refused_by u piece e is p a stands =
     let r = is.refuses p a stands in
     let same = ap (λ (x : Refusal). x.cause) r.refusal in
@@ -213,7 +212,8 @@ refused_by u piece e is p a stands =
 pub row_of_done : TextLaws → (now : ℤ) (u : Unpacking) (count : WordsSoFar) (got : UnpackedRef) (words : ℕ) (found : PieceRow)
     → ((p : List ℕ) (a : ℕ) → IsDoneWith u p a → (v : Value) → Admits p v → ShowsParts got v) → words ≡ count.words
     → ((v : Value) → IsTaken (record { unpacked = got; words = words }) v → found.row ≡ row_with now v None)
-    → option_map (λ t. t.nanosecond) found.release ≡ instant_of_release got.envelope → option_map (λ t. t.nanosecond) found.expires ≡ instant_of_expiration got.envelope
+    → option_map (λ t. t.nanosecond) found.release ≡ instant_of_release got.envelope
+    → option_map (λ t. t.nanosecond) found.expires ≡ instant_of_expiration got.envelope
     → (p : List ℕ) (a : ℕ) → IsDoneWith u p a → HaveWords p count → IsRowOf (limits_in u) now p found
 row_of_done laws now u count got words found shows same row release expires p a done have =
     let parts = shows p a done done.value done.admits in

@@ -1,18 +1,13 @@
 -- What is begun at the place of a ticket.
 use Rattle.iim_c.proofs.Words.{◌≡◌, ℕ, List, [], get_or, sym, ap, subst, ◌∙◌, arith, Dataset, count_octets, InTag, InData, Reads, Split, SplitsTicket, Place, IsPlaceOf, IsTicketAt, TicketFault, IimBegun, TellsOctets, ◌==◌, ◌-◌, if◌then◌else◌, ◌∷◌, ◌++◌, inl, inr, length, drop, refl, append_assoc, length-append, drop_at, Head, Limits, Cause}
 use Rattle.std.proofs.Common.{◌⊎◌}
-use Rattle.iim_dataset.specs.Format.Datasets.{Begun}
-use Rattle.iim_places.specs.Format.TicketForm.{HasOtherVersion, IsFaultOf, IsVersion}
-use Rattle.iim_places.specs.Format.Tickets.{place_of}
-use Rattle.iim_places.specs.Laws.{TicketsHaveOneSplit, TicketsOfPlacesAreSplit, split_of}
+use Rattle.iim_dataset.specs.{Format.Datasets.Begun, Laws.DatasetLaws, States.Reading.handed_on}
+use Rattle.iim_places.specs.{Format.TicketForm.HasOtherVersion, Format.TicketForm.IsFaultOf, Format.TicketForm.IsVersion, Format.Tickets.place_of}
+use Rattle.iim_places.specs.{Laws.TicketsHaveOneSplit, Laws.TicketsOfPlacesAreSplit, Laws.split_of, Format.Open.AllCanContinue, Format.Open.Completes}
+use Rattle.iim_places.specs.Format.Causes.{Token, AtOctet, AtHead, AtValue, rule_of}
 use Rattle.wire_message.specs.declared.saved.MessagePlace.{MessagePlace}
 use Rattle.iim_c.specs.Format.Tickets.{IimSpan, IsBegunOf, HaveEnded, TellsBegun, begun_of, ended, AreOctetsOf, TellsToken}
-use Rattle.iim_dataset.specs.Laws.{DatasetLaws}
-use Rattle.iim_dataset.specs.States.Reading.{handed_on}
-use Rattle.iim_fields.specs.Format.Records.{AreSections}
-use Rattle.iim_fields.specs.Laws.{EnvelopesEndWithTheLastRecord}
-use Rattle.iim_places.specs.Format.Causes.{Token, AtOctet, AtHead, AtValue, rule_of}
-use Rattle.iim_places.specs.Format.Open.{AllCanContinue, Completes}
+use Rattle.iim_fields.specs.{Format.Records.AreSections, Laws.EnvelopesEndWithTheLastRecord}
 use Rattle.iim_places.proofs.Lasts.{last_sections}
 use Rattle.iim_object.specs.declared.reading.fault.SizeCause.TheVariants as sizes
 
@@ -27,7 +22,8 @@ tells_at at p whole (InData h taken) message found s span reads section phase is
 pub split_at : TicketsOfPlacesAreSplit → (ticket : List ℕ) (place : Place) (t : IsTicketAt ticket place) → SplitsTicket ticket (split_of t.version place)
 split_at law ticket place t = subst (λ (xs : List ℕ). SplitsTicket xs (split_of t.version place)) (sym t.spelled) (law t.version place t.is_version t.possible)
 
-pub octets_tell : TicketsOfPlacesAreSplit → TicketsHaveOneSplit → (ticket : List ℕ) (at : ℕ) (s : Split) (found : IimBegun) → SplitsTicket ticket s → IsBegunOf ticket at s found
+pub octets_tell : TicketsOfPlacesAreSplit → TicketsHaveOneSplit → (ticket : List ℕ) (at : ℕ) (s : Split) (found : IimBegun) → SplitsTicket ticket s
+    → IsBegunOf ticket at s found
     → (p : List ℕ) (place : Place) → IsTicketAt ticket place → IsPlaceOf p place → TellsOctets p at found
 octets_tell of_places one ticket at s found h b p place t led =
     let same : s ≡ split_of t.version place = one ticket s (split_of t.version place) h (split_at of_places ticket place t) in
@@ -65,27 +61,32 @@ from_there : (p front xs : List ℕ) (next n : ℕ) → p ≡ front ++ xs → n 
 from_there p front xs next n is counts =
     rw (is, append_assoc front xs (next ∷ [])) (drop_at front (xs ++ next ∷ []) n (omega (arith, counts, ap length is, length-append front xs)))
 
-tag_there : (p : List ℕ) (whole : List Dataset) (held : List ℕ) (next n : ℕ) → (reads : Reads count_octets p whole (InTag held)) → n ≡ length p - length held → drop n (p ++ next ∷ []) ≡ held ++ next ∷ []
+tag_there : (p : List ℕ) (whole : List Dataset) (held : List ℕ) (next n : ℕ) → (reads : Reads count_octets p whole (InTag held)) → n ≡ length p - length held
+    → drop n (p ++ next ∷ []) ≡ held ++ next ∷ []
 tag_there p whole held next n reads counts = from_there p reads.front held next n (rw reads.is_rest.0 at reads.parts) counts
 
-data_there : (p : List ℕ) (whole : List Dataset) (h : Head) (taken : List ℕ) (next n : ℕ) → (reads : Reads count_octets p whole (InData h taken)) → n ≡ length p - length taken → drop n (p ++ next ∷ []) ≡ taken ++ next ∷ []
+data_there : (p : List ℕ) (whole : List Dataset) (h : Head) (taken : List ℕ) (next n : ℕ) → (reads : Reads count_octets p whole (InData h taken))
+    → n ≡ length p - length taken → drop n (p ++ next ∷ []) ≡ taken ++ next ∷ []
 data_there p whole h taken next n reads counts =
     let parts = rw reads.is_rest.4 at reads.parts in
     from_there p (reads.front ++ reads.is_rest.0) taken next n (parts ∙ sym (append_assoc reads.front reads.is_rest.0 taken)) counts
 
 -- an octet of data is looked at by itself in subfiles alone
-in_subfile : (cause : Cause) (limits : Limits) (ds : List Dataset) (h : Head) (taken : List ℕ) (octet : ℕ) → (rule_of cause).holds limits ds (AtOctet (InData h taken) octet) → h.rec ≡ 8
+in_subfile : (cause : Cause) (limits : Limits) (ds : List Dataset) (h : Head) (taken : List ℕ) (octet : ℕ)
+    → (rule_of cause).holds limits ds (AtOctet (InData h taken) octet) → h.rec ≡ 8
 in_subfile cause limits ds h taken octet holds = grind arith
 
 -- an octet that is judged by itself, of what is begun
-octet_of : (p : List ℕ) (whole : List Dataset) (begun : Begun) (next n : ℕ) (cause : Cause) (limits : Limits) (ds : List Dataset) → Reads count_octets p whole begun → n ≡ token_of (length p) begun
+octet_of : (p : List ℕ) (whole : List Dataset) (begun : Begun) (next n : ℕ) (cause : Cause) (limits : Limits) (ds : List Dataset)
+    → Reads count_octets p whole begun → n ≡ token_of (length p) begun
     → (rule_of cause).holds limits ds (AtOctet begun next) → AreOctetsOf (AtOctet begun next) (drop n (p ++ next ∷ []))
 octet_of p whole (InTag held) next n cause limits ds reads counts holds = tag_there p whole held next n reads counts
 octet_of p whole (InData h taken) next n cause limits ds reads counts holds =
     let eight = in_subfile cause limits ds h taken next holds in
     drop_at p (next ∷ []) n (grind arith)
 
-token_there : (p : List ℕ) (whole : List Dataset) (begun : Begun) (next n : ℕ) (cause : Cause) (limits : Limits) (ds : List Dataset) → Reads count_octets p whole begun → n ≡ token_of (length p) begun → (token : Token)
+token_there : (p : List ℕ) (whole : List Dataset) (begun : Begun) (next n : ℕ) (cause : Cause) (limits : Limits) (ds : List Dataset)
+    → Reads count_octets p whole begun → n ≡ token_of (length p) begun → (token : Token)
     → Completes limits ds begun next token → (rule_of cause).holds limits ds token → AreOctetsOf token (drop n (p ++ next ∷ []))
 token_there p whole begun next n cause limits ds reads counts (AtOctet b octet) is holds =
     rw (is.0, is.1) (octet_of p whole begun next n cause limits ds reads counts (rw (is.0, is.1) at holds))
@@ -103,7 +104,8 @@ token_there p whole (InData h taken) next n cause limits ds reads counts (AtValu
     )
 
 -- of the last dataset all has come, and the octets are an envelope's
-not_ended : EnvelopesEndWithTheLastRecord → (limits : Limits) (whole : List Dataset) (begun : Begun) → AllCanContinue limits whole begun → (AreSections whole → ⊥) → HaveEnded whole begun → ⊥
+not_ended : EnvelopesEndWithTheLastRecord → (limits : Limits) (whole : List Dataset) (begun : Begun) → AllCanContinue limits whole begun
+    → (AreSections whole → ⊥) → HaveEnded whole begun → ⊥
 not_ended ends limits whole (InTag held) all unfinished nine = unfinished (last_sections ends whole all.sizes.records nine)
 not_ended ends limits whole (InData h taken) all unfinished none = none
 

@@ -1,9 +1,7 @@
 -- The place of a ticket, and the unpacker that stands there.
 use Rattle.iim_c.proofs.Words.{◌≡◌, ◌==◌, ◌⊎◌, ℕ, true, length, arith, List, [], ◌∷◌, inl, inr, refl, sym, ap, ◌∙◌, get_or, None, Limits, ◌≢◌, Cause, CountsFor, Message, Sink, PlaceLaws, IsTicketAt, Place, IsPlaceOf, Unpacking, Stands, IsDone, IsDoneWith, limits_in}
-use Rattle.iim_places.specs.Laws.{TicketsTellOnePlace}
-use Rattle.iim_places.specs.Format.Tickets.{ticket_in}
-use Rattle.iim_c.specs.Steps.{IsBegun}
-use Rattle.iim_c.specs.Format.Feeding.{StandsAt, EndsAt, IsSaid}
+use Rattle.iim_places.specs.{Laws.TicketsTellOnePlace, Format.Tickets.ticket_in}
+use Rattle.iim_c.specs.{Steps.IsBegun, Format.Feeding.StandsAt, Format.Feeding.EndsAt, Format.Feeding.IsSaid}
 
 -- Some octets have led there.
 abbrev pub IsPlace : Limits → List ℕ → ℕ → Type 0
@@ -78,6 +76,7 @@ not_sink cause counts is = grind arith
 
 -- ---- none
 
-pub begun_none : (limits : Limits) (ticket : List ℕ) (at : ℕ) (u : Unpacking) → true ≡ (length ticket == 0) → Stands u [] 0 → limits_in u ≡ limits → IsBegun limits ticket at u
+pub begun_none : (limits : Limits) (ticket : List ℕ) (at : ℕ) (u : Unpacking) → true ≡ (length ticket == 0) → Stands u [] 0 → limits_in u ≡ limits
+    → IsBegun limits ticket at u
 begun_none limits [] at u empty stands same = (stands, same)
 begun_none limits (x ∷ xs) at u empty stands same = grind arith

@@ -4,18 +4,15 @@ use Rattle.std.specs.List.{position_or_len, before_first, after_first}
 use Rattle.std.proofs.lemmas.Grind.{common_steps}
 use Rattle.std.proofs.lemmas.Bool.{cases_lt}
 use Rattle.std.proofs.lemmas.List.{length-map, length-take}
-use Rattle.iim_dataset.specs.Format.Octets.{stx, etx}
+use Rattle.iim_dataset.specs.{Format.Octets.stx, Format.Octets.etx, Laws.DatasetLaws, Laws.NoTagBeginsAnother}
 use Rattle.iim_dataset.specs.Format.Datasets.{Dataset, SpellsStream, SpellsTag, head_of, count_octets, of_record, Begun, InTag, InData, IsBegun, Reads}
-use Rattle.iim_dataset.specs.Laws.{DatasetLaws, NoTagBeginsAnother}
 use Rattle.iim_dataset.specs.declared.head.Head.{Head}
 use Rattle.iim_dataset.proofs.Agreeing.{Longer, compare}
 use Rattle.iim_fields.specs.Format.Causes.{joined}
 use Rattle.wire_story.specs.Format.Texts.{StoryEvent, events_of, delivered, octet_for}
 use Rattle.wire_message.specs.Format.Messages.{after_stx, text_so_far}
-use Rattle.iim_places.specs.Format.Admitted.{object_of}
-use Rattle.iim_places.specs.Format.Open.{object_so_far, IsTextOf, Delivers}
-use Rattle.iim_places.proofs.Following.{longer_front, objects_append}
-use Rattle.iim_places.proofs.Fronts.{begun_none, no_longer}
+use Rattle.iim_places.specs.{Format.Admitted.object_of, Format.Open.object_so_far, Format.Open.IsTextOf, Format.Open.Delivers}
+use Rattle.iim_places.proofs.{Following.longer_front, Following.objects_append, Fronts.begun_none, Fronts.no_longer}
 
 -- ---- before and after the first
 
@@ -88,7 +85,8 @@ in_front tag octets first later rest f whole one all is = simp append_assoc at (
 -- ---- after octets of a tag
 
 -- a tag that comes is no shorter than what was held of it
-held_fits : NoTagBeginsAnother → (h k : Head) (held r t tag x y : List ℕ) → SpellsTag count_octets h t → 0 < length r → held ++ r ≡ t → SpellsTag count_octets k tag → tag ++ x ≡ held ++ y
+held_fits : NoTagBeginsAnother → (h k : Head) (held r t tag x y : List ℕ) → SpellsTag count_octets h t → 0 < length r → held ++ r ≡ t
+    → SpellsTag count_octets k tag → tag ++ x ≡ held ++ y
     → length held ≤ length tag
 held_fits one h k held r t tag x y s some is spelled agree =
     elim (cases_lt (length tag) (length held)) as (λ _. length held ≤ length tag) [
@@ -98,7 +96,8 @@ held_fits one h k held r t tag x y s some is spelled agree =
       | inr fits ↦ fits
     ]
 
-after_tag : NoTagBeginsAnother → (h : Head) (held r t more : List ℕ) → SpellsTag count_octets h t → 0 < length r → held ++ r ≡ t → (xs : List Dataset) (b : Begun) (f rest : List ℕ) → SpellsStream count_octets xs f
+after_tag : NoTagBeginsAnother → (h : Head) (held r t more : List ℕ) → SpellsTag count_octets h t → 0 < length r → held ++ r ≡ t
+    → (xs : List Dataset) (b : Begun) (f rest : List ℕ) → SpellsStream count_octets xs f
     → IsBegun count_octets b rest → f ++ rest ≡ held ++ more → length (object_of xs ++ begun_octets b) ≤ length more
 after_tag one h held r t more s some is [] (InTag other) f rest stream begun agree = omega arith
 after_tag one h held r t more s some is [] (InData k taken) f rest stream (tag, spelled, less, given, parts) agree =
@@ -112,7 +111,8 @@ after_tag one h held r t more s some is (d ∷ xs) b f rest (first, later, spell
 
 -- ---- after octets of data
 
-after_data : NoTagBeginsAnother → (h : Head) (tag t more : List ℕ) → SpellsTag count_octets h tag → length t < h.count → (xs : List Dataset) (b : Begun) (f rest : List ℕ) → SpellsStream count_octets xs f
+after_data : NoTagBeginsAnother → (h : Head) (tag t more : List ℕ) → SpellsTag count_octets h tag → length t < h.count
+    → (xs : List Dataset) (b : Begun) (f rest : List ℕ) → SpellsStream count_octets xs f
     → IsBegun count_octets b rest → f ++ rest ≡ tag ++ (t ++ more) → After (begun_octets (InData h t)) (object_of xs ++ begun_octets b) (length more)
 after_data one h tag t more s less [] (InTag held) f rest stream (same, k, other, spelled, (r, some, is)) agree =
     let held_is : held ≡ tag ++ (t ++ more) = sym same ∙ (ap (λ (l : List ℕ). l ++ rest) (sym stream) ∙ agree) in

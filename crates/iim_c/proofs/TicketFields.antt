@@ -36,7 +36,8 @@ fields_at ticket s h =
     (flat_map (number_octets s.version) s.numbers) (wide s.version s.taken) (four s.heads) message in
     fields_after ticket front rest _ s.fields (h.spelled ∙ is) (simp length-append (omega arith))
 
-pub next_at : (ticket : List ℕ) (offset : ℕ) (d : Dataset) (ds : List Dataset) → FieldsAt ticket offset (d ∷ ds) → FieldsAt ticket (offset + 6 + length d.octets) ds
+pub next_at : (ticket : List ℕ) (offset : ℕ) (d : Dataset) (ds : List Dataset) → FieldsAt ticket offset (d ∷ ds)
+    → FieldsAt ticket (offset + 6 + length d.octets) ds
 next_at ticket offset d ds at =
     fields_after ticket (at.front ++ ((d.rec ∷ d.set ∷ four (length d.octets)) ++ d.octets)) at.rest (offset + 6 + length d.octets) ds
     (at.is ∙ simp append_assoc) (simp length-append (let n = at.counts in omega (arith, n)))

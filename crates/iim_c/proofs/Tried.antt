@@ -1,17 +1,14 @@
 -- Which octets can come next at the place of a ticket.
 use Rattle.iim_c.proofs.Words.{◌≡◌, ◌≢◌, ℕ, ◌+◌, ◌<◌, ◌≤◌, List, [], ◌∷◌, ◌++◌, inl, inr, take, refl, sym, ap, subst, ◌∙◌, arith, append-nil, Bool, true, false, if◌then◌else◌, cases_eq, Limits, StoryEvent, IsOpen, raised, Refusal, Message, Sink, Unpacking, Goes, IsDoneWith, IsRefusedIn, limits_in, Progress, IsSet}
-use Rattle.iim_places.specs.Format.Streams.{IsEnvelopeWithin, Kills}
-use Rattle.iim_places.specs.Laws.{NothingContinuesFromRefusedOctets, OpenOctetsBeginWithNoEnvelope}
+use Rattle.iim_places.specs.{Format.Streams.IsEnvelopeWithin, Format.Streams.Kills, Laws.NothingContinuesFromRefusedOctets, Laws.OpenOctetsBeginWithNoEnvelope}
 use Rattle.iim_places.specs.declared.fault.TokenFault.{TokenFault}
 use Rattle.iim_unpack.specs.declared.unpacker.Progress.TheVariants.{More, Done}
-use Rattle.iim_c.specs.Format.Answers.{IimAnswer}
-use Rattle.iim_c.specs.Format.Feeding.{IsNowhere, IsSaid}
+use Rattle.iim_c.specs.{Format.Answers.IimAnswer, Format.Feeding.IsNowhere, Format.Feeding.IsSaid, Steps.IsSet}
 use Rattle.iim_c.specs.Format.Tickets.{IsTaken, IsNext, TellsNext, bit_of, no_octets}
 use Rattle.std.proofs.Common.{◌≡◌, ◌≢◌, ℕ, ◌/◌, ◌%◌, ◌<◌, List, get_or, set, replicate, ap, ◌∙◌, arith}
 use Rattle.std.specs.Int.{bit_at}
 use Rattle.std.proofs.lemmas.List.{get_or-replicate, get_or_past, length-replicate}
 use Rattle.std.proofs.lemmas.Nat.Bits.{bit_at-zero}
-use Rattle.iim_c.specs.Steps.{IsSet}
 
 -- ---- one octet
 

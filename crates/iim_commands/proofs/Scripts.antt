@@ -5,8 +5,7 @@ use Rattle.std.specs.List.{AllByRecursion}
 use Rattle.std.proofs.lemmas.List.Elements.{filter-append}
 use Rattle.iim_dataset.specs.Format.Datasets.{Dataset}
 use Rattle.iim_fields.specs.Format.Records as builders
-use Rattle.iim_fields.specs.Format.Causes.{is_kept, kept}
-use Rattle.iim_fields.specs.Format.Records.{AreRecords, AreSections}
+use Rattle.iim_fields.specs.{Format.Causes.is_kept, Format.Causes.kept, Format.Records.AreRecords, Format.Records.AreSections}
 use Rattle.iim_tables.specs.Format.Records.{IsGoodDataset}
 use Rattle.wire_story.specs.Format.Texts.{IsLine, IsText}
 use Rattle.iim_script.specs.Laws.{PrintedValuesAreScripts, ScriptsTellOneThing, ScriptsHaveNoFault}
@@ -66,7 +65,8 @@ same_told t other (fields, head, trailer, lines, number) =
 tells_just : ScriptsTellOneThing → ScriptsHaveNoFault → (script : List ℕ) (t : ScriptContent) → IsScriptOf script t → TellsJust script t
 tells_just once sound script t told = record {
   told = told;
-  only = λ other h. same_told other t (once limits script other.fields t.fields other.head t.head other.trailer t.trailer other.lines t.lines other.text_line t.text_line h told);
+  only = λ other h. same_told other t (once limits script other.fields t.fields other.head t.head other.trailer t.trailer other.lines t.lines other.text_line
+      t.text_line h told);
   sound = λ line cause fault. sound limits script t.fields t.head t.trailer t.lines t.text_line line cause told fault;
 }
 

@@ -18,7 +18,8 @@ pub record Next (whole ds : List Dataset) (z y : List ℕ) : Type 0 where
   pub later : SpellsStream count_octets more q
   pub agree : z ≡ p ++ (q ++ y)
 
-pub compare : NoDatasetBeginsAnother → (whole ds : List Dataset) (front f z y : List ℕ) → SpellsStream count_octets whole front → SpellsStream count_octets ds f → front ++ z ≡ f ++ y
+pub compare : NoDatasetBeginsAnother → (whole ds : List Dataset) (front f z y : List ℕ) → SpellsStream count_octets whole front
+    → SpellsStream count_octets ds f → front ++ z ≡ f ++ y
     → Longer whole ds z y ⊎ Next whole ds z y
 compare one [] [] front f z y sw sf e = inl ([], [], refl, refl, rw (sw, sf) at e)
 compare one [] (d ∷ ds) front f z y sw (p, q, first, later, joined) e =

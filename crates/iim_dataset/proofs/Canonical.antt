@@ -5,12 +5,11 @@ use Rattle.std.proofs.Math.Seq.{take-append_seam, take-append-add}
 use Rattle.std.proofs.lemmas.Bool.{lt-ltb, le-ltb, leb-true, le-leb, cases_lt}
 use Rattle.byteorder.specs.Numbers.{big_number-reads_back}
 use Rattle.iim_dataset.proofs.WrittenNumbers.{some_octets, few_octets, number_octets, number_back}
-use Rattle.iim_dataset.specs.Format.Octets.{IsOctet}
-use Rattle.iim_dataset.specs.Format.Datasets.{Dataset, SpellsCount, SpellsTag, SpellsDataset, canonical_count, canonical_tag, canonical_dataset, canonical_stream, count_octets, head_of, Head, HasNoTag, HeadFault}
-use Rattle.iim_dataset.specs.Laws.{CanonicalTagsReadBack, CanonicalStreamsAreSpelled, HasSpellings}
-use Rattle.std.specs.Prelude.{◌↔◌, IsTrue, nat_le}
-use Rattle.iim_dataset.specs.States.Reading.{IsPlace, Inside}
 use Rattle.iim_dataset.proofs.Spelled.{one_tag, no_longer}
+use Rattle.iim_dataset.specs.{Format.Octets.IsOctet, Laws.CanonicalTagsReadBack, Laws.CanonicalStreamsAreSpelled, Laws.HasSpellings}
+use Rattle.iim_dataset.specs.Format.Datasets.{Dataset, SpellsCount, SpellsTag, SpellsDataset, canonical_count, canonical_tag, canonical_dataset, canonical_stream, count_octets, head_of, Head, HasNoTag, HeadFault}
+use Rattle.iim_dataset.specs.States.Reading.{IsPlace, Inside}
+use Rattle.std.specs.Prelude.{◌↔◌, IsTrue, nat_le}
 
 pub count_spells : (n : ℕ) → n < 256 ^ count_octets → SpellsCount count_octets n (canonical_count n)
 count_spells n h = elim (cases_lt n 32768) [

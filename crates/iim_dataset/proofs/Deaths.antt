@@ -3,15 +3,11 @@ use Rattle.std.proofs.Common.{◌≡◌, ℕ, ◌⊎◌, List, [], ◌∷◌, �
 use Rattle.iim_dataset.specs.Format.Octets.{IsOctet, IsAlive, DiesAt}
 use Rattle.iim_dataset.specs.Format.Datasets.{Dataset, SpellsTag, SpellsDataset, head_of, count_octets, Head, Begun, InTag, InData, Reads, BeginsNoTag}
 use Rattle.iim_dataset.specs.Laws.{NoOctetsContinue, AreDatasets, ReadOctetsSplit, OctetsDieInTheirTag, ReadersDieExactly}
-use Rattle.iim_dataset.proofs.Spelled.{one_tag, one_dataset, whole_read, with_data, stream_more}
-use Rattle.iim_dataset.proofs.OneHanding.{read_octets_continue, not_within, splits}
-use Rattle.iim_dataset.proofs.Agreeing.{compare}
-use Rattle.iim_dataset.proofs.Each.{all_back}
-use Rattle.std.proofs.lemmas.List.{length-replicate}
 use Rattle.iim_dataset.specs.States.Reading.{DatasetEvent, HandsOn, LeadsTo, DatasetPlace, TagDies}
+use Rattle.iim_dataset.proofs.{Spelled.one_tag, Spelled.one_dataset, Spelled.whole_read, Spelled.with_data, Spelled.stream_more, Agreeing.compare}
+use Rattle.iim_dataset.proofs.{OneHanding.read_octets_continue, OneHanding.not_within, OneHanding.splits, Each.all_back, Places.tag_held, OctetLists.zeros_are}
+use Rattle.std.proofs.lemmas.List.{length-replicate}
 use Rattle.iim_dataset.specs.declared.head.HeadCause.{HeadCause}
-use Rattle.iim_dataset.proofs.Places.{tag_held}
-use Rattle.iim_dataset.proofs.OctetLists.{zeros_are}
 
 -- of two cuts of one list, the second lies after the first, or the first has what comes next
 goes_on : {A : Type 0} (xs ys us vs : List A) (v : A) → xs ++ ys ≡ us ++ v ∷ vs → ((m : List A) × (us ≡ xs ++ m)) ⊎ ((m : List A) × (xs ≡ us ++ v ∷ m))
@@ -65,7 +61,8 @@ no_octets_continue octets more next whole held w b r dead s = let (h, m, t) = ta
 pub read_octets_split : ReadOctetsSplit
 read_octets_split octets whole begun r = (r.rest, r.is_rest, splits r)
 
-dies : (octets : List ℕ) (next : ℕ) (whole : List Dataset) (held : List ℕ) → Reads count_octets octets whole (InTag held) → BeginsNoTag count_octets (held ++ next ∷ []) → DiesAt AreDatasets octets next
+dies : (octets : List ℕ) (next : ℕ) (whole : List Dataset) (held : List ℕ) → Reads count_octets octets whole (InTag held)
+    → BeginsNoTag count_octets (held ++ next ∷ []) → DiesAt AreDatasets octets next
 dies octets next whole held r dead =
     let on = read_octets_continue octets whole (InTag held) r in (
       (on.1, (whole ++ on.0 ∷ [], on.3)),
@@ -75,7 +72,8 @@ dies octets next whole held r dead =
     )
 
 -- with the octets of a tag a whole dataset can follow
-lives : (octets : List ℕ) (next : ℕ) (whole : List Dataset) (held : List ℕ) → Reads count_octets octets whole (InTag held) → (h : Head) (more : List ℕ) → SpellsTag count_octets h ((held ++ next ∷ []) ++ more)
+lives : (octets : List ℕ) (next : ℕ) (whole : List Dataset) (held : List ℕ) → Reads count_octets octets whole (InTag held) → (h : Head) (more : List ℕ)
+    → SpellsTag count_octets h ((held ++ next ∷ []) ++ more)
     → IsAlive AreDatasets (octets ++ next ∷ [])
 lives octets next whole held r h more s =
     let zeros = replicate h.count 0 in
@@ -94,7 +92,8 @@ octets_die_in_their_tag octets next whole held r =
 alive : (octets : List ℕ) (events : List DatasetEvent) (begun : Begun) → HandsOn count_octets octets events begun → IsAlive AreDatasets octets
 alive octets events begun h = let on = read_octets_continue octets h.whole begun h.reads in (on.1, (h.whole ++ on.0 ∷ [], on.3))
 
-tag_dies : (octets : List ℕ) (events : List DatasetEvent) (place : DatasetPlace) (next : ℕ) (cause : HeadCause) → LeadsTo count_octets octets events place → TagDies place next cause → DiesAt AreDatasets octets next
+tag_dies : (octets : List ℕ) (events : List DatasetEvent) (place : DatasetPlace) (next : ℕ) (cause : HeadCause) → LeadsTo count_octets octets events place
+    → TagDies place next cause → DiesAt AreDatasets octets next
 tag_dies octets events place next cause l d =
     let h = tag_held (record { items = d.held }) (rw d.tag at l) in
     dies octets next h.whole d.held h.reads d.dead

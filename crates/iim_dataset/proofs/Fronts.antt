@@ -2,8 +2,7 @@
 use Rattle.std.proofs.Common.{◌≡◌, ◌≢◌, ℕ, ◌+◌, ◌*◌, ◌-◌, ◌<◌, ◌≤◌, List, [], ◌∷◌, ◌++◌, length, take, drop, get_or, replicate, refl, ap, sym, ◌∙◌, inl, inr, arith, length-append, length-drop, drop-cons, get_or-drop}
 use Rattle.std.proofs.lemmas.List.{length-replicate, length-take-le, take_all}
 use Rattle.std.proofs.Math.Seq.{take-append-add}
-use Rattle.byteorder.specs.Endian.{big_number}
-use Rattle.byteorder.specs.Numbers.{big_from-take}
+use Rattle.byteorder.specs.{Endian.big_number, Numbers.big_from-take}
 use Rattle.std.proofs.lemmas.Bool.{cases_lt}
 use Rattle.iim_dataset.specs.Format.Octets.{Octets, number}
 use Rattle.iim_dataset.specs.Format.Datasets.{SpellsCount, count_octets, BeginsTag, BeginsNoTag, HasTag, HasNoTag, HeadFault}
@@ -72,7 +71,8 @@ begun_front o fits long marker form =
     rw (ap (take 4) (four_of o (omega arith)), marker) (begun_four (get_or o 1 0) (get_or o 2 0) (get_or o 3 0) (fits 1) (fits 2) form)
 
 -- a begun extended count continues with zeros
-pub begun_extended : (o : List ℕ) (n : ℕ) → Fit o → 4 < length o → get_or o 0 0 ≡ 28 → get_or o 3 0 ≡ 128 → get_or o 4 0 ≡ n → 1 ≤ n → n ≤ count_octets → length o < 5 + n
+pub begun_extended : (o : List ℕ) (n : ℕ) → Fit o → 4 < length o → get_or o 0 0 ≡ 28 → get_or o 3 0 ≡ 128 → get_or o 4 0 ≡ n → 1 ≤ n → n ≤ count_octets
+    → length o < 5 + n
     → BeginsTag count_octets o
 begun_extended o n fits long marker form is some few short =
     let rest = drop 5 o in

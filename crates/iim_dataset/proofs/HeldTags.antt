@@ -82,12 +82,14 @@ ends held rest {h} {n} b t = elim (cases_lt (length held) n) [
 ]
 
 -- but for its last octet it is begun
-pub unfinished : (held rest : List ℕ) (h : Head) (k : ℕ) → k < length rest → SpellsTag count_octets h (held ++ take (k + 1) rest) → BeginsTag count_octets (held ++ take k rest)
+pub unfinished : (held rest : List ℕ) (h : Head) (k : ℕ) → k < length rest → SpellsTag count_octets h (held ++ take (k + 1) rest)
+    → BeginsTag count_octets (held ++ take k rest)
 unfinished held rest h k lt s = record { head = h; more = slice_index rest k ∷ []; some_more = omega arith; whole = rw (one_more held rest k lt) at s }
 
 -- where no tag continues
 pub refused_at : (held rest : List ℕ) (f : HeadFault) (k : ℕ) → BeginsTag count_octets held → HasNoTag (held ++ rest) f → k ≡ f.taken - length held
-    → (k < length rest) × BeginsTag count_octets (held ++ take k rest) × BeginsNoTag count_octets ((held ++ take k rest) ++ slice_index rest k ∷ []) × (f.taken ≡ length (held ++ take k rest))
+    → (k < length rest) × BeginsTag count_octets (held ++ take k rest) × BeginsNoTag count_octets ((held ++ take k rest) ++ slice_index rest k ∷ [])
+    × (f.taken ≡ length (held ++ take k rest))
 refused_at held rest f k b t e =
     let all : f.taken ≡ length held + k = omega (arith, after_held held rest f b t, e) in
     let lt : k < length rest = omega (arith, t.within, length-append held rest, all) in

@@ -3,12 +3,10 @@ use Rattle.std.proofs.Common.{◌≡◌, ℕ, ◌-◌, ◌<◌, ◌≤◌, ◌�
 use Rattle.std.proofs.lemmas.Bool.{cases_lt}
 use Rattle.std.proofs.lemmas.List.{append_cancel_left}
 use Rattle.arrayvec.specs.ArrayVec.{ArrayVec}
-use Rattle.iim_dataset.specs.Format.Octets.{Octets}
+use Rattle.iim_dataset.specs.{Format.Octets.Octets, Laws.CompletesNow, Laws.WhatAnOctetCompletes}
 use Rattle.iim_dataset.specs.Format.Datasets.{SpellsTag, count_octets, Head, Begun, InTag, InData, BeginsTag}
 use Rattle.iim_dataset.specs.States.Reading.{DatasetEvent, HeadRead, DataOctet, DatasetEnd, events_of, HandsOn, LeadsTo, Tag, Inside}
-use Rattle.iim_dataset.specs.Laws.{CompletesNow, WhatAnOctetCompletes}
-use Rattle.iim_dataset.proofs.OneHanding.{one_handing}
-use Rattle.iim_dataset.proofs.Deaths.{tag_goes_on, data_go_on}
+use Rattle.iim_dataset.proofs.{OneHanding.one_handing, Deaths.tag_goes_on, Deaths.data_go_on}
 use Rattle.iim_dataset.proofs.Places.{handed_data, tag_on, head_on, empty_on, data_on, data_end}
 
 -- ---- lists of one event, or of two

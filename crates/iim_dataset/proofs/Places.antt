@@ -5,13 +5,10 @@ use Rattle.std.proofs.lemmas.Bool.Decides.{nat_tests}
 use Rattle.std.proofs.lemmas.List.{map-append, length-replicate}
 use Rattle.std.proofs.lemmas.List.Concat.{flat_map-append}
 use Rattle.arrayvec.specs.ArrayVec.{ArrayVec}
-use Rattle.iim_dataset.specs.Format.Octets.{Octets}
+use Rattle.iim_dataset.specs.{Format.Octets.Octets, Steps.head_events, Laws.PlacesAreReached, Laws.OctetsLeadToOnePlace}
 use Rattle.iim_dataset.specs.Format.Datasets.{Dataset, SpellsTag, count_octets, Head, Begun, InTag, InData, IsBegun, Reads, BeginsTag}
 use Rattle.iim_dataset.specs.States.Reading.{DatasetEvent, HeadRead, DataOctet, DatasetEnd, events_of, handed_on, LeadsTo, HandsOn, IsKeptAs, Brings, between, IsPlace, DatasetPlace, Tag, Inside, Stops}
-use Rattle.iim_dataset.specs.Steps.{head_events}
-use Rattle.iim_dataset.proofs.Spelled.{with_data, stream_more, held_of, whole_read}
-use Rattle.iim_dataset.proofs.OctetLists.{octets_append, zeros_are}
-use Rattle.iim_dataset.specs.Laws.{PlacesAreReached, OctetsLeadToOnePlace}
+use Rattle.iim_dataset.proofs.{Spelled.with_data, Spelled.stream_more, Spelled.held_of, Spelled.whole_read, OctetLists.octets_append, OctetLists.zeros_are}
 use Rattle.iim_dataset.proofs.OneHanding.{one_handing}
 
 -- ---- what is begun, and what was handed on of it
@@ -89,14 +86,16 @@ brings_on p q r xs ys es fs f g octets events l =
     rw (← append_assoc octets xs ys, ← append_assoc events es fs) (g (octets ++ xs) (events ++ es) (f octets events l))
 
 -- octets of a tag
-pub tag_on : (held then_held : ArrayVec ℕ) (ys : List ℕ) → BeginsTag count_octets (held.items ++ ys) → then_held.items ≡ held.items ++ ys → Brings (Tag held) ys [] (Tag then_held)
+pub tag_on : (held then_held : ArrayVec ℕ) (ys : List ℕ) → BeginsTag count_octets (held.items ++ ys) → then_held.items ≡ held.items ++ ys
+    → Brings (Tag held) ys [] (Tag then_held)
 tag_on held then_held ys b e octets events l =
     let t = tag_held held l in
     let hands = hands_more ys [] t (held_of b (ap (λ l. l ++ ys) t.reads.is_rest.0)) (sym (append-nil (handed_on t.whole (InTag held.items)))) in
     record { begun = InTag (held.items ++ ys); hands = hands; keeps = e }
 
 -- the end of a tag
-pub head_on : (held : ArrayVec ℕ) (ys : List ℕ) (h : Head) → SpellsTag count_octets h (held.items ++ ys) → 0 < h.count → Brings (Tag held) ys (HeadRead h ∷ []) (Inside h h.count)
+pub head_on : (held : ArrayVec ℕ) (ys : List ℕ) (h : Head) → SpellsTag count_octets h (held.items ++ ys) → 0 < h.count
+    → Brings (Tag held) ys (HeadRead h ∷ []) (Inside h h.count)
 head_on held ys h s some octets events l =
     let t = tag_held held l in
     let parts : t.reads.rest ++ ys ≡ (held.items ++ ys) ++ [] = ap (λ l. l ++ ys) t.reads.is_rest.0 ∙ sym (append-nil (held.items ++ ys)) in
@@ -123,10 +122,12 @@ head_first h = by_count (h.count == 0)
 abbrev pub place_after_head : Head → DatasetPlace
 place_after_head h = if h.count == 0 then between else Inside h h.count
 
-pub head_leads : (held : ArrayVec ℕ) (ys : List ℕ) (h : Head) → SpellsTag count_octets h (held.items ++ ys) → Brings (Tag held) ys (head_events h) (place_after_head h)
+pub head_leads : (held : ArrayVec ℕ) (ys : List ℕ) (h : Head) → SpellsTag count_octets h (held.items ++ ys)
+    → Brings (Tag held) ys (head_events h) (place_after_head h)
 head_leads held ys h s = by_count (h.count == 0) refl
   where
-    by_count : (b : Bool) → (h.count == 0) ≡ b → Brings (Tag held) ys (if b then HeadRead h ∷ DatasetEnd ∷ [] else HeadRead h ∷ []) (if b then between else Inside h h.count)
+    by_count : (b : Bool) → (h.count == 0) ≡ b
+        → Brings (Tag held) ys (if b then HeadRead h ∷ DatasetEnd ∷ [] else HeadRead h ∷ []) (if b then between else Inside h h.count)
     by_count true e = empty_on held ys h s (grind (arith, nat_tests, e))
     by_count false e = head_on held ys h s (grind (arith, nat_tests, e))
 
@@ -156,14 +157,16 @@ data_end h left ys o all octets events l =
     record { begun = InTag []; hands = ended; keeps = refl }
 
 -- a whole dataset
-pub whole_on : (tag xs : List ℕ) (h : Head) → SpellsTag count_octets h tag → Octets xs → h.count ≡ length xs → Brings between (tag ++ xs) (HeadRead h ∷ (map DataOctet xs ++ DatasetEnd ∷ [])) between
+pub whole_on : (tag xs : List ℕ) (h : Head) → SpellsTag count_octets h tag → Octets xs → h.count ≡ length xs
+    → Brings between (tag ++ xs) (HeadRead h ∷ (map DataOctet xs ++ DatasetEnd ∷ [])) between
 whole_on tag [] h s o all octets events l = rw append-nil (empty_on (record { items = [] }) tag h s all octets events l)
 whole_on tag (x ∷ xs) h s o all octets events l =
     brings_on between (Inside h h.count) between tag (x ∷ xs) (HeadRead h ∷ []) (map DataOctet (x ∷ xs) ++ DatasetEnd ∷ [])
     (head_on (record { items = [] }) tag h s (omega (arith, all))) (data_end h h.count (x ∷ xs) o (sym all)) octets events l
 
 -- one octet of data, and what it completes
-pub octet_on : (h : Head) (left b : ℕ) → b < 256 → 0 < left → (later : List DatasetEvent) × (next : DatasetPlace) × Brings (Inside h left) (b ∷ []) (DataOctet b ∷ later) next
+pub octet_on : (h : Head) (left b : ℕ) → b < 256 → 0 < left → (later : List DatasetEvent) × (next : DatasetPlace)
+    × Brings (Inside h left) (b ∷ []) (DataOctet b ∷ later) next
 octet_on h left b o some = elim (cases_lt 1 left) [
   | inl more ↦ ([], Inside h (left - 1), data_on h left (left - 1) (b ∷ []) (o, tt) (omega (arith, more)) (omega (arith, more)))
   | inr last ↦ (DatasetEnd ∷ [], between, data_end h left (b ∷ []) (o, tt) (omega (arith, last, some)))

@@ -26,9 +26,11 @@ plain_first xs room = first_of xs 16 room (omega arith) is_plain plain_lanes pla
 -- ---- runs
 
 -- sixteen more
-pub more_plain : (xs : List ℕ) (at : ℕ) → list_all is_plain (take at xs) ≡ true → list_all is_plain (take 16 (drop at xs)) ≡ true → list_all is_plain (take (at + 16) xs) ≡ true
+pub more_plain : (xs : List ℕ) (at : ℕ) → list_all is_plain (take at xs) ≡ true → list_all is_plain (take 16 (drop at xs)) ≡ true
+    → list_all is_plain (take (at + 16) xs) ≡ true
 more_plain xs at first more =
-    ap (list_all is_plain) (take-add at 16 xs) ∙ (list_all-append is_plain (take at xs) (take 16 (drop at xs)) ∙ and_from (list_all is_plain (take at xs)) (list_all is_plain (take 16 (drop at xs))) first more)
+    ap (list_all is_plain) (take-add at 16 xs) ∙ (list_all-append is_plain (take at xs) (take 16 (drop at xs))
+    ∙ and_from (list_all is_plain (take at xs)) (list_all is_plain (take 16 (drop at xs))) first more)
 
 -- what is shown of octets that stand for themselves, and of what follows
 pub shown_plain : (xs ys : List ℕ) → list_all is_plain xs ≡ true → shown (xs ++ ys) ≡ xs ++ shown ys
@@ -48,7 +50,8 @@ after_run xs n x after end is =
 pub shown_other : (x : ℕ) (xs : List ℕ) → is_plain x ≡ false → shown (x ∷ xs) ≡ escape x ++ shown xs
 shown_other x xs not = ap (λ (b : Bool). cond b (x ∷ []) (escape x) ++ shown xs) not
 
-module _ (before new all rest : List ℕ) (n : ℕ) (so_far : before ++ shown rest ≡ all) (run : list_all is_plain (take n rest) ≡ true) (taken : new ≡ before ++ take n rest) where
+module _ (before new all rest : List ℕ) (n : ℕ) (so_far : before ++ shown rest ≡ all) (run : list_all is_plain (take n rest) ≡ true)
+    (taken : new ≡ before ++ take n rest) where
   -- a run was taken: what is there and what follows, shown, are the same
   run_taken : new ++ shown (drop n rest) ≡ all
   run_taken =

@@ -1,9 +1,8 @@
 -- Datasets and their spellings: lemmas for the proofs of every crate, of which nothing is to be believed.
 use Rattle.std.proofs.Common.{◌≡◌, ℕ, ◌+◌, ◌≤◌, List, [], ◌∷◌, ◌++◌, length, ap, sym, refl, arith, inl, inr, append-nil, append_assoc, ◌<◌, ◌∙◌, length-append}
-use Rattle.iim_dataset.specs.Format.Octets.{Octets}
+use Rattle.iim_dataset.specs.{Format.Octets.Octets, Steps.same_front}
 use Rattle.iim_dataset.specs.Format.Datasets.{Dataset, SpellsCount, SpellsTag, SpellsDataset, SpellsStream, count_octets, tag_octets, head_of, Head, InTag, IsBegun, Reads, IsPart, SplitsInto, BeginsTag}
 use Rattle.iim_dataset.proofs.Fronts.{begun_none}
-use Rattle.iim_dataset.specs.Steps.{same_front}
 
 pub dataset_is : (d e : Dataset) → d.rec ≡ e.rec → d.set ≡ e.set → d.octets ≡ e.octets → d ≡ e
 dataset_is d e r s o = rw (r, s, o) refl

@@ -5,8 +5,7 @@ use Rattle.std.proofs.lemmas.Bool.Decides.{nat_tests}
 use Rattle.std.proofs.Common.{◌≡◌, ℕ, ◌⊎◌, inl, inr, ◌==◌, Bool, true, false, if◌then◌else◌, suc, ◌+◌, ◌-◌, ◌<◌, ◌≤◌, List, [], ◌∷◌, ◌++◌, length, take, slice_index, refl, ap, sym, ◌∙◌, arith, append_assoc, append-nil, map, zero, Option, Some, None, get_or-drop, ◌*◌, drop, get_or, length-drop, length-append}
 use Rattle.std.proofs.Math.Seq.{take-add, take-append-add}
 use Rattle.arrayvec.specs.ArrayVec.{ArrayVec}
-use Rattle.iim_dataset.specs.Format.Octets.{Octets, IsOctet}
-use Rattle.iim_dataset.specs.Format.Datasets.{SpellsTag, count_octets, Head}
+use Rattle.iim_dataset.specs.{Format.Octets.Octets, Format.Octets.IsOctet, Format.Datasets.SpellsTag, Format.Datasets.count_octets, Format.Datasets.Head}
 use Rattle.iim_dataset.specs.States.Reading.{DatasetEvent, DataOctet, DatasetEnd, HeadRead, between, IsPlace, Brings, TellsSink, DatasetPlace, Tag, Inside, AfterStep, Stops, RefusesFor, RefusesOne}
 use Rattle.iim_dataset.specs.Steps.{TakesOnward, WholeFront, head_events}
 use Rattle.iim_dataset.specs.declared.head.HeadCause.{HeadCause}
@@ -14,11 +13,9 @@ use Rattle.iim_dataset.specs.declared.fault.Fault.{Fault}
 use Rattle.iim_dataset.specs.declared.fault.FaultCause.TheVariants.{Stopped}
 use Rattle.iim_dataset.specs.declared.sink.Step.{Step}
 use Rattle.iim_dataset.specs.declared.sink.Step.TheVariants.{More, Last}
-use Rattle.iim_dataset.proofs.Fronts.{begun_none, whole_standard}
+use Rattle.iim_dataset.proofs.{Fronts.begun_none, Fronts.whole_standard, HeldTags.one_more, HeldTags.unfinished, Each.all_back}
 use Rattle.iim_dataset.proofs.Places.{brings_on, tag_on, head_leads, data_on, data_end, octet_on, stops_at, whole_on, head_on, head_first, no_data, place_after_head}
-use Rattle.iim_dataset.proofs.HeldTags.{one_more, unfinished}
 use Rattle.iim_dataset.proofs.OctetLists.{front_are, Fit, are_octets}
-use Rattle.iim_dataset.proofs.Each.{all_back}
 
 pub octet_at : (xs : List ℕ) (k : ℕ) → Octets xs → k < length xs → slice_index xs k < 256
 octet_at [] k o lt = absurd (omega (arith, lt))
@@ -116,12 +113,14 @@ after_tag h tag s = by_count (h.count == 0) refl
     by_count false e = (grind (arith, nat_tests, e), omega arith, tag, s)
 
 -- What a sink answers to the end of a dataset says whether it can continue.
-pub after_end : {D : Type 0} (stands : D → Option ℕ → Type 0) (ends : D → Type 0) (step : Step) (place : DatasetPlace) (a : D) → place ≡ between → AfterStep stands ends a step → TakesOnward stands ends step place a
+pub after_end : {D : Type 0} (stands : D → Option ℕ → Type 0) (ends : D → Type 0) (step : Step) (place : DatasetPlace) (a : D) → place ≡ between
+    → AfterStep stands ends a step → TakesOnward stands ends step place a
 after_end stands ends More place a none s = rw none s
 after_end stands ends Last place a none s = (s, none)
 
 -- five octets of which the last two are a standard count, and the data after them
-pub standard_front : (rest : List ℕ) (high low : ℕ) (xs : List ℕ) → Fit rest → 5 + (high * 256 + low) ≤ length rest → get_or rest 0 0 ≡ 28 → get_or rest 3 0 < 128
+pub standard_front : (rest : List ℕ) (high low : ℕ) (xs : List ℕ) → Fit rest → 5 + (high * 256 + low) ≤ length rest → get_or rest 0 0 ≡ 28
+    → get_or rest 3 0 < 128
     → high ≡ get_or rest 3 0 → low ≡ get_or rest 4 0 → xs ≡ take (high * 256 + low) (take (length rest - 5) (drop 5 rest))
     → WholeFront rest (record { rec = get_or rest 1 0; set = get_or rest 2 0; count = high * 256 + low }) xs (5 + (high * 256 + low))
 standard_front rest high low xs fits within marker form is_high is_low are =

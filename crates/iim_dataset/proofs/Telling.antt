@@ -23,7 +23,8 @@ pub same_data : (xs ys : List ℕ) (r s : List DatasetEvent) → map DataOctet x
 same_data xs ys r s e = let both = parted xs ys (DatasetEnd ∷ r) (DatasetEnd ∷ s) refl refl e in let ends = both.1 in (both.0, cc)
 
 -- the first dataset, and what follows it
-first_then : (d : Dataset) (ds : List Dataset) (b : Begun) → handed_on (d ∷ ds) b ≡ HeadRead (head_of d) ∷ (map DataOctet d.octets ++ DatasetEnd ∷ handed_on ds b)
+first_then : (d : Dataset) (ds : List Dataset) (b : Begun)
+    → handed_on (d ∷ ds) b ≡ HeadRead (head_of d) ∷ (map DataOctet d.octets ++ DatasetEnd ∷ handed_on ds b)
 first_then d ds b = simp append_assoc
 
 -- what is begun is no whole dataset

@@ -1,8 +1,7 @@
 -- Lemmas on numbers as they are written, for the proofs of every crate: nothing here is to be believed.
 use Rattle.std.proofs.Common.{◌≡◌, ℕ, ◌+◌, ◌^◌, ◌<◌, ◌≤◌, List, [], length, length-append, arith, inl, inr}
 use Rattle.std.proofs.lemmas.Bool.{cases_lt, lt-ltb, le-ltb}
-use Rattle.byteorder.specs.Endian.{big_bytes}
-use Rattle.byteorder.specs.Numbers.{big_number-reads_back}
+use Rattle.byteorder.specs.{Endian.big_bytes, Numbers.big_number-reads_back}
 use Rattle.iim_dataset.specs.Format.Octets.{Octets, number}
 use Rattle.iim_dataset.specs.Format.Datasets.{Dataset, canonical_count, canonical_dataset, tag_octets, written_number}
 

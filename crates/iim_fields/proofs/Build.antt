@@ -9,8 +9,10 @@ abbrev pub building_of : Limits → Store → Building
 building_of limits store = record { limits = limits; fields = fields_of store; room = store_room store }
 
 -- the fault of a dataset whose record is kept
-pub add_fault_of : (limits : Limits) (ds : List Dataset) (d : Dataset) → is_kept d.rec ≡ true → add_fault limits ds d ≡ option_or (option_or (record_fault ds (head_of d)) (limits_fault limits ds (head_of d))) (value_fault d)
-add_fault_of limits ds d is = ap (λ (b : Bool). cond (not b) (Some (fault_on (head_of d) RecordOrder)) (option_or (first_fault limits ds (head_of d)) (value_fault d))) is
+pub add_fault_of : (limits : Limits) (ds : List Dataset) (d : Dataset) → is_kept d.rec ≡ true
+    → add_fault limits ds d ≡ option_or (option_or (record_fault ds (head_of d)) (limits_fault limits ds (head_of d))) (value_fault d)
+add_fault_of limits ds d is = ap (λ (b : Bool). cond (not b) (Some (fault_on (head_of d) RecordOrder))
+    (option_or (first_fault limits ds (head_of d)) (value_fault d))) is
 
 -- ---- a dataset that is added
 

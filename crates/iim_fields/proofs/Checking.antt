@@ -2,14 +2,11 @@
 use Rattle.std.proofs.Common.{set, ◌≡◌, ◌≢◌, ℕ, zero, suc, ◌<◌, ◌≤◌, Bool, true, false, ◌||◌, nat_eq, List, [], ◌∷◌, ◌++◌, length, replicate, get_or, refl, ap, sym, ◌∙◌, inl, inr, arith, subst, length-set, Option, Some, None}
 use Rattle.iim_tables.specs.declared.shape.Kind.{Kind}
 use Rattle.iim_fields.proofs.Words.{nat_tests, option_or, list_any-append, and_from, eqb_tells, same_Some, Octets, within, Dataset, head_of, of_record, Head, are_octets, row_of, is_admitted, Row, has_kind, records, occurs, SectionsLiveAt, head_fault, record_fault, value_fault, limits_fault, section_after, section_run, has_seen, IsOrderOf, AddsHead, data_of, number_told, AwaitsHead, TakesHead, AwaitsNone, IsIn, HasChecked, IsChecking, HasTaken, IsRecordFault, IsValueFault, IsRecordPlace, Order, Begun, RecordPlace, FieldFault, good_elsewhere, meets_as, DatasetsLeadToOnePlace}
-use Rattle.iim_fields.proofs.NumberSets.{seen_more}
-use Rattle.std.proofs.lemmas.List.{ext_get_or}
-use Rattle.iim_fields.proofs.Table.{EachRowHasValues, not_after_itself, object_kind}
-use Rattle.iim_fields.proofs.Runs.{records_to_come}
+use Rattle.iim_fields.proofs.{NumberSets.seen_more, Table.EachRowHasValues, Table.not_after_itself, Table.object_kind, Runs.records_to_come, Sections.some_data}
 use Rattle.iim_fields.proofs.Follows.{Follows, alive_follows, fresh_next, present_more, run_more}
 use Rattle.iim_fields.proofs.Telling.{head_fault_told, values_tell}
 use Rattle.iim_fields.proofs.Dies.{HasNoFault, no_fault_parts, in_order_cases, head_alive, head_no_fault, head_octet, good_value, value_alive, value_no_fault}
-use Rattle.iim_fields.proofs.Sections.{some_data}
+use Rattle.std.proofs.lemmas.List.{ext_get_or}
 
 -- ---- which numbers have occurred
 
@@ -86,12 +83,24 @@ told_at place ds s =
     let same = same_Some place (record { order = s.order; begun = s.begun }) s.at in subst (λ (p : RecordPlace). IsOrderOf p.order ds) (sym same) s.tells
 
 -- one dataset is begun, or none
-pub one_begun : (check : Option RecordPlace) (o p : Order) (a b : Option Begun) → check ≡ Some (record { order = o; begun = a }) → check ≡ Some (record { order = p; begun = b }) → a ≡ b
-one_begun check o p a b e f = ap (λ (p : RecordPlace). p.begun) (same_Some {A = RecordPlace} (record { order = o; begun = a }) (record { order = p; begun = b }) (sym e ∙ f))
+pub one_begun : (check : Option RecordPlace) (o p : Order) (a b : Option Begun) → check ≡ Some (record {
+  order = o;
+  begun = a;
+}) → check ≡ Some (record { order = p; begun = b }) → a ≡ b
+one_begun check o p a b e f = ap (λ (p : RecordPlace). p.begun) (same_Some {A = RecordPlace} (record {
+  order = o;
+  begun = a;
+}) (record { order = p; begun = b }) (sym e ∙ f))
 
 -- one order is kept
-pub same_order : (check : Option RecordPlace) (o p : Order) (a b : Option Begun) → check ≡ Some (record { order = o; begun = a }) → check ≡ Some (record { order = p; begun = b }) → o ≡ p
-same_order check o p a b e f = ap (λ (p : RecordPlace). p.order) (same_Some {A = RecordPlace} (record { order = o; begun = a }) (record { order = p; begun = b }) (sym e ∙ f))
+pub same_order : (check : Option RecordPlace) (o p : Order) (a b : Option Begun) → check ≡ Some (record {
+  order = o;
+  begun = a;
+}) → check ≡ Some (record { order = p; begun = b }) → o ≡ p
+same_order check o p a b e f = ap (λ (p : RecordPlace). p.order) (same_Some {A = RecordPlace} (record {
+  order = o;
+  begun = a;
+}) (record { order = p; begun = b }) (sym e ∙ f))
 
 -- between datasets none is begun
 pub none_begun : (place : RecordPlace) → AwaitsHead (Some place) → place.begun ≡ None
@@ -169,12 +178,16 @@ record_fault_by old h fault some ds s =
     }
 
 -- some datasets led to the place, and the head to the next
-pub place_headed : (old new : RecordPlace) (h : Head) → TakesHead (Some old) → IsRecordPlace old → ((ds : List Dataset) → HasChecked (Some old) ds → HasTaken (Some new) ds h) → IsRecordPlace new
+pub place_headed : (old new : RecordPlace) (h : Head) → TakesHead (Some old) → IsRecordPlace old
+    → ((ds : List Dataset) → HasChecked (Some old) ds → HasTaken (Some new) ds h) → IsRecordPlace new
 place_headed old new h takes (inl (ds, s)) on = elim (eqb_tells h.rec 8) [
   | inl eight ↦ let (d, is, octets) = some_data h in inl (ds ++ d ∷ [], (on ds s).subfile eight.1 d is octets)
   | inr other ↦ inr (ds, h, (on ds s).checking other.1)
 ]
-place_headed old new h takes (inr (ds, g, s)) on = absurd (not_both (Some old) takes.order s.order takes.begun (record { head = g; row = s.row }) takes.at takes.none s.inside s.value)
+place_headed old new h takes (inr (ds, g, s)) on = absurd (not_both (Some old) takes.order s.order takes.begun (record {
+  head = g;
+  row = s.row;
+}) takes.at takes.none s.inside s.value)
 
 -- and a whole dataset to the next, or nothing did
 pub place_led : (old new : RecordPlace) (taken : Bool) (d : Dataset) → AwaitsHead (Some old) → IsRecordPlace old
@@ -206,7 +219,8 @@ one_awaited place begun is o h row e =
     let same = same_Some place (record { order = o; begun = Some (record { head = h; row = row }) }) e in
     (ap (λ (p : RecordPlace). p.order) same, same_Some begun (record { head = h; row = row }) (sym is ∙ ap (λ (p : RecordPlace). p.begun) same))
 
-pub checked_value : EachRowHasValues → (old new : RecordPlace) (begun : Begun) (xs : List ℕ) (number : Option ℕ) → old.begun ≡ Some begun → new.order ≡ old.order → new.begun ≡ None
+pub checked_value : EachRowHasValues → (old new : RecordPlace) (begun : Begun) (xs : List ℕ) (number : Option ℕ) → old.begun ≡ Some begun
+    → new.order ≡ old.order → new.begun ≡ None
     → begun.head.count ≡ length xs → ((i : ℕ) → get_or xs i 0 < 256) → value_fault (data_of begun.head xs) ≡ None → number ≡ number_told (data_of begun.head xs)
     → (ds : List Dataset) (h : Head) → IsChecking (Some old) ds h → HasChecked (Some new) (ds ++ data_of h xs ∷ []) × (number ≡ number_told (data_of h xs))
 checked_value values old new begun xs number is order none count small fine told ds h s =
@@ -219,7 +233,8 @@ checked_value values old new begun xs number is order none count small fine told
         begun = None;
         at = λ i. Some (record { order = (order ∙ one.0) i; begun = none i });
         none = tt;
-        alive = value_alive values ds (data_of h xs) (subst (SectionsLiveAt ds) (sym at) s.alive) (are_octets xs small) (subst (λ (k : Head). value_fault (data_of k xs) ≡ None) head fine);
+        alive = value_alive values ds (data_of h xs) (subst (SectionsLiveAt ds) (sym at) s.alive) (are_octets xs small)
+            (subst (λ (k : Head). value_fault (data_of k xs) ≡ None) head fine);
         tells = s.tells (data_of h xs) at;
       },
       told ∙ ap (λ (k : Head). number_told (data_of k xs)) head,
@@ -229,7 +244,8 @@ pub value_fault_by : (old : RecordPlace) (begun : Begun) (xs : List ℕ) (fault 
     → value_fault (data_of begun.head xs) ≡ Some fault → (ds : List Dataset) (h : Head) → IsChecking (Some old) ds h → IsValueFault ds (data_of h xs) fault
 value_fault_by old begun xs fault is some ds h s =
     let one = one_awaited old begun is s.order h s.row s.inside in
-    let here : value_fault (data_of h xs) ≡ Some fault = subst (λ (k : Head). value_fault (data_of k xs) ≡ Some fault) (ap (λ (b : Begun). b.head) one.1) some in
+    let here : value_fault (data_of h xs) ≡ Some fault = subst (λ (k : Head). value_fault (data_of k xs) ≡ Some fault) (ap (λ (b : Begun). b.head) one.1)
+    some in
     record {
       value = s.value;
       first = here;

@@ -2,8 +2,7 @@
 use Rattle.std.proofs.Common.{◌≡◌, ℕ, ◌+◌, Bool, true, cond, List, [], ◌∷◌, ◌++◌, append_assoc, length, length-append, refl, ap, sym, ◌∙◌, subst, arith, Some, None, Result, Ok, Err, IfErr, IsOk}
 use Rattle.std.proofs.lemmas.List.Concat.{flat_map-append}
 use Rattle.iim_fields.proofs.Words.{AllByRecursion, option_or, nat_tests, Octets, Dataset, head_of, IsGoodDataset, SectionsLive, IsEnvelope, add_fault, passed_by, joined, kept, kept_octets, is_kept, limits_fault, fault_on, HeadsDieWithTheirFault, ValuesDieWithTheirFault, DatasetsOfEnvelopesAreAdded, AreRecords, AreSections, IsWithin, FieldFault, RecordOrder, Limits, all_append, all_front, all_back}
-use Rattle.iim_fields.proofs.Runs.{records_to_come}
-use Rattle.iim_fields.proofs.Table.{EachRowHasValues, passes}
+use Rattle.iim_fields.proofs.{Runs.records_to_come, Table.EachRowHasValues, Table.passes}
 
 -- the datasets of an envelope can be followed by those of an object
 sections_of : (ds object : List Dataset) → IsEnvelope ds → AreRecords (7 ∷ 8 ∷ 9 ∷ []) object → AreSections (ds ++ object)
@@ -26,7 +25,8 @@ takeable r [] is h = tt
 takeable r (d ∷ ds) is h = (record { is_kept = ap is_kept h.0.0 ∙ is; octets = h.0.1.octets }, takeable r ds is h.1)
 
 all_takeable : (ds : List Dataset) → IsEnvelope ds → AllByRecursion IsTakeable ds
-all_takeable ds e = subst (AllByRecursion IsTakeable) (sym e.parts) (all_append IsTakeable e.r1 e.r2 (takeable 1 e.r1 refl e.envelope.each) (takeable 2 e.r2 refl e.application.each))
+all_takeable ds e = subst (AllByRecursion IsTakeable) (sym e.parts)
+    (all_append IsTakeable e.r1 e.r2 (takeable 1 e.r1 refl e.envelope.each) (takeable 2 e.r2 refl e.application.each))
 
 all_kept : (ds : List Dataset) → AllByRecursion IsTakeable ds → kept ds ≡ ds
 all_kept [] h = refl
@@ -34,7 +34,8 @@ all_kept (d ∷ ds) h = ap (λ (b : Bool). cond b (d ∷ kept ds) (kept ds)) h.0
 
 -- ---- no fault
 
-joined_more : (before : List Dataset) (d : Dataset) (ds : List Dataset) → length (joined (before ++ d ∷ ds)) ≡ length (joined before) + (length d.octets + length (joined ds))
+joined_more : (before : List Dataset) (d : Dataset) (ds : List Dataset)
+    → length (joined (before ++ d ∷ ds)) ≡ length (joined before) + (length d.octets + length (joined ds))
 joined_more before d ds =
     ap length (flat_map-append (λ (x : Dataset). x.octets) before (d ∷ ds))
     ∙ (length-append (joined before) (joined (d ∷ ds)) ∙ ap (λ (n : ℕ). length (joined before) + n) (length-append d.octets (joined ds)))
@@ -66,7 +67,8 @@ within_of : (limits : Limits) (ds : List Dataset) → passed_by limits ds ≡ No
 within_of limits ds none = record { octets_in = grind (arith, nat_tests); fields_in = grind (arith, nat_tests) }
 
 -- the next dataset of an envelope is taken
-pub takes : {T : Type 0} → DatasetsOfEnvelopesAreAdded → (limits under : Limits) (all done rest : List Dataset) (d : Dataset) (result : Result T FieldFault) → IsEnvelope all → passed_by limits all ≡ None
+pub takes : {T : Type 0} → DatasetsOfEnvelopesAreAdded → (limits under : Limits) (all done rest : List Dataset) (d : Dataset) (result : Result T FieldFault)
+    → IsEnvelope all → passed_by limits all ≡ None
     → under ≡ limits → done ++ d ∷ rest ≡ all → IfErr result (λ fault. add_fault under done d ≡ Some fault) → IsOk result
 takes law limits under all done rest d (Ok done_it) e none same parts refused = refl
 takes law limits under all done rest d (Err fault) e none same parts refused =

@@ -111,7 +111,8 @@ from_no_fault ds d more may from =
 -- ---- alive where there is no fault
 
 part_so_far : (ds : List Dataset) (more : List Dataset) → From ds more → IsPart (section_after ds) (section_run ds)
-part_so_far ds more (run, rest, parts, good, later) = part_front (section_after ds) (section_run ds) run (part_of (section_after ds) (section_run ds ++ run) good)
+part_so_far ds more (run, rest, parts, good, later) = part_front (section_after ds) (section_run ds) run
+    (part_of (section_after ds) (section_run ds ++ run) good)
 
 may_come : (r : ℕ) (xs : List Dataset) (d : Dataset) (row : Row) → row_of r d.set ≡ Some row → (occurs d.set xs && not row.repeats) ≡ false → MayCome r xs d
 may_come r xs d row known once = elim (cases_Bool row.repeats) [
@@ -132,7 +133,8 @@ place ds d follows part f = elim (in_order_cases (section_after ds) d.rec f.orde
 ]
 
 -- a head without a fault, and good data of it, may come
-pub alive_next : EachRowHasValues → (ds : List Dataset) (d : Dataset) → SectionsLive ds → record_fault ds (head_of d) ≡ None → IsGoodDataset d → SectionsLive (ds ++ d ∷ [])
+pub alive_next : EachRowHasValues → (ds : List Dataset) (d : Dataset) → SectionsLive ds → record_fault ds (head_of d) ≡ None → IsGoodDataset d
+    → SectionsLive (ds ++ d ∷ [])
 alive_next values ds d alive none good =
     let follows = alive_follows ds alive in
     let part = part_so_far ds alive.0 (follows.goes alive.0 alive.1) in
@@ -175,7 +177,8 @@ pub good_value : (d : Dataset) → IsGoodDataset d → value_fault d ≡ None
 good_value d good =
     let m = meets_row (row_of d.rec d.set) d.octets good.meets in rw (m.1, m.3) (passes (has_file_format d) _ _ good.file_format refl)
 
-pub value_alive : EachRowHasValues → (ds : List Dataset) (d : Dataset) → SectionsLiveAt ds (head_of d) → Octets d.octets → value_fault d ≡ None → SectionsLive (ds ++ d ∷ [])
+pub value_alive : EachRowHasValues → (ds : List Dataset) (d : Dataset) → SectionsLiveAt ds (head_of d) → Octets d.octets → value_fault d ≡ None
+    → SectionsLive (ds ++ d ∷ [])
 value_alive values ds d at octets none = alive_next values ds d (front_alive ds (at.0 ∷ []) at.2) (head_no_fault ds (head_of d) at)
     (value_parts (row_of d.rec d.set) d (head_octet ds (head_of d) at) refl octets none)
 

@@ -1,10 +1,7 @@
 -- Where the datasets of an envelope end.
 use Rattle.std.proofs.Common.{◌≡◌, ℕ, ◌+◌, ◌<◌, ◌≤◌, false, cond, nat_eq, List, [], ◌∷◌, ◌++◌, length, refl, ap, sym, ◌∙◌, inl, inr, arith, subst, append-nil, length-append}
 use Rattle.iim_fields.proofs.Words.{cond_both, eq-eqb, None, AllByRecursion, eqb_tells, Dataset, of_record, table, row_of, SectionsLive, AreRecords, AreSections, repeats, occurrences, IsGoodDataset, IsGoodRecord, none_meets, occurrences_append, last_record, section_after, EnvelopesEndWithTheLastRecord, NoSectionsBeginOthers}
-use Rattle.iim_fields.proofs.Table.{mandatory_is}
-use Rattle.iim_fields.proofs.Runs.{not_empty}
-use Rattle.iim_fields.proofs.Follows.{Follows, alive_follows, present_more}
-use Rattle.iim_fields.proofs.Sections.{last_of_joined}
+use Rattle.iim_fields.proofs.{Table.mandatory_is, Runs.not_empty, Follows.Follows, Follows.alive_follows, Follows.present_more, Sections.last_of_joined}
 
 -- ---- the last record has one dataset
 

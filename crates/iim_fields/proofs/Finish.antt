@@ -1,12 +1,8 @@
 -- When a builder's datasets are whole records 1 and 2, and when a reader of records hands over an envelope.
 use Rattle.std.proofs.Common.{arith, ◌≡◌, ℕ, Bool, true, false, nat_eq, List, [], ◌∷◌, ◌++◌, refl, ap, sym, ◌∙◌, inl, inr, subst, append-nil, Option, None, length}
 use Rattle.iim_fields.proofs.Words.{all_back, eqb_tells, AllByRecursion, list_any, filter, option_or, filter-append, filter_passes, recursion_from_All, or_cases, eqb-true, Dataset, of_record, all_there, after, AreRecords, AreSections, mandatory, occurs, IsGoodDataset, IsGoodRecord, SectionsLive, last_record, section_after, is_kept, kept, missing_fault, missing_of, has_seen, IsOrderOf, end_fault, IsEnvelope, finish_fault, IsEnvelopeStore, IsBuilding, fields_of, Limits, Store, RecordPlace, Order, joined, HasChecked, HasEnded, AwaitsHead, HasStored, IsReading, place_of, FieldFault, IsSomeAnd}
-use Rattle.iim_fields.proofs.Table.{EachRowHasValues, no_application_fault}
-use Rattle.iim_fields.proofs.Runs.{part_front, part_of, records_to_come}
-use Rattle.iim_fields.proofs.Follows.{From, alive_follows}
-use Rattle.iim_fields.proofs.Dies.{none_missing}
-use Rattle.iim_fields.proofs.Stand.{between_after, holds_after}
-use Rattle.iim_fields.proofs.Endings.{sections_end, whole_after_nine}
+use Rattle.iim_fields.proofs.{Table.EachRowHasValues, Table.no_application_fault, Runs.part_front, Runs.part_of, Runs.records_to_come, Dies.none_missing}
+use Rattle.iim_fields.proofs.{Follows.From, Follows.alive_follows, Stand.between_after, Stand.holds_after, Endings.sections_end, Endings.whole_after_nine}
 use Rattle.iim_fields.proofs.Checking.{same_order}
 
 -- ---- the datasets whose record passes a test
@@ -114,7 +110,8 @@ split_kept ds rest same later sections =
     let left : kept (ds ++ rest) ≡ ds = rw (filter-append (λ (d : Dataset). is_kept d.rec) ds rest, none, append-nil) same in
     subst IsEnvelope left (kept_of_sections (ds ++ rest) sections)
 
-pub finished : EachRowHasValues → (ds : List Dataset) (o : Order) → SectionsLive ds → kept ds ≡ ds → IsOrderOf o ds → end_fault o.rec (has_seen o) ≡ None → IsEnvelope ds
+pub finished : EachRowHasValues → (ds : List Dataset) (o : Order) → SectionsLive ds → kept ds ≡ ds → IsOrderOf o ds → end_fault o.rec (has_seen o) ≡ None
+    → IsEnvelope ds
 finished values ds o alive same tells none =
     let m = nothing_missing o.rec (has_seen o) none in
     let two : section_after ds ≡ 2 = sym tells.present ∙ m.0 in

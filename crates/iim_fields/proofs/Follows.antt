@@ -1,9 +1,7 @@
 -- What can follow datasets that are alive.
 use Rattle.std.proofs.Common.{length, ◌<◌, ◌≡◌, ℕ, ◌⊎◌, Bool, true, false, nat_eq, List, [], ◌∷◌, ◌++◌, refl, ap, sym, ◌∙◌, inl, inr, arith, subst, append_assoc, append-nil}
 use Rattle.iim_fields.proofs.Words.{all_back, ne_eqb, mandatory, list_any, filter-append, or_right, eq-eqb, Dataset, of_record, table, after, records, AreRecords, AreSections, IsGoodDataset, IsGoodRecord, none_meets, SectionsLive, section_after, section_run}
-use Rattle.iim_fields.proofs.Table.{next_of, mandatory_is, no_row}
-use Rattle.iim_fields.proofs.Runs.{not_empty}
-use Rattle.iim_fields.proofs.Sections.{last_more, one_of}
+use Rattle.iim_fields.proofs.{Table.next_of, Table.mandatory_is, Table.no_row, Runs.not_empty, Sections.last_more, Sections.one_of}
 
 -- the rest of the present record after its run so far, and then the records after it
 abbrev pub FromRun : ℕ → List Dataset → List Dataset → Type 0

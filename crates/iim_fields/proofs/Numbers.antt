@@ -2,8 +2,7 @@
 use Rattle.std.proofs.Common.{subst, ◌≡◌, ℕ, ◌⊎◌, Bool, true, false, ◌&&◌, nat_eq, nat_le, List, [], ◌∷◌, length, Option, Some, None, refl, ap, sym, ◌∙◌, inl, inr, arith, ◌≢◌, not, ◌||◌, if◌then◌else◌, ne_eqb}
 use Rattle.iim_tables.specs.declared.shape.Kind.TheVariants.{Mode, Size, SizeFromOne}
 use Rattle.iim_fields.proofs.Words.{IsInRange, nat_tests, is_none, option_or, number, within, greatest_size, Head, number-cons, size_octets, has_kind, table, row_of, Row, head_fault, value_fault, data_of, Spells, FieldFault, eq-eqb, eqb_tells, after, missing_of, is_first}
-use Rattle.iim_fields.proofs.Sections.{one_of}
-use Rattle.iim_fields.proofs.Table.{not_record0, first_self}
+use Rattle.iim_fields.proofs.{Sections.one_of, Table.not_record0, Table.first_self}
 
 -- a dataset that doesn't repeat may come next, by what an order says
 abbrev pub admits_once : ℕ → (ℕ → Bool) → ℕ → ℕ → Bool

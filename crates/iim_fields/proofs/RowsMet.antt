@@ -1,7 +1,6 @@
 -- What an envelope has for sure, and that its data meet their rows.
 use Rattle.std.proofs.Common.{◌≡◌, ℕ, ◌≤◌, Bool, true, false, cond, nat_eq, List, [], ◌∷◌, length, refl, sym, arith, subst, Option, Some, inl, inr, ◌++◌, ap, ◌∙◌, append-nil, rules, None}
-use Rattle.iim_tables.specs.Format.Kinds.{is_graphic}
-use Rattle.iim_tables.specs.Format.Dates.{is_date}
+use Rattle.iim_tables.specs.{Format.Kinds.is_graphic, Format.Dates.is_date}
 use Rattle.iim_fields.proofs.Words.{nat_tests, AllByRecursion, list_all, slice_get, option_map, and_parts, eqb-true, Dataset, within, is_digit, all_append, within_most, table, row_of, Meets, IsGoodDataset, IsEnvelope, has_names, first_data, list_any, or_cases, is_some, IsSome, eq-eqb, occurs}
 use Rattle.iim_fields.proofs.Table.{mandatory_is, mandatory_numbers}
 

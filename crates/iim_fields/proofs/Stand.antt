@@ -2,12 +2,8 @@
 use Rattle.std.proofs.Common.{◌≡◌, ◌≢◌, ℕ, suc, ◌+◌, ◌-◌, ◌<◌, ◌≤◌, ◌⊎◌, Bool, true, false, cond, List, [], ◌∷◌, ◌++◌, length, get_or, refl, ap, sym, ◌∙◌, inl, inr, arith, subst, append_assoc, append-nil, length-append, Option, Some, None}
 use Rattle.std.proofs.Math.Seq.{take-append_seam, drop-append_seam}
 use Rattle.iim_fields.proofs.Words.{limits_of, AwaitsHead, cases_Bool, nat_tests, HasRoom, IsEnvelopeStore, vec_len, vec_capacity, option_or, filter-append, flat_map-append, eqb_tells, Octets, Dataset, head_of, Head, octets_append, are_octets, nothing_of_two, size_octets, occurs, SectionsLiveAt, room_fault, limits_fault, first_fault, is_kept, kept, kept_octets, joined, section_after, section_run, data_of, number_told, tells_number, section_at, IsIn, HasChecked, IsChecking, HasTaken, IsRecordFault, IsValueFault, begun_head, HasStored, entries_of, fields_of, ends_at, begun_octets, fields_from, FieldsPlace, IsBetween, IsInside, CanTake, CanClose, StandsAfter, StandsIn, IsHeadFault, IsOf, section_of, begun_head_of, IsWithin, place_of, StandsSomewhere, IsReading, Limits, Store, FieldFault, RecordPlace}
-use Rattle.iim_fields.proofs.Table.{EachRowHasValues, size_row, kept_or_tells}
-use Rattle.iim_fields.proofs.Follows.{present_more}
-use Rattle.iim_fields.proofs.Telling.{head_fault_told}
-use Rattle.iim_fields.proofs.Dies.{head_no_fault}
-use Rattle.iim_fields.proofs.Checking.{one_begun, count_fits}
-use Rattle.iim_fields.proofs.Sections.{some_data, taken_alive}
+use Rattle.iim_fields.proofs.{Table.EachRowHasValues, Table.size_row, Table.kept_or_tells, Follows.present_more, Telling.head_fault_told, Dies.head_no_fault}
+use Rattle.iim_fields.proofs.{Checking.one_begun, Checking.count_fits, Sections.some_data, Sections.taken_alive}
 
 -- ---- the limits
 
@@ -48,9 +44,14 @@ pub entries_append : (from : ℕ) (ks : List Dataset) (d : Dataset)
     → entries_of from (ks ++ d ∷ []) ≡ entries_of from ks ++ record { rec = d.rec; set = d.set; end = from + length (joined ks) + length d.octets } ∷ []
 entries_append from [] d = ap (λ (n : ℕ). record { rec = d.rec; set = d.set; end = n } ∷ []) (omega arith)
 entries_append from (k ∷ ks) d =
-    let sum : (from + length k.octets) + length (joined ks) + length d.octets ≡ from + length (joined (k ∷ ks)) + length d.octets = omega (arith, length-append k.octets (joined ks)) in
+    let sum : (from + length k.octets) + length (joined ks) + length d.octets ≡ from + length (joined (k ∷ ks)) + length d.octets = omega
+    (arith, length-append k.octets (joined ks)) in
     ap (λ es. record { rec = k.rec; set = k.set; end = from + length k.octets } ∷ es)
-    (entries_append (from + length k.octets) ks d ∙ ap (λ (n : ℕ). entries_of (from + length k.octets) ks ++ record { rec = d.rec; set = d.set; end = n } ∷ []) sum)
+    (entries_append (from + length k.octets) ks d ∙ ap (λ (n : ℕ). entries_of (from + length k.octets) ks ++ record {
+      rec = d.rec;
+      set = d.set;
+      end = n;
+    } ∷ []) sum)
 
 pub joined_more : (ks : List Dataset) (d : Dataset) → joined (ks ++ d ∷ []) ≡ joined ks ++ d.octets
 joined_more ks d = flat_map-append (λ (x : Dataset). x.octets) ks (d ∷ []) ∙ ap (λ (xs : List ℕ). joined ks ++ xs) (append-nil d.octets)
@@ -81,7 +82,8 @@ store_is store ks more holds = record {
   octets = holds.octets ∙ sym (λ i. joined (fields_held store ks more holds i) ++ begun_held store ks more holds i);
 }
 
-pub counts : (store : Store) (ks : List Dataset) (more : List ℕ) → HasStored store ks more → (length store.octets.items ≡ length (joined ks) + length more) × (vec_len store.entries ≡ length ks)
+pub counts : (store : Store) (ks : List Dataset) (more : List ℕ) → HasStored store ks more → (length store.octets.items ≡ length (joined ks) + length more)
+    × (vec_len store.entries ≡ length ks)
 counts store ks more holds = (
   ap (λ (xs : List ℕ). length xs) holds.octets ∙ length-append (joined ks) more,
   store.entries.ok.0 ∙ (ap (λ xs. length xs) holds.entries ∙ length-entries_of 0 ks),
@@ -117,7 +119,8 @@ totals store e = let c = counts store (fields_of store) [] e.holds in omega (ari
 pub ends_within : (store : Store) → IsStore store → ends_at 0 store.entries.items ≤ length store.octets.items
 ends_within store is =
     let c = counts store (fields_of store) (begun_octets store) is in
-    let e : ends_at 0 store.entries.items ≡ length (joined (fields_of store)) = ap (ends_at 0) is.entries ∙ ends_at_length (fields_of store) in omega (arith, c.0, e)
+    let e : ends_at 0 store.entries.items ≡ length (joined (fields_of store)) = ap (ends_at 0) is.entries
+    ∙ ends_at_length (fields_of store) in omega (arith, c.0, e)
 
 -- the store of a reader that has kept those
 holds_kept : (store : Store) (ds : List Dataset) → IsStore store → fields_of store ≡ kept ds → HasStored store (kept ds) (begun_octets store)
@@ -136,7 +139,8 @@ between_after f (inr (inl (ds, s))) t = (ds, s)
 between_after f (inr (inr (ds, h, taken, s))) t = absurd (none_begun f.check t.order h t.between s.inside.1.head)
 
 -- in a dataset it stands in one
-pub inside_in : (f : FieldsPlace) (h : Head) → (f.check ≡ None) ⊎ StandsSomewhere f → IsIn f.check h → (ds : List Dataset) × (g : Head) × (taken : List ℕ) × StandsIn f ds g taken
+pub inside_in : (f : FieldsPlace) (h : Head) → (f.check ≡ None) ⊎ StandsSomewhere f → IsIn f.check h → (ds : List Dataset) × (g : Head) × (taken : List ℕ)
+    × StandsIn f ds g taken
 inside_in f h (inl none) a = let clash = sym a.inside ∙ none in absurd cc
 inside_in f h (inr (inl (ds, s))) a = absurd (none_begun f.check s.between.order h s.between.between a)
 inside_in f h (inr (inr (ds, g, taken, s))) a = (ds, g, taken, s)
@@ -160,14 +164,16 @@ fault_of_record limits ds h fault f = record {
 }
 
 -- the fault by what is kept is the fault by the datasets
-pub room_fault_is : (limits : Limits) (store : Store) (ds : List Dataset) (h : Head) → HasStored store (kept ds) [] → room_fault limits (length store.octets.items) (vec_len store.entries) h ≡ limits_fault limits ds h
+pub room_fault_is : (limits : Limits) (store : Store) (ds : List Dataset) (h : Head) → HasStored store (kept ds) []
+    → room_fault limits (length store.octets.items) (vec_len store.entries) h ≡ limits_fault limits ds h
 room_fault_is limits store ds h holds =
     let c = counts store (kept ds) [] holds in
     let first : length store.octets.items ≡ kept_octets ds = omega (arith, c.0) in
     ap (λ (n : ℕ). room_fault limits n (vec_len store.entries) h) first ∙ ap (λ (n : ℕ). room_fault limits (kept_octets ds) n h) c.1
 
 -- the store after datasets
-pub holds_after : (check : Option RecordPlace) (limits : Limits) (store : Store) (size : List ℕ) (ds : List Dataset) → IsStore store → StandsAfter (place_of check limits store size) ds → HasStored store (kept ds) []
+pub holds_after : (check : Option RecordPlace) (limits : Limits) (store : Store) (size : List ℕ) (ds : List Dataset) → IsStore store
+    → StandsAfter (place_of check limits store size) ds → HasStored store (kept ds) []
 holds_after check limits store size ds is s =
     subst (HasStored store (kept ds)) (nothing_of_two (begun_octets store) size s.taken_are).0 (holds_kept store ds is s.kept_are)
 
@@ -288,7 +294,8 @@ pub taken_in_store : (old new : Store) (size xs : List ℕ) → size ≡ [] → 
 taken_in_store old new size xs none octets entries is =
     let holds = takes_holds xs is octets entries in (
       fields_held new (fields_of old) (begun_octets old ++ xs) holds,
-      in_store_alone new size none ∙ (begun_held new (fields_of old) (begun_octets old ++ xs) holds ∙ ap (λ (ys : List ℕ). ys ++ xs) (sym (in_store_alone old size none))),
+      in_store_alone new size none ∙ (begun_held new (fields_of old) (begun_octets old ++ xs) holds
+          ∙ ap (λ (ys : List ℕ). ys ++ xs) (sym (in_store_alone old size none))),
     )
 
 -- the octets were taken into the size
@@ -318,14 +325,16 @@ pub within_closed : (limits : Limits) (ds : List Dataset) (h : Head) (d : Datase
 within_closed limits ds h d true is head in_limits others =
     let more = kept_more ds d (subst (λ (k : Head). is_kept k.rec ≡ true) (sym head) is) in
     let w = in_limits is in
-    let long : kept_octets (ds ++ d ∷ []) ≡ length (joined (kept ds) ++ d.octets) = ap (λ (ks : List Dataset). length (joined ks)) more ∙ ap (λ (xs : List ℕ). length xs) (joined_more (kept ds) d) in
+    let long : kept_octets (ds ++ d ∷ []) ≡ length (joined (kept ds) ++ d.octets) = ap (λ (ks : List Dataset). length (joined ks)) more
+    ∙ ap (λ (xs : List ℕ). length xs) (joined_more (kept ds) d) in
     let count : length d.octets ≡ h.count = ap (λ (k : Head). k.count) head in
     record {
       octets_in = omega (arith, w.octets_in, length-append (joined (kept ds)) d.octets);
       fields_in = omega (arith, w.fields_in, ap (λ (ks : List Dataset). length ks) more, length-append (kept ds) (d ∷ []));
     }
 within_closed limits ds h d false is head in_limits others =
-    subst (λ (ks : List Dataset). IsWithin limits (length (joined ks)) (length ks)) (sym (kept_other ds d (subst (λ (k : Head). is_kept k.rec ≡ false) (sym head) is))) others
+    subst (λ (ks : List Dataset). IsWithin limits (length (joined ks)) (length ks))
+    (sym (kept_other ds d (subst (λ (k : Head). is_kept k.rec ≡ false) (sym head) is))) others
 
 -- what closes has taken all data of its dataset, unless that is a subfile
 pub closes_in : {f : FieldsPlace} {g : Head} → CanClose f → begun_head f.check ≡ Some g → IsIn f.check g × (g.rec ≢ 8 → length f.taken ≡ g.count)

@@ -1,11 +1,8 @@
 -- A whole subfile: where its head may stand, and what it leads to.
 use Rattle.std.proofs.Common.{◌≡◌, ℕ, Bool, true, false, ◌&&◌, ◌||◌, nat_eq, nat_le, List, [], ◌∷◌, ◌++◌, length, Option, Some, None, refl, ap, sym, ◌∙◌, inl, arith}
 use Rattle.iim_fields.proofs.Words.{AwaitsHead, FieldsPlace, limits_of, kept, nat_tests, vec_len, is_none, option_or, Dataset, Head, table, row_of, head_fault, record_fault, first_fault, row_fault, is_kept, kept_octets, HasChecked, StandsAfter, PassesSubfile, place_of, IsReading, Limits, FieldFault, Store, Begun, RecordPlace, HasTaken, IsIn, Octets, greatest_size, head_of, missing_of, occurs, section_after, section_run}
-use Rattle.iim_fields.proofs.Sections.{one_of, some_data}
-use Rattle.iim_fields.proofs.Dies.{no_fault_parts}
+use Rattle.iim_fields.proofs.{Sections.one_of, Sections.some_data, Dies.no_fault_parts, Wholes.no_limit, Wholes.none_where, Checking.checked_as}
 use Rattle.iim_fields.proofs.Stand.{between_after, stands_in, closed_subfile, reading_between}
-use Rattle.iim_fields.proofs.Wholes.{no_limit, none_where}
-use Rattle.iim_fields.proofs.Checking.{checked_as}
 
 -- ---- where its head may stand
 
@@ -34,7 +31,11 @@ admitted_at p has set count =
 
 pub subfile_admitted : (p : ℕ) (has : ℕ → Bool) (h : Head) → h.rec ≡ 8
     → ((nat_eq h.set 10 && nat_le h.count greatest_size) && (nat_eq p 8 || (nat_eq p 7 && is_none (missing_of 7 has)))) ≡ is_none (head_fault p has h)
-subfile_admitted p has h eight = admitted_at p has h.set h.count ∙ (λ i. is_none (head_fault p has (record { rec = sym eight i; set = h.set; count = h.count })))
+subfile_admitted p has h eight = admitted_at p has h.set h.count ∙ (λ i. is_none (head_fault p has (record {
+  rec = sym eight i;
+  set = h.set;
+  count = h.count;
+})))
 
 -- ---- the records
 

@@ -1,9 +1,9 @@
 -- What the table says of the records of an envelope.
 use Rattle.std.proofs.Common.{not, ◌≡◌, ◌≢◌, ℕ, ◌<◌, ◌≤◌, ◌⊎◌, Bool, true, false, ◌&&◌, ◌||◌, cond, nat_eq, List, [], ◌∷◌, length, map, Option, Some, None, refl, ap, sym, ◌∙◌, inl, inr, arith, subst}
 use Rattle.iim_fields.proofs.Words.{ne_eqb, cases_Bool, true_from_ne_false, nat_tests, AllByRecursion, list_all, filter, find, option_or, option_map, is_kept, is_first, value_fault, fault_by_row, missing_fault, missing_of, and_parts, or_cases, eqb-true, is_none, IsOctet, within, Dataset, head_of, Head, size_octets, has_kind, tells_number, data_of, table, row_of, row_of_others, Meets, is_admitted, HasValue, mandatory, has_to_occur, has_file_format, IsGoodDataset, Row, after}
+use Rattle.iim_fields.proofs.Sections.{by_record, one_of}
 use Rattle.iim_fields.specs.declared.fault.FieldCause.TheVariants as causes
 use Rattle.iim_tables.specs.declared.shape.Kind.TheVariants as kinds
-use Rattle.iim_fields.proofs.Sections.{by_record, one_of}
 
 -- something is told where a test fails, and else what later tests tell: nothing is told exactly where each test is passed
 pub passed : {A : Type 0} (b : Bool) (told : A) (later : Option A) → cond (not b) (Some told) later ≡ None → (b ≡ true) × (later ≡ None)
@@ -134,7 +134,8 @@ sample_by values r n (Some row) small e fits =
     let v = value_for values (record { rec = r; set = n; count = row.min }) row small e fits in
     (v.0, ap (λ (h : Head). h.rec) v.1, ap (λ (h : Head). h.set) v.1, v.2)
 
-samples_by : EachRowHasValues → (r : ℕ) (ns : List ℕ) → AllByRecursion IsOctet ns → AllByRecursion (λ n. fits_least (row_of r n) ≡ true) ns → AllByRecursion (HasSample r) ns
+samples_by : EachRowHasValues → (r : ℕ) (ns : List ℕ) → AllByRecursion IsOctet ns → AllByRecursion (λ n. fits_least (row_of r n) ≡ true) ns
+    → AllByRecursion (HasSample r) ns
 samples_by values r [] small h = tt
 samples_by values r (n ∷ ns) small h = (sample_by values r n (row_of r n) small.0 refl h.0, samples_by values r ns small.1 h.1)
 
@@ -171,7 +172,8 @@ size_row rec set row tells known = elim (or_cases (nat_eq rec 7) (nat_eq rec 9) 
 pub admitted_length : (row : Row) (xs : List ℕ) → is_admitted row xs ≡ true → (row.min ≤ length xs) × (length xs ≤ row.max)
 admitted_length row xs h = grind (arith, nat_tests)
 
-pub file_format_length : (h : Head) (row : Row) (xs : List ℕ) → row_of h.rec h.set ≡ Some row → (row.min ≤ length xs) × (length xs ≤ row.max) → h.rec ≡ 1 → h.set ≡ 20 → length xs ≡ 2
+pub file_format_length : (h : Head) (row : Row) (xs : List ℕ) → row_of h.rec h.set ≡ Some row → (row.min ≤ length xs) × (length xs ≤ row.max) → h.rec ≡ 1
+    → h.set ≡ 20 → length xs ≡ 2
 file_format_length h row xs known long first format =
     let bounds = file_format_bounds row (known_at 1 20 h row known first format) in omega arith
 
@@ -216,7 +218,8 @@ unfolding in_five
 kept_or_tells r n row known not8 not_kept = let some = five r n row known in grind (arith, nat_tests)
 
 -- what is admitted of the rows of sizes is as long as a size
-pub size_length : (h : Head) (row : Row) (xs : List ℕ) → row_of h.rec h.set ≡ Some row → value_fault (data_of h xs) ≡ None → tells_number h.rec ≡ true → (1 ≤ length xs) × (length xs ≤ size_octets)
+pub size_length : (h : Head) (row : Row) (xs : List ℕ) → row_of h.rec h.set ≡ Some row → value_fault (data_of h xs) ≡ None → tells_number h.rec ≡ true
+    → (1 ≤ length xs) × (length xs ≤ size_octets)
 size_length h row xs known none tells =
     let bounds = size_row h.rec h.set row tells known in
     let shown : fault_by_row (Some row) (data_of h xs) ≡ None = subst (λ (o : Option Row). fault_by_row o (data_of h xs) ≡ None) known none in

@@ -4,9 +4,7 @@ use Rattle.iim_fields.specs.Format.Causes.{Token, BeginsNext, IsOutOfOrder, IsRe
 use Rattle.iim_fields.specs.Format.Causes.Token.{AtHead, AtValue}
 use Rattle.iim_fields.specs.declared.fault.FieldCause.{FieldCause}
 use Rattle.iim_fields.proofs.Words.{cases_lt, false_from_ne_true, nat_tests, record_fault, find, list_any, option_or, or_cases, or_right, eq-eqb, within, Dataset, Head, row_of, is_admitted, Row, after, mandatory, occurs, has_file_format, section_after, section_run, is_first, is_in_order, fault_on, row_fault, missing_fault, missing_of, is_kept, kept, kept_octets, limits_fault, first_fault, value_fault, fault_by_row, IsFaultIfAny, HeadsTellTheLowestCause, ValuesTellTheLowestCause, Limits, FieldFault, RecordOrder, UnknownDataset, Repeated, CountRange, Missing, BadValue, FileFormat, HeaderFull, TooManyFields, repeats_as, meets_as, admitted_as, none_meets}
-use Rattle.iim_fields.proofs.Sections.{by_record}
-use Rattle.iim_fields.proofs.Table.{passed, mandatory_is, mandatory_numbers}
-use Rattle.iim_fields.proofs.Dies.{next_is}
+use Rattle.iim_fields.proofs.{Sections.by_record, Table.passed, Table.mandatory_is, Table.mandatory_numbers, Dies.next_is}
 
 -- ---- one fault at most
 

@@ -1,12 +1,9 @@
 -- A whole dataset, taken at once, and those of records 7 and 9 that may come.
 use Rattle.std.proofs.Common.{◌&&◌, ◌≡◌, ℕ, ◌<◌, ◌≤◌, List, [], ◌∷◌, ◌++◌, length, ◌⊎◌, refl, ap, sym, subst, ◌∙◌, inl, arith, Bool, true, false, Option, Some, None}
 use Rattle.iim_fields.proofs.Words.{nat_tests, AwaitsHead, FieldsPlace, limits_of, HasStored, fields_of, HasRoom, kept, nothing_of_two, vec_len, is_none, option_or, Dataset, head_of, Head, head_fault, record_fault, limits_fault, first_fault, value_fault, room_fault, is_kept, kept_octets, add_fault, has_seen, AddsHead, data_of, HasChecked, StandsAfter, place_fault, begun_octets, place_of, IsReading, Limits, FieldFault, Store, RecordPlace, IsBetween, Octets, MayTake, Admits, Spells}
-use Rattle.iim_fields.proofs.Table.{EachRowHasValues}
-use Rattle.iim_fields.proofs.Checking.{told_at, record_fault_is, none_begun, checked_more}
-use Rattle.iim_fields.proofs.Build.{add_fault_of}
-use Rattle.iim_fields.proofs.Stand.Kept.{Added, Passed}
+use Rattle.iim_fields.proofs.{Table.EachRowHasValues, Checking.told_at, Checking.record_fault_is, Checking.none_begun, Checking.checked_more, Numbers.and_true}
+use Rattle.iim_fields.proofs.{Build.add_fault_of, Stand.Kept.Added, Stand.Kept.Passed}
 use Rattle.iim_fields.proofs.Stand.{IsStore, Kept, begun_held, between_after, counts, fields_held, holds_after, kept_now, reading_between, room_fault_is, room_within, room_is, within_closed}
-use Rattle.iim_fields.proofs.Numbers.{and_true}
 
 pub none_where : {X : Type 0} (o : Option X) → is_none o ≡ true → o ≡ None
 none_where o e = grind arith

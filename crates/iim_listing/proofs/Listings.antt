@@ -10,8 +10,7 @@ use Rattle.iim_output.specs.States.Holding.{HasPut, StaysStuck, device_of, IsCut
 use Rattle.iim_output.specs.HoldingLaws.{put_on}
 use Rattle.iim_output.specs.declared.silent.Silent.{Silent}
 use Rattle.iim_output.proofs.Holding.{all_out, cut_by_stuck, cut_on, stopped_in}
-use Rattle.iim_listing.specs.Format.{IsListingText, WritesListing}
-use Rattle.iim_listing.specs.Steps.{IsUnlisted, Settles}
+use Rattle.iim_listing.specs.{Format.IsListingText, Format.WritesListing, Steps.IsUnlisted, Steps.Settles}
 
 -- ---- texts of envelopes
 

@@ -7,17 +7,14 @@ use Rattle.iim_unpack.specs.declared.intake.IntakeFault.{IntakeFault}
 use Rattle.iim_unpack.specs.declared.intake.IntakeFault.TheVariants.{Refused, Read, Interrupted}
 use Rattle.iim_unpack.specs.States.Intakes.{Faults, WasDone, WasMissed, WasRefused, WasTruncated, HasFed, IsReady, WasEnded}
 use Rattle.iim_unpack.specs.States.Unpacking.{CountsFor, IsDoneWith, LeftAs, Stands}
-use Rattle.iim_places.specs.Format.Open.{Delivers}
+use Rattle.iim_places.specs.{Format.Open.Delivers, Format.Admitted.AreWithin, Laws.OpenOctetsAreBounded}
 use Rattle.iim_fields.specs.declared.limits.Limits.{Limits}
-use Rattle.iim_places.specs.Format.Admitted.{AreWithin}
 use Rattle.iim_unpack.proofs.Intakes.{fed_and_done, fed_and_faults, missed_open, fed_few, fed_none, fed_nothing, fed_on, fed_then, raised_on, some_came}
 use Rattle.iim_places.specs.declared.refusal.Cause.{Cause}
 use Rattle.iim_places.specs.declared.refusal.Cause.TheVariants.{Message, Truncated}
 use Rattle.wire_message.specs.declared.fault.MessageCause.TheVariants as messages
-use Rattle.iim_listing.specs.Steps.{IsOfFault}
+use Rattle.iim_listing.specs.{Steps.IsOfFault, States.CanAskForMore, States.IsCutOff, States.IsHeldUp, States.IsUnheard}
 use Rattle.iim_listing.specs.declared.coming.Next.{Next}
-use Rattle.iim_listing.specs.States.{CanAskForMore, IsCutOff, IsHeldUp, IsUnheard}
-use Rattle.iim_places.specs.Laws.{OpenOctetsAreBounded}
 
 delivered_of : (octets : List ℕ) (more : List StoryEvent) → Delivers [] octets more → IsDelivered octets more
 delivered_of octets more adds = let added = adds [] no_text in (added.0, added.1, added.2)

@@ -1,22 +1,21 @@
 -- From places at which one reader stands the same tokens lead on alike.
 use Rattle.iim_object.proofs.Words.{◌≡◌, ℕ, List, [], ◌∷◌, ◌++◌, length, Option, Some, None, is_some, refl, sym, ap, ◌∙◌, arith, nil_from_length, IsAlive, all_append, all_last, Stated, InRow, number_at, ObjectToken, NumberRead, SubfileBegun, ObjectEnded, Confirmed, ObjectLanguage, Place, MayFollow, place_after, tokens_of, IsStateAt, StandsAt, LeadsOn, State, TokensLead}
-use Rattle.iim_object.specs.States.Reading.{SizeCause}
-use Rattle.iim_object.specs.Laws.{TokensLeadOnAlike}
-use Rattle.iim_object.proofs.Numbers.{once-append}
+use Rattle.iim_object.specs.{States.Reading.SizeCause, Laws.TokensLeadOnAlike}
+use Rattle.iim_object.proofs.{Numbers.once-append, Subfiles.front_lives, Saved.one_state, Leading.tokens_after}
 use Rattle.iim_object.proofs.Steps.{tells_of, once_last, cause_in, next, leads_on, refused, tokens_follow}
-use Rattle.iim_object.proofs.Subfiles.{front_lives}
-use Rattle.iim_object.proofs.Saved.{one_state}
-use Rattle.iim_object.proofs.Leading.{tokens_after}
 
 -- ---- a token follows at both places
 
-same_number : (s : State) (p q : Place) (set n : ℕ) → IsStateAt s p → IsStateAt s q → InRow (record { set = set; number = n }) → number_at set p.stated ≡ number_at set q.stated
+same_number : (s : State) (p q : Place) (set n : ℕ) → IsStateAt s p → IsStateAt s q → InRow (record {
+  set = set;
+  number = n;
+}) → number_at set p.stated ≡ number_at set q.stated
 same_number s p q set n t u row = grind arith
 
-follows_too : (s : State) (p q : Place) (token : ObjectToken) → StandsAt (Some s) p → StandsAt (Some s) q → p.ending ≡ q.ending → MayFollow p token → MayFollow q token
+follows_too : (s : State) (p q : Place) (token : ObjectToken) → StandsAt (Some s) p → StandsAt (Some s) q → p.ending ≡ q.ending → MayFollow p token
+    → MayFollow q token
 follows_too s p q (NumberRead set n) x y e (not_ended, none, stated) =
-    let t = tells_of s p x in
-    let u = tells_of s q y in
+    let t = tells_of s p x in let u = tells_of s q y in
     let item : Stated = record { set = set; number = n } in
     let row = all_last InRow p.stated item stated.each in
     let fresh : number_at set q.stated ≡ None = sym (same_number s p q set n t u row) ∙ once_last p.stated item stated.once in (
@@ -25,10 +24,15 @@ follows_too s p q (NumberRead set n) x y e (not_ended, none, stated) =
       record { each = all_append InRow q.stated (item ∷ []) y.stated.each (row, tt); once = once-append q.stated item y.stated.once fresh },
     )
 follows_too s p q (SubfileBegun count) x y e (not_ended, both, few) =
-    let t = tells_of s p x in
-    let u = tells_of s q y in
-    (sym e ∙ not_ended, (ap is_some (sym u.mode ∙ t.mode) ∙ both.0, ap is_some (sym u.largest ∙ t.largest) ∙ both.1), omega (arith, few, t.subfiles, u.subfiles))
-follows_too s p q ObjectEnded x y e (not_ended, some) = let t = tells_of s p x in let u = tells_of s q y in (sym e ∙ not_ended, omega (arith, t.subfiles, u.subfiles))
+    let t = tells_of s p x in let u = tells_of s q y in (
+      sym e ∙ not_ended,
+      (ap is_some (sym u.mode ∙ t.mode) ∙ both.0, ap is_some (sym u.largest ∙ t.largest) ∙ both.1),
+      omega (arith, few, t.subfiles, u.subfiles),
+    )
+follows_too s p q ObjectEnded x y e (not_ended, some) = let t = tells_of s p x in let u = tells_of s q y in (
+  sym e ∙ not_ended,
+  omega (arith, t.subfiles, u.subfiles),
+)
 follows_too s p q (Confirmed n) x y e ended = sym e ∙ ended
 
 same_ending : (p q : Place) (token : ObjectToken) → p.ending ≡ q.ending → (place_after p token).ending ≡ (place_after q token).ending
@@ -47,7 +51,8 @@ next_of s p token st follows alive = by_cause (cause_in s token) refl
     by_cause None e = leads_on s token e
     by_cause (Some cause) e = absurd ((refused s token cause e p st follows).0.1 alive)
 
-alike : (tokens : List ObjectToken) (s : State) (new : Option State) (p q r : Place) → StandsAt (Some s) p → StandsAt (Some s) q → p.ending ≡ q.ending → TokensLead p tokens r → StandsAt new r
+alike : (tokens : List ObjectToken) (s : State) (new : Option State) (p q r : Place) → StandsAt (Some s) p → StandsAt (Some s) q → p.ending ≡ q.ending
+    → TokensLead p tokens r → StandsAt new r
     → (t : Place) × TokensLead q tokens t × StandsAt new t × (r.ending ≡ t.ending)
 alike [] s new p q r x y e leads z = (q, refl, rw (one_state new (Some s) r z (rw leads at x)) y, rw (← leads) e)
 alike (token ∷ tokens) s new p q r x y e (follows, leads) z =

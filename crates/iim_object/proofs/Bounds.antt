@@ -1,14 +1,14 @@
 -- A plan's bound leaves room for just the objects that keep to what is said of their sizes.
 use Rattle.iim_object.proofs.Words.{ℕ, ◌≤◌, length, IfSome, arith, greatest_size, announced_of, maximum_of, limit_of, Size}
 use Rattle.iim_object.specs.Laws.{SubfilesAreFew}
-use Rattle.iim_object.proofs.Cutting.{few_parts, held_in_few}
-use Rattle.iim_object.proofs.PlanParts.{plan_parts}
+use Rattle.iim_object.proofs.{Cutting.few_parts, Cutting.held_in_few, PlanParts.plan_parts}
 
 -- what is within the limit keeps to the announced size and to the maximum, and what keeps to them and to the greatest size is within it
 limit_kept : (n : ℕ) (size : Size) → n ≤ limit_of size → IfSome (announced_of size) (λ most. n ≤ most) × IfSome (maximum_of size) (λ most. n ≤ most)
 limit_kept n size h = grind arith
 
-within_limit : (n : ℕ) (size : Size) → n ≤ greatest_size → IfSome (announced_of size) (λ most. n ≤ most) → IfSome (maximum_of size) (λ most. n ≤ most) → n ≤ limit_of size
+within_limit : (n : ℕ) (size : Size) → n ≤ greatest_size → IfSome (announced_of size) (λ most. n ≤ most) → IfSome (maximum_of size) (λ most. n ≤ most)
+    → n ≤ limit_of size
 within_limit n size greatest announced maximum = grind arith
 
 pub bounds_leave_room : SubfilesAreFew

@@ -29,11 +29,13 @@ holds p (SubfileBegun count) c may e = subfile_holds p count c may.1 e
 holds p token c may e = grind arith
 
 -- and of no lower one, and of none where none is told
-lowest : (p : Place) (token : ObjectToken) (c told : SizeCause) → IfSome (number_at 90 p.stated) (λ a. a ≤ greatest_size) → HasCause c p token → cause_at p token ≡ Some told
+lowest : (p : Place) (token : ObjectToken) (c told : SizeCause) → IfSome (number_at 90 p.stated) (λ a. a ≤ greatest_size) → HasCause c p token
+    → cause_at p token ≡ Some told
     → number_of told ≤ number_of c
 lowest p token c told small h e = grind arith
 
-none_holds : (p : Place) (token : ObjectToken) (c : SizeCause) → IfSome (number_at 90 p.stated) (λ a. a ≤ greatest_size) → HasCause c p token → cause_at p token ≡ None → ⊥
+none_holds : (p : Place) (token : ObjectToken) (c : SizeCause) → IfSome (number_at 90 p.stated) (λ a. a ≤ greatest_size) → HasCause c p token
+    → cause_at p token ≡ None → ⊥
 none_holds p token c small h e = grind arith
 
 -- ---- the laws
@@ -44,14 +46,21 @@ first_law p token cause stated may = (
   λ first. by_told first.holds first.lowest (cause_at p token) refl,
 )
   where
-    by_told : HasCause cause p token → ((other : SizeCause) → HasCause other p token → number_of cause ≤ number_of other) → (o : Option SizeCause) → cause_at p token ≡ o
+    by_told : HasCause cause p token → ((other : SizeCause) → HasCause other p token → number_of cause ≤ number_of other) → (o : Option SizeCause)
+        → cause_at p token ≡ o
         → cause_at p token ≡ Some cause
     by_told h least None e = absurd (none_holds p token cause (announced_small p.stated stated) h e)
-    by_told h least (Some c) e = e ∙ ap Some (same_cause c cause (lowest p token cause c (announced_small p.stated stated) h e) (least c (holds p token c may e)))
+    by_told h least (Some c) e = e ∙ ap Some
+        (same_cause c cause (lowest p token cause c (announced_small p.stated stated) h e) (least c (holds p token c may e)))
 
 pub dies_law : ObjectsDieForCauses
-dies_law reader p token st may = (λ dies. cause_for dies.1 (cause_at p token) refl, λ (c, h). (st.alive, λ alive. none_holds p token c (announced_small p.stated st.stated) h ((lives_on p token st may).0 (rw (tokens_follow p token may) alive))))
+dies_law reader p token st may = (
+  λ dies. cause_for dies.1 (cause_at p token) refl,
+  λ (c, h).
+      (st.alive, λ alive. none_holds p token c (announced_small p.stated st.stated) h ((lives_on p token st may).0 (rw (tokens_follow p token may) alive))),
+)
   where
-    cause_for : (IsAlive ObjectLanguage (tokens_of p ++ token ∷ []) → ⊥) → (o : Option SizeCause) → cause_at p token ≡ o → (cause : SizeCause) × HasCause cause p token
+    cause_for : (IsAlive ObjectLanguage (tokens_of p ++ token ∷ []) → ⊥) → (o : Option SizeCause) → cause_at p token ≡ o
+        → (cause : SizeCause) × HasCause cause p token
     cause_for dies None e = absurd (dies (rw (tokens_follow p token may) at ((lives_on p token st may).1 e)))
     cause_for dies (Some c) e = (c, holds p token c may e)

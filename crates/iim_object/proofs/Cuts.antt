@@ -2,14 +2,14 @@
 use Rattle.iim_object.proofs.Words.{◌≡◌, ℕ, ◌<◌, ◌≤◌, ◌⊎◌, Bool, ◌==◌, List, [], ◌∷◌, ◌++◌, length, refl, sym, ap, subst, ◌∙◌, arith, inl, inr, append-nil, length-append, AllByRecursion, eq-eqb, nil_from_length, Dataset, of_record, all_front, all_back, all_map, nothing_of_two, Place, AreObjectRecords, numbers_of, lengths_of, place_after_datasets}
 use Rattle.std.proofs.lemmas.Bool.{ne_eqb}
 use Rattle.std.proofs.lemmas.List.Elements.{filter-append}
-use Rattle.iim_object.specs.Format.Objects.{ending_of}
-use Rattle.iim_object.specs.Laws.{AreByNumber, RecordsAreByNumber}
+use Rattle.iim_object.specs.{Format.Objects.ending_of, Laws.AreByNumber, Laws.RecordsAreByNumber}
 use Rattle.iim_object.proofs.Members.{IsMember, one_confirmation}
 
 -- ---- the datasets of a record
 
 -- a dataset of the record is one more, and others are none
-pub more_of : (rec : ℕ) (ds : List Dataset) (d : Dataset) (more : List Dataset) → d.rec ≡ rec → of_record rec (ds ++ d ∷ more) ≡ of_record rec ds ++ d ∷ of_record rec more
+pub more_of : (rec : ℕ) (ds : List Dataset) (d : Dataset) (more : List Dataset) → d.rec ≡ rec
+    → of_record rec (ds ++ d ∷ more) ≡ of_record rec ds ++ d ∷ of_record rec more
 more_of rec ds d more e = rw (filter-append (λ (x : Dataset). x.rec == rec) ds (d ∷ more), eq-eqb d.rec rec e) refl
 
 pub same_of : (rec : ℕ) (ds : List Dataset) (d : Dataset) → (d.rec ≡ rec → ⊥) → of_record rec (ds ++ d ∷ []) ≡ of_record rec ds
@@ -24,10 +24,12 @@ none_in rec [] h = refl
 none_in rec (d ∷ ds) h = rw (ne_eqb d.rec rec h.0) (none_in rec ds h.1)
 
 other_record : (rec wanted : ℕ) (ds : List Dataset) → (rec ≡ wanted → ⊥) → AllByRecursion (λ d. d.rec ≡ rec) ds → of_record wanted ds ≡ []
-other_record rec wanted ds other h = none_in wanted ds (all_map (λ (d : Dataset). d.rec ≡ rec) (λ (d : Dataset). d.rec ≡ wanted → ⊥) ds (λ d is e. other (sym is ∙ e)) h)
+other_record rec wanted ds other h = none_in wanted ds (all_map (λ (d : Dataset). d.rec ≡ rec) (λ (d : Dataset). d.rec ≡ wanted
+    → ⊥) ds (λ d is e. other (sym is ∙ e)) h)
 
 lower_record : (wanted : ℕ) (ds : List Dataset) → 7 ≤ wanted → AllByRecursion (λ d. d.rec < 7) ds → of_record wanted ds ≡ []
-lower_record wanted ds high h = none_in wanted ds (all_map (λ (d : Dataset). d.rec < 7) (λ (d : Dataset). d.rec ≡ wanted → ⊥) ds (λ d low e. absurd (omega arith)) h)
+lower_record wanted ds high h = none_in wanted ds (all_map (λ (d : Dataset). d.rec < 7) (λ (d : Dataset). d.rec ≡ wanted
+    → ⊥) ds (λ d low e. absurd (omega arith)) h)
 
 -- datasets of records below 7, of 7, of 8 and of 9
 pub record AreSorted (before d7 d8 d9 : List Dataset) : Type 0 where
@@ -36,7 +38,8 @@ pub record AreSorted (before d7 d8 d9 : List Dataset) : Type 0 where
   pub eights : AllByRecursion (λ d. d.rec ≡ 8) d8
   pub nines : AllByRecursion (λ d. d.rec ≡ 9) d9
 
-of_parts : (rec : ℕ) (b x y z : List Dataset) → of_record rec (b ++ (x ++ (y ++ z))) ≡ of_record rec b ++ (of_record rec x ++ (of_record rec y ++ of_record rec z))
+of_parts : (rec : ℕ) (b x y z : List Dataset)
+    → of_record rec (b ++ (x ++ (y ++ z))) ≡ of_record rec b ++ (of_record rec x ++ (of_record rec y ++ of_record rec z))
 of_parts rec b x y z =
     let p : Dataset → Bool = λ d. d.rec == rec in
     rw (filter-append p b (x ++ (y ++ z)), filter-append p x (y ++ z), filter-append p y z) refl
@@ -64,7 +67,8 @@ place_is b x y z s = let n = by_record b x y z s in rw (n.sevens, n.eights, n.ni
 of_rec : (rec : ℕ) (ds : List Dataset) → AllByRecursion (IsMember rec) ds → AllByRecursion (λ d. d.rec ≡ rec) ds
 of_rec rec ds h = all_map (IsMember rec) (λ (d : Dataset). d.rec ≡ rec) ds (λ d m. m.0) h
 
-pub sorted_members : (b x y z : List Dataset) → AllByRecursion (λ d. d.rec < 7) b → AllByRecursion (IsMember 7) x → AllByRecursion (IsMember 8) y → AllByRecursion (IsMember 9) z → AreSorted b x y z
+pub sorted_members : (b x y z : List Dataset) → AllByRecursion (λ d. d.rec < 7) b → AllByRecursion (IsMember 7) x → AllByRecursion (IsMember 8) y
+    → AllByRecursion (IsMember 9) z → AreSorted b x y z
 sorted_members b x y z others sevens eights nines = record { others = others; sevens = of_rec 7 x sevens; eights = of_rec 8 y eights; nines = of_rec 9 z nines }
 
 -- the records that come after are sorted
@@ -90,11 +94,31 @@ record Fronts (ds more xs ys : List Dataset) : Type 0 where
 
 fronts : (ds more xs ys : List Dataset) → ds ++ more ≡ xs ++ ys → Fronts ds more xs ys
 fronts [] more xs ys e = record { first = []; left = xs; second = []; later = ys; seen = refl; whole = refl; rest = refl; unseen = e; either = inr refl }
-fronts (d ∷ ds) more [] ys e = record { first = []; left = []; second = d ∷ ds; later = more; seen = refl; whole = refl; rest = sym e; unseen = refl; either = inl refl }
+fronts (d ∷ ds) more [] ys e = record {
+  first = [];
+  left = [];
+  second = d ∷ ds;
+  later = more;
+  seen = refl;
+  whole = refl;
+  rest = sym e;
+  unseen = refl;
+  either = inl refl;
+}
 fronts (d ∷ ds) more (x ∷ xs) ys e =
     let same : d ≡ x = cc in
     let p = fronts ds more xs ys (cc) in
-    record { first = x ∷ p.first; left = p.left; second = p.second; later = p.later; seen = cc; whole = cc; rest = p.rest; unseen = p.unseen; either = p.either }
+    record {
+      first = x ∷ p.first;
+      left = p.left;
+      second = p.second;
+      later = p.later;
+      seen = cc;
+      whole = cc;
+      rest = p.rest;
+      unseen = p.unseen;
+      either = p.either;
+    }
 
 -- Of each record the datasets that have come, and those that are to come: none of a record before one that has begun.
 pub record Parted (ds more r7 r8 r9 : List Dataset) : Type 0 where
@@ -148,7 +172,8 @@ parted ds more r =
       members7 = all_front (IsMember 7) b.first b.left sevens;
       members8 = all_front (IsMember 8) c.first c.left eights;
       members9 = all_front (IsMember 9) c.second c.later nines;
-      left = sorted_members a.left b.left c.left c.later (all_back (λ (d : Dataset). d.rec < 7) a.first a.left others) (all_back (IsMember 7) b.first b.left sevens)
+      left = sorted_members a.left b.left c.left c.later (all_back (λ (d : Dataset). d.rec < 7) a.first a.left others)
+          (all_back (IsMember 7) b.first b.left sevens)
           (all_back (IsMember 8) c.first c.left eights) (all_back (IsMember 9) c.second c.later nines);
     }
 
@@ -165,7 +190,8 @@ first_of d more [] [] [] (c ∷ z) e s high = let same : d ≡ c = cc in inr (in
 first_of d more [] [] [] [] e s high = absurd cc
 
 -- before a number of record 7 there is no subfile, and no end
-pub next_number : (ds : List Dataset) (d : Dataset) (more : List Dataset) (r : AreObjectRecords (ds ++ d ∷ more)) → d.rec ≡ 7 → (of_record 8 ds ≡ []) × (of_record 9 ds ≡ [])
+pub next_number : (ds : List Dataset) (d : Dataset) (more : List Dataset) (r : AreObjectRecords (ds ++ d ∷ more)) → d.rec ≡ 7
+    → (of_record 8 ds ≡ []) × (of_record 9 ds ≡ [])
 next_number ds d more r is =
     let p = parted ds (d ∷ more) r in
     let none : p.d8 ++ p.d9 ≡ [] = elim (first_of d more p.between p.m7 p.m8 p.m9 p.unseen p.left (omega arith)) [
@@ -178,7 +204,8 @@ next_number ds d more r is =
     (n.eights ∙ both.0, n.nines ∙ both.1)
 
 -- before a subfile all of record 7 has come, and no end
-pub next_subfile : (ds : List Dataset) (d : Dataset) (more : List Dataset) (r : AreObjectRecords (ds ++ d ∷ more)) → d.rec ≡ 8 → (of_record 7 ds ≡ r.r7) × (of_record 9 ds ≡ [])
+pub next_subfile : (ds : List Dataset) (d : Dataset) (more : List Dataset) (r : AreObjectRecords (ds ++ d ∷ more)) → d.rec ≡ 8
+    → (of_record 7 ds ≡ r.r7) × (of_record 9 ds ≡ [])
 next_subfile ds d more r is =
     let p = parted ds (d ∷ more) r in
     let n = by_number p in
@@ -209,5 +236,11 @@ next_end ds d more r is =
           let none : p.d9 ≡ [] = nil_from_length p.d9 (omega (arith, f.3, ap length p.whole9, ap length only, length-append p.d9 p.m9)) in
           let seven : r.r7 ≡ p.d7 = (rw (f.1, append-nil) at p.whole7) in
           let eight : r.r8 ≡ p.d8 = (rw (f.2, append-nil) at p.whole8) in
-          record { before = p.before; others = p.others; seen = cc (p.seen, seven, eight, none, append-nil p.d8); eights = n.eights ∙ sym eight; nines = n.nines ∙ none }
+          record {
+            before = p.before;
+            others = p.others;
+            seen = cc (p.seen, seven, eight, none, append-nil p.d8);
+            eights = n.eights ∙ sym eight;
+            nines = n.nines ∙ none;
+          }
     ]

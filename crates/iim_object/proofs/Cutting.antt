@@ -16,7 +16,8 @@ too_short size last first rest more fits full some e = omega (arith, length-appe
 pub same_first : (f g fs gs xs ys : List ℕ) → length f ≡ length g → (f ++ fs) ++ xs ≡ (g ++ gs) ++ ys → (f ≡ g) × (fs ++ xs ≡ gs ++ ys)
 same_first f g fs gs xs ys long e = same_front f g (fs ++ xs) (gs ++ ys) long (simp append_assoc at e)
 
-one_way : (size : ℕ) (full others : List (List ℕ)) (last other : List ℕ) → 1 ≤ size → AreFull size full → AreFull size others → length last ≤ size → length other ≤ size
+one_way : (size : ℕ) (full others : List (List ℕ)) (last other : List ℕ) → 1 ≤ size → AreFull size full → AreFull size others → length last ≤ size
+    → length other ≤ size
     → (last ≡ [] → joined_parts full ++ last ≡ []) → (other ≡ [] → joined_parts others ++ other ≡ []) → joined_parts full ++ last ≡ joined_parts others ++ other
     → full ++ last ∷ [] ≡ others ++ other ∷ []
 one_way size [] [] last other one f g short brief some any e = λ i. e i ∷ []
@@ -28,12 +29,14 @@ one_way size (f ∷ fs) (g ∷ gs) last other one full fulls short brief some an
     let parts = same_first f g (joined_parts fs) (joined_parts gs) last other (full.0 ∙ sym fulls.0) e in
     let least = some_octet size f (joined_parts fs) last one full.0 some in
     let most = some_octet size g (joined_parts gs) other one fulls.0 any in
-    let more = one_way size fs gs last other one full.1 fulls.1 short brief (λ empty. absurd (omega (arith, least, ap length empty))) (λ empty. absurd (omega (arith, most, ap length empty))) parts.1 in
+    let more = one_way size fs gs last other one full.1 fulls.1 short brief (λ empty. absurd (omega (arith, least, ap length empty)))
+    (λ empty. absurd (omega (arith, most, ap length empty))) parts.1 in
     λ i. parts.0 i ∷ more i
 
 pub cut_one_way : ObjectsAreCutOneWay
 cut_one_way size object parts others one c d =
-    c.parts_are ∙ (one_way size c.full d.full c.last d.last one c.are_full d.are_full c.fits d.fits (λ e. sym c.joined ∙ c.some e) (λ e. sym d.joined ∙ d.some e) (sym c.joined ∙ d.joined) ∙ sym d.parts_are)
+    c.parts_are ∙ (one_way size c.full d.full c.last d.last one c.are_full d.are_full c.fits d.fits (λ e. sym c.joined ∙ c.some e) (λ e. sym d.joined
+    ∙ d.some e) (sym c.joined ∙ d.joined) ∙ sym d.parts_are)
 
 -- ---- how many parts
 
@@ -59,13 +62,15 @@ cut_length : (subfile : ℕ) (object : List ℕ) (parts : List (List ℕ)) (c : 
 cut_length subfile object parts c = omega (arith, ap length c.joined, length-append (joined_parts c.full) c.last, full_length subfile c.full c.are_full)
 
 -- few parts hold no more than as many full ones
-pub held_in_few : (subfile : ℕ) (object : List ℕ) (parts : List (List ℕ)) → IsCut subfile object parts → length parts ≤ max_subfiles → length object ≤ subfile * max_subfiles
+pub held_in_few : (subfile : ℕ) (object : List ℕ) (parts : List (List ℕ)) → IsCut subfile object parts → length parts ≤ max_subfiles
+    → length object ≤ subfile * max_subfiles
 held_in_few subfile object parts c few =
     let more : subfile * (length c.full + 1) ≤ subfile * max_subfiles = mul-le-mul_left subfile (omega (arith, few, count_is subfile object parts c)) in
     omega (arith, more, cut_length subfile object parts c, c.fits)
 
 -- what as many full parts hold is cut into no more
-pub few_parts : (subfile : ℕ) (object : List ℕ) (parts : List (List ℕ)) → 1 ≤ subfile → IsCut subfile object parts → length object ≤ subfile * max_subfiles → length parts ≤ max_subfiles
+pub few_parts : (subfile : ℕ) (object : List ℕ) (parts : List (List ℕ)) → 1 ≤ subfile → IsCut subfile object parts → length object ≤ subfile * max_subfiles
+    → length parts ≤ max_subfiles
 few_parts subfile object parts one c within = elim (cases_lt 0 (length c.last)) [
   | inl some ↦
       let few = few_full subfile (length c.full) (length c.last) max_subfiles one some (omega (arith, cut_length subfile object parts c, within)) in

@@ -2,8 +2,7 @@
 use Rattle.iim_object.proofs.Words.{◌≡◌, ℕ, ◌<◌, ◌≤◌, ◌⊎◌, List, [], ◌∷◌, ◌++◌, length, map, sum, Some, refl, sym, ap, ◌∙◌, arith, inl, inr, append_assoc, append-nil, length-append, AllByRecursion, map-append, length-map, eq-eqb, same_Some, number, greatest_size, Dataset, IsAlive, nothing_of_two, all_append, all_back, all_map, Stated, InRow, number_at, mode_number, sizes_at, ObjectToken, SubfileBegun, ObjectEnded, Confirmed, ObjectLanguage, number_tokens, Place, Ended, ending_tokens, tokens_of, AreObjectRecords, numbers_of, lengths_of}
 use Rattle.iim_object.specs.Laws.{AreSized, object_tokens, TokensAreOfSizedDatasets, DatasetsLiveWithTheirTokens, DatasetsEndWithTheirTokens}
 use Rattle.iim_object.specs.Format.Objects.{ending_of, place_ended}
-use Rattle.iim_object.proofs.Numbers.{in_row_at, largest_at_most}
-use Rattle.iim_object.proofs.Subfiles.{numbers_front, parts_of, ended_parts}
+use Rattle.iim_object.proofs.{Numbers.in_row_at, Numbers.largest_at_most, Subfiles.numbers_front, Subfiles.parts_of, Subfiles.ended_parts}
 use Rattle.iim_object.proofs.Members.{IsMember, are_stated, descriptor_of, object_of, confirmation_of, one_confirmation, some_subfile, ten_of, stating, subfiles, confirmation}
 use Rattle.iim_object.proofs.Cuts.{AreSorted, Parted, parted, by_number, next_end, sorted, sorted_members, place_is}
 
@@ -27,7 +26,8 @@ tokens_whole : (ds : List Dataset) (r : AreObjectRecords ds) → object_tokens d
 tokens_whole ds r = rw r.parts (ap tokens_of (place_is r.before r.r7 r.r8 r.r9 (sorted r)))
 
 -- of those that have come
-tokens_seen : {ds more r7 r8 r9 : List Dataset} (p : Parted ds more r7 r8 r9) → object_tokens ds ≡ numbers p.d7 ++ (heads p.d8 ++ ending_tokens (ending_of p.d9))
+tokens_seen : {ds more r7 r8 r9 : List Dataset} (p : Parted ds more r7 r8 r9)
+    → object_tokens ds ≡ numbers p.d7 ++ (heads p.d8 ++ ending_tokens (ending_of p.d9))
 tokens_seen p = let n = by_number p in rw (n.sevens, n.eights, n.nines) refl
 
 -- ---- whole records
@@ -58,7 +58,8 @@ member_of ds sized =
     }
 
 -- datasets with the numbers and lengths of a member have sizes
-sized_of : (b x y : List Dataset) (e : Dataset) (tokens : List ObjectToken) (o : ObjectLanguage tokens) → AllByRecursion (λ d. d.rec < 7) b → AllByRecursion (IsMember 7) x → AllByRecursion (IsMember 8) y → IsMember 9 e
+sized_of : (b x y : List Dataset) (e : Dataset) (tokens : List ObjectToken) (o : ObjectLanguage tokens) → AllByRecursion (λ d. d.rec < 7) b
+    → AllByRecursion (IsMember 7) x → AllByRecursion (IsMember 8) y → IsMember 9 e
     → numbers_of x ≡ o.stated → lengths_of y ≡ o.lengths → number e.octets ≡ o.confirmed → AreSized (b ++ (x ++ (y ++ e ∷ [])))
 sized_of b x y e tokens o others sevens eights nine stated lengths value = record {
   records = record {
@@ -87,10 +88,12 @@ sized_of b x y e tokens o others sevens eights nine stated lengths value = recor
 }
 
 -- datasets of the numbers, of the lengths and of the confirmed size of a member
-stating_of : (tokens : List ObjectToken) (o : ObjectLanguage tokens) (ps more : List Stated) → o.stated ≡ ps ++ more → (ds : List Dataset) × AllByRecursion (IsMember 7) ds × (numbers_of ds ≡ more)
+stating_of : (tokens : List ObjectToken) (o : ObjectLanguage tokens) (ps more : List Stated) → o.stated ≡ ps ++ more
+    → (ds : List Dataset) × AllByRecursion (IsMember 7) ds × (numbers_of ds ≡ more)
 stating_of tokens o ps more parts = stating more (all_back InRow ps more (rw parts at o.are_stated.each))
 
-subfiles_of : (tokens : List ObjectToken) (o : ObjectLanguage tokens) (ls more : List ℕ) → o.lengths ≡ ls ++ more → (ds : List Dataset) × AllByRecursion (IsMember 8) ds × (lengths_of ds ≡ more)
+subfiles_of : (tokens : List ObjectToken) (o : ObjectLanguage tokens) (ls more : List ℕ) → o.lengths ≡ ls ++ more
+    → (ds : List Dataset) × AllByRecursion (IsMember 8) ds × (lengths_of ds ≡ more)
 subfiles_of tokens o ls more parts =
     let most : o.subfile ≤ greatest_size = largest_at_most o.subfile (in_row_at 20 o.subfile o.stated o.are_stated.each o.largest) in
     let all = all_map (λ (n : ℕ). n ≤ o.subfile) (λ (n : ℕ). n ≤ greatest_size) o.lengths (λ n h. omega arith) o.agree.each_subfile in
@@ -121,7 +124,8 @@ alive_by xs rest all e o = (rest, rw e at o)
 numbers_begun : (x y : List Dataset) (tail : List ObjectToken) → numbers (x ++ y) ++ tail ≡ (numbers x ++ []) ++ (numbers y ++ tail)
 numbers_begun x y tail = simp (map-append, append-nil, append_assoc)
 
-heads_begun : (x y z : List Dataset) (tail : List ObjectToken) → numbers (x ++ []) ++ (heads (y ++ z) ++ tail) ≡ (numbers x ++ (heads y ++ [])) ++ (heads z ++ tail)
+heads_begun : (x y z : List Dataset) (tail : List ObjectToken)
+    → numbers (x ++ []) ++ (heads (y ++ z) ++ tail) ≡ (numbers x ++ (heads y ++ [])) ++ (heads z ++ tail)
 heads_begun x y z tail = simp (map-append, append-nil, append_assoc)
 
 -- the tokens of what has come begin those of whole records
@@ -138,11 +142,14 @@ live_datasets : (ds : List Dataset) → IsAlive AreSized ds → IsAlive ObjectLa
 live_datasets ds (more, sized) =
     let p = parted ds more sized.records in
     let (rest, e) = tokens_front p.d7 p.m7 p.d8 p.m8 p.d9 p.m9 p.after7 p.after8 in
-    alive_by (object_tokens ds) rest (object_tokens (ds ++ more)) (cc (tokens_whole (ds ++ more) sized.records, p.whole7, p.whole8, p.whole9, tokens_seen p, e)) (member_of (ds ++ more) sized)
+    alive_by (object_tokens ds) rest (object_tokens (ds ++ more))
+    (cc (tokens_whole (ds ++ more) sized.records, p.whole7, p.whole8, p.whole9, tokens_seen p, e)) (member_of (ds ++ more) sized)
 
 -- datasets whose tokens continue to an object continue to one that has sizes
-continues : (ds b x y z : List Dataset) (rest : List ObjectToken) → AllByRecursion (λ d. d.rec < 7) b → AllByRecursion (IsMember 7) x → AllByRecursion (IsMember 8) y → AllByRecursion (IsMember 9) z
-    → length z ≤ 1 → (z ≡ []) ⊎ (0 < length y) → ds ≡ b ++ (x ++ (y ++ z)) → ObjectLanguage (numbers x ++ (heads y ++ (ending_tokens (ending_of z) ++ rest))) → IsAlive AreSized ds
+continues : (ds b x y z : List Dataset) (rest : List ObjectToken) → AllByRecursion (λ d. d.rec < 7) b → AllByRecursion (IsMember 7) x
+    → AllByRecursion (IsMember 8) y → AllByRecursion (IsMember 9) z
+    → length z ≤ 1 → (z ≡ []) ⊎ (0 < length y) → ds ≡ b ++ (x ++ (y ++ z)) → ObjectLanguage (numbers x ++ (heads y ++ (ending_tokens (ending_of z) ++ rest)))
+    → IsAlive AreSized ds
 continues ds b x [] [] rest others sevens eights nines one some seen o =
     let (ps, parts, tokens) = numbers_front (numbers_of x) o.stated rest o.lengths o.confirmed o.tokens_are in
     let (more, stating, stated) = stating_of _ o (numbers_of x) ps parts in
@@ -150,7 +157,8 @@ continues ds b x [] [] rest others sevens eights nines one some seen o =
     let (e, nine, value) = confirmation_in _ o in
     let all : numbers_of (x ++ more) ≡ o.stated = cc (numbers_append x more) in (
       more ++ (y ++ e ∷ []),
-      rw seen (simp (append_assoc, append-nil) (simp append_assoc at (sized_of b (x ++ more) y e _ o others (all_append (IsMember 7) x more sevens stating) subfiles nine all lengths value))),
+      rw seen (simp (append_assoc, append-nil)
+          (simp append_assoc at (sized_of b (x ++ more) y e _ o others (all_append (IsMember 7) x more sevens stating) subfiles nine all lengths value))),
     )
 continues ds b x (d ∷ y) [] rest others sevens eights nines one some seen o =
     let (stated, (ls, parts, tokens)) = parts_of (numbers_of x) (lengths_of (d ∷ y)) rest (omega arith) o in
@@ -158,11 +166,14 @@ continues ds b x (d ∷ y) [] rest others sevens eights nines one some seen o =
     let (e, nine, value) = confirmation_in _ o in
     let all : lengths_of ((d ∷ y) ++ more) ≡ o.lengths = cc (lengths_append (d ∷ y) more) in (
       more ++ e ∷ [],
-      rw seen (simp (append_assoc, append-nil) (simp append_assoc at (sized_of b x ((d ∷ y) ++ more) e _ o others sevens (all_append (IsMember 8) (d ∷ y) more eights subfiles) nine (sym stated) all value))),
+      rw seen (simp (append_assoc, append-nil)
+          (simp append_assoc at (sized_of b x ((d ∷ y) ++ more) e _ o others sevens (all_append (IsMember 8) (d ∷ y) more eights subfiles) nine (sym stated)
+          all value))),
     )
 continues ds b x y (e ∷ []) rest others sevens eights nines one (inl none) seen o = absurd cc
 continues ds b x y (e ∷ []) rest others sevens eights nines one (inr some) seen o =
-    let (stated, (lengths, tokens)) = ended_parts (numbers_of x) (lengths_of y) (Confirmed (number e.octets) ∷ rest) (omega (arith, some, length-map y (λ (d : Dataset). length d.octets))) o in
+    let (stated, (lengths, tokens)) = ended_parts (numbers_of x) (lengths_of y) (Confirmed (number e.octets) ∷ rest)
+    (omega (arith, some, length-map y (λ (d : Dataset). length d.octets))) o in
     ([], rw seen (simp append-nil (sized_of b x y e _ o others sevens eights nines.0 (sym stated) (sym lengths) (cc))))
 continues ds b x y (e ∷ f ∷ z) rest others sevens eights nines one some seen o = absurd (omega arith)
 
@@ -174,7 +185,8 @@ live_tokens ds (more, r) (rest, o) =
       | inl none ↦ inr (omega (arith, some_subfile r.r8 r.object, ap length p.whole8, ap length none, length-append p.d8 p.m8))
       | inr none ↦ inl none
     ] in
-    continues ds p.before p.d7 p.d8 p.d9 rest p.others p.members7 p.members8 p.members9 (omega (arith, ap length p.whole9, ap length is, length-append p.d9 p.m9)) some p.seen
+    continues ds p.before p.d7 p.d8 p.d9 rest p.others p.members7 p.members8 p.members9
+    (omega (arith, ap length p.whole9, ap length is, length-append p.d9 p.m9)) some p.seen
     (simp append_assoc at (rw (tokens_seen p) at o))
 
 pub datasets_law : DatasetsLiveWithTheirTokens
@@ -190,7 +202,8 @@ ended_tokens ds b x y s seen =
     ap (λ (p : Place). tokens_of (record p { ending = Ended })) place
 
 -- before a dataset of record 9 the tokens are of all numbers and subfiles
-ended_before : (ds : List Dataset) (e : Dataset) (more : List Dataset) (r : AreObjectRecords (ds ++ e ∷ more)) → e.rec ≡ 9 → tokens_of (place_ended ds) ≡ numbers r.r7 ++ (heads r.r8 ++ ObjectEnded ∷ [])
+ended_before : (ds : List Dataset) (e : Dataset) (more : List Dataset) (r : AreObjectRecords (ds ++ e ∷ more)) → e.rec ≡ 9
+    → tokens_of (place_ended ds) ≡ numbers r.r7 ++ (heads r.r8 ++ ObjectEnded ∷ [])
 ended_before ds e more r nine =
     let n = next_end ds e more r nine in
     ended_tokens ds n.before r.r7 r.r8 (sorted_members n.before r.r7 r.r8 [] n.others r.descriptor.each r.object.each tt) n.seen
@@ -202,7 +215,8 @@ ends_live ds (e, nine, (after, all)) =
     let (one, m, is) = one_confirmation q.r9 q.confirmation in
     let last : List ObjectToken = Confirmed (number one.octets) ∷ [] in
     let joined : (numbers q.r7 ++ (heads q.r8 ++ ObjectEnded ∷ [])) ++ last ≡ numbers q.r7 ++ (heads q.r8 ++ ObjectEnded ∷ last) = simp append_assoc in
-    alive_by (tokens_of (place_ended ds)) last (object_tokens (ds ++ e ∷ after)) (cc (tokens_whole (ds ++ e ∷ after) q, is, ended_before ds e after q nine)) (member_of (ds ++ e ∷ after) sized)
+    alive_by (tokens_of (place_ended ds)) last (object_tokens (ds ++ e ∷ after)) (cc (tokens_whole (ds ++ e ∷ after) q, is, ended_before ds e after q nine))
+    (member_of (ds ++ e ∷ after) sized)
 
 ended_sized : (b x y ds : List Dataset) (e : Dataset) → ds ≡ b ++ (x ++ y) → AreSized (b ++ (x ++ (y ++ e ∷ []))) → AreSized ((ds ++ e ∷ []) ++ [])
 ended_sized b x y ds e seen sized = rw seen (simp (append_assoc, append-nil) sized)
@@ -212,7 +226,8 @@ live_ends : (ds : List Dataset) (d : Dataset) (more : List Dataset) → AreObjec
 live_ends ds d more r is (rest, all) =
     let n = next_end ds d more r is in
     let o = (simp append_assoc at (rw (ended_before ds d more r is) at all)) in
-    let (stated, (lengths, tokens)) = ended_parts (numbers_of r.r7) (lengths_of r.r8) rest (omega (arith, some_subfile r.r8 r.object, length-map r.r8 (λ (d : Dataset). length d.octets))) o in
+    let (stated, (lengths, tokens)) = ended_parts (numbers_of r.r7) (lengths_of r.r8) rest
+    (omega (arith, some_subfile r.r8 r.object, length-map r.r8 (λ (d : Dataset). length d.octets))) o in
     let (e, nine, value) = confirmation_in _ o in
     let sized = sized_of n.before r.r7 r.r8 e _ o n.others r.descriptor.each r.object.each nine (sym stated) (sym lengths) value in
     (e, nine.0, ([], ended_sized n.before r.r7 r.r8 ds e n.seen sized))

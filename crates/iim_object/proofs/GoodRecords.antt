@@ -22,12 +22,14 @@ once_seven subfile (Unknown None) = (refl, (refl, tt))
 
 -- ---- parts
 
-good_parts : (size : ℕ) (full : List (List ℕ)) (last : List ℕ) → size ≤ greatest_size → AreFull size full → length last ≤ size → Octets (joined_parts full ++ last)
+good_parts : (size : ℕ) (full : List (List ℕ)) (last : List ℕ) → size ≤ greatest_size → AreFull size full → length last ≤ size
+    → Octets (joined_parts full ++ last)
     → AllByRecursion (IsMember 8) (subfile_datasets (full ++ last ∷ []))
 good_parts size [] last most fulls short o = ((refl, good_elsewhere refl (omega arith) o (part_meets last (omega arith))), tt)
 good_parts size (f ∷ fs) last most fulls short o =
     let whole : Octets (f ++ (joined_parts fs ++ last)) = (rw append_assoc at o) in
-    let good = good_elsewhere {d = subfile_dataset f} refl (omega arith) (all_front IsOctet f (joined_parts fs ++ last) whole) (part_meets f (omega (arith, fulls.0))) in
+    let good = good_elsewhere {d = subfile_dataset f} refl (omega arith) (all_front IsOctet f (joined_parts fs ++ last) whole)
+    (part_meets f (omega (arith, fulls.0))) in
     ((refl, good), good_parts size fs last most fulls.1 short (all_back IsOctet f (joined_parts fs ++ last) whole))
 
 -- ---- the law
@@ -35,9 +37,13 @@ good_parts size (f ∷ fs) last most fulls short o =
 pub records_good : PackedRecordsAreGood
 records_good subfile size object parts plan octets cut within =
     let p = plan_parts subfile size plan in
-    let seven : AllByRecursion (IsMember 7) (plan_datasets subfile size) = ((refl, mode_good (mode_number (is_known size)) (mode_small size)), ((refl, numbers_good.largest subfile p.least p.most), each_size size p.limit)) in
+    let seven : AllByRecursion (IsMember 7) (plan_datasets subfile size) = (
+      (refl, mode_good (mode_number (is_known size)) (mode_small size)),
+      ((refl, numbers_good.largest subfile p.least p.most), each_size size p.limit),
+    ) in
     let eight = rw (← cut.parts_are) at (good_parts subfile cut.full cut.last p.most cut.are_full cut.fits (rw cut.joined at octets)) in
-    let some : 0 < length (subfile_datasets parts) = omega (arith, ap length cut.parts_are, length-append cut.full (cut.last ∷ []), length-map parts subfile_dataset) in
+    let some : 0 < length (subfile_datasets parts) = omega
+    (arith, ap length cut.parts_are, length-append cut.full (cut.last ∷ []), length-map parts subfile_dataset) in
     record {
       seven = descriptor_of (plan_datasets subfile size) _ _ seven (once_seven subfile size) refl refl;
       eight = object_of (subfile_datasets parts) eight some;

@@ -1,8 +1,7 @@
 -- Tokens lead to the places that are possible.
 use Rattle.iim_object.proofs.Words.{◌≡◌, ℕ, ◌<◌, ◌≤◌, List, [], ◌∷◌, ◌++◌, length, map, refl, sym, ap, subst, ◌∙◌, arith, append_assoc, append-nil, length-append, IsAlive, max_subfiles, Stated, AreStated, ObjectToken, SubfileBegun, ObjectLanguage, number_tokens, Place, Ending, NotEnded, Ended, ConfirmedAs, HasBoth, MayFollow, ending_tokens, place_start, place_after, tokens_of, IsPossible, TokensLead}
 use Rattle.iim_object.specs.Laws.{PlacesAreLedTo}
-use Rattle.iim_object.proofs.Leads.{stated_front}
-use Rattle.iim_object.proofs.Steps.{IsAdmitted, admitted_at, starts, stays_admitted, tokens_follow}
+use Rattle.iim_object.proofs.{Leads.stated_front, Steps.IsAdmitted, Steps.admitted_at, Steps.starts, Steps.stays_admitted, Steps.tokens_follow}
 
 -- ---- what tokens lead to
 
@@ -10,7 +9,8 @@ few_after : (p : Place) (token : ObjectToken) → length p.lengths ≤ max_subfi
 few_after p (SubfileBegun count) few may = omega (arith, may.2, length-append p.lengths (count ∷ []))
 few_after p token few may = few
 
-admitted_after : (p q : Place) (tokens : List ObjectToken) → IsAdmitted p → length p.lengths ≤ max_subfiles → TokensLead p tokens q → IsAdmitted q × (length q.lengths ≤ max_subfiles)
+admitted_after : (p q : Place) (tokens : List ObjectToken) → IsAdmitted p → length p.lengths ≤ max_subfiles → TokensLead p tokens q
+    → IsAdmitted q × (length q.lengths ≤ max_subfiles)
 admitted_after p q [] a few e = rw (← e) (a, few)
 admitted_after p q (token ∷ tokens) a few (follows, leads) =
     admitted_after (place_after p token) q tokens (stays_admitted p token a follows) (few_after p token few follows) leads
@@ -36,7 +36,8 @@ lead_on p q r (x ∷ xs) ys (follows, leads) next = (follows, lead_on (place_aft
 abbrev place_of : List Stated → List ℕ → Ending → Place
 place_of ps lengths ending = record { stated = ps; lengths = lengths; ending = ending }
 
-numbers_on : (front rest : List Stated) → AreStated (front ++ rest) → TokensLead (place_of front [] NotEnded) (number_tokens rest) (place_of (front ++ rest) [] NotEnded)
+numbers_on : (front rest : List Stated) → AreStated (front ++ rest)
+    → TokensLead (place_of front [] NotEnded) (number_tokens rest) (place_of (front ++ rest) [] NotEnded)
 numbers_on front [] h = λ i. place_of (sym (append-nil front) i) [] NotEnded
 numbers_on front (q ∷ rest) h =
     let joined : (front ++ q ∷ []) ++ rest ≡ front ++ q ∷ rest = append_assoc front (q ∷ []) rest in
@@ -67,7 +68,8 @@ possible_led p h =
     let heads : List ObjectToken = map SubfileBegun p.lengths in
     let subfiles : TokensLead (place_of p.stated [] NotEnded) heads (place_of p.stated p.lengths NotEnded) = subfiles_on p.stated [] p.lengths h.duties h.few in
     let rest : TokensLead (place_of p.stated [] NotEnded) (heads ++ ending_tokens p.ending) p =
-    lead_on (place_of p.stated [] NotEnded) (place_of p.stated p.lengths NotEnded) p heads (ending_tokens p.ending) subfiles (ending_on p.stated p.lengths p.ending h.subfiles) in
+    lead_on (place_of p.stated [] NotEnded) (place_of p.stated p.lengths NotEnded) p heads (ending_tokens p.ending) subfiles
+    (ending_on p.stated p.lengths p.ending h.subfiles) in
     lead_on place_start (place_of p.stated [] NotEnded) p (number_tokens p.stated) (heads ++ ending_tokens p.ending) (numbers_on [] p.stated h.stated) rest
 
 pub led_law : PlacesAreLedTo

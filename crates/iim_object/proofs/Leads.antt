@@ -1,9 +1,7 @@
 -- What datasets tell leads from place to place.
 use Rattle.iim_object.proofs.Words.{◌≡◌, ℕ, ◌<◌, List, [], ◌∷◌, ◌++◌, length, None, refl, sym, ap, ◌∙◌, arith, append_assoc, map-append, length-map, Dataset, of_record, all_front, Stated, InRow, AreOnce, AreStated, number_at, AreObjectRecords, numbers_of, lengths_of}
-use Rattle.iim_object.specs.Format.Objects.{ending_of}
-use Rattle.iim_object.specs.Laws.{OthersLeadNowhere, NumbersLead, SubfilesLead, EndsLead}
-use Rattle.iim_object.proofs.Numbers.{at-append}
-use Rattle.iim_object.proofs.Members.{are_stated, have_both, some_subfile, stated_of}
+use Rattle.iim_object.specs.{Format.Objects.ending_of, Laws.OthersLeadNowhere, Laws.NumbersLead, Laws.SubfilesLead, Laws.EndsLead}
+use Rattle.iim_object.proofs.{Numbers.at-append, Members.are_stated, Members.have_both, Members.some_subfile, Members.stated_of}
 use Rattle.iim_object.proofs.Cuts.{more_of, same_of, next_number, next_subfile, next_end, records_by_number}
 
 pub others_lead : OthersLeadNowhere
@@ -27,7 +25,8 @@ numbers_lead ds d (more, all) is =
     let (eights, nines) = next_number ds d more r is in
     let seven : r.r7 ≡ of_record 7 ds ++ d ∷ of_record 7 more = sym (records_by_number (ds ++ d ∷ more) r).sevens ∙ more_of 7 ds d more is in
     let here = are_stated (of_record 7 ds ++ d ∷ of_record 7 more) (rw seven at r.descriptor) in
-    let stated = stated_front (numbers_of (of_record 7 ds) ++ stated_of d ∷ []) (numbers_of (of_record 7 more)) (simp append_assoc (simp map-append at here)) in (
+    let stated = stated_front (numbers_of (of_record 7 ds) ++ stated_of d ∷ []) (numbers_of (of_record 7 more))
+    (simp append_assoc (simp map-append at here)) in (
       (ap ending_of nines, ap lengths_of eights, stated),
       rw (more_of 7 ds d [] is, same_of 8 ds d (λ e. omega arith), same_of 9 ds d (λ e. omega arith)) (simp map-append),
     )
@@ -48,7 +47,8 @@ pub ends_lead : EndsLead
 ends_lead ds d (more, all) is =
     let r : AreObjectRecords (ds ++ d ∷ more) = (rw append_assoc at all) in
     let n = next_end ds d more r is in
-    let some : 0 < length (lengths_of (of_record 8 ds)) = omega (arith, ap length n.eights, some_subfile r.r8 r.object, length-map (of_record 8 ds) (λ (x : Dataset). length x.octets)) in (
+    let some : 0 < length (lengths_of (of_record 8 ds)) = omega
+    (arith, ap length n.eights, some_subfile r.r8 r.object, length-map (of_record 8 ds) (λ (x : Dataset). length x.octets)) in (
       ((ap ending_of n.nines, some), refl),
       (refl, rw (more_of 9 ds d [] is, n.nines, same_of 7 ds d (λ e. omega arith), same_of 8 ds d (λ e. omega arith)) refl),
     )

@@ -5,8 +5,7 @@ use Rattle.std.specs.List.{list_any}
 use Rattle.std.proofs.lemmas.List.{length-replicate}
 use Rattle.std.proofs.lemmas.Bool.{and_from, le-leb}
 use Rattle.iim_dataset.specs.Format.Octets.{within}
-use Rattle.iim_dataset.proofs.OctetLists.{zeros_are}
-use Rattle.iim_dataset.proofs.WrittenNumbers.{number_octets, some_octets, few_octets}
+use Rattle.iim_dataset.proofs.{OctetLists.zeros_are, WrittenNumbers.number_octets, WrittenNumbers.some_octets, WrittenNumbers.few_octets}
 use Rattle.iim_tables.specs.Format.Kinds.{size_octets, is_mode, is_size_from}
 use Rattle.iim_tables.specs.Format.Rows.{table, row_of, Meets}
 use Rattle.iim_tables.specs.Format.Records.{repeats, occurrences, IsGoodDataset, IsGoodRecord}
@@ -181,8 +180,20 @@ stated_is : (p : Stated) (set n : ℕ) → p.set ≡ set → n ≡ p.number → 
 stated_is p set n s e = λ i. record { set = sym s i; number = e i }
 
 states : (p : Stated) → InRow p → States p
-states p (inl h) = (record { rec = 7; set = 10; octets = p.number ∷ [] }, (refl, mode_good p.number h.1), stated_is p 10 (number (p.number ∷ [])) h.0 (omega arith))
-states p (inr (inl h)) = (number_dataset 7 20 p.number, (refl, numbers_good.largest p.number h.1 h.2), stated_is p 20 _ h.0 (number_back p.number (omega (arith, h.2))))
+states p (inl h) = (
+  record {
+    rec = 7;
+    set = 10;
+    octets = p.number ∷ [];
+  },
+  (refl, mode_good p.number h.1),
+  stated_is p 10 (number (p.number ∷ [])) h.0 (omega arith),
+)
+states p (inr (inl h)) = (
+  number_dataset 7 20 p.number,
+  (refl, numbers_good.largest p.number h.1 h.2),
+  stated_is p 20 _ h.0 (number_back p.number (omega (arith, h.2))),
+)
 states p (inr (inr h)) = elim h.0 [
   | inl is ↦ (number_dataset 7 90 p.number, (refl, numbers_good.announced p.number h.1), stated_is p 90 _ is (number_back p.number (omega (arith, h.1))))
   | inr is ↦ (number_dataset 7 95 p.number, (refl, numbers_good.maximum p.number h.1), stated_is p 95 _ is (number_back p.number (omega (arith, h.1))))
@@ -195,11 +206,16 @@ stating (p ∷ ps) h =
     let more = stating ps h.1 in
     (first.0 ∷ more.0, (first.1, more.1), λ i. first.2 i ∷ more.2 i)
 
-pub subfiles : (lengths : List ℕ) → AllByRecursion (λ n. n ≤ greatest_size) lengths → (ds : List Dataset) × AllByRecursion (IsMember 8) ds × (lengths_of ds ≡ lengths)
+pub subfiles : (lengths : List ℕ) → AllByRecursion (λ n. n ≤ greatest_size) lengths → (ds : List Dataset) × AllByRecursion (IsMember 8) ds
+    × (lengths_of ds ≡ lengths)
 subfiles [] h = ([], tt, refl)
 subfiles (n ∷ ns) h =
     let long : length {A = ℕ} (replicate n 0) ≡ n = length-replicate n 0 in
-    let good = good_elsewhere {d = record { rec = 8; set = 10; octets = replicate n 0 }} refl (omega arith) (zeros_are n) (part_meets (replicate n 0) (omega (arith, h.0))) in
+    let good = good_elsewhere {d = record {
+      rec = 8;
+      set = 10;
+      octets = replicate n 0;
+    }} refl (omega arith) (zeros_are n) (part_meets (replicate n 0) (omega (arith, h.0))) in
     let more = subfiles ns h.1 in
     (record { rec = 8; set = 10; octets = replicate n 0 } ∷ more.0, ((refl, good), more.1), λ i. long i ∷ more.2 i)
 

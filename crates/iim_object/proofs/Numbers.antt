@@ -40,7 +40,8 @@ numbers_low most (p ∷ ps) rest all = (all.0, numbers_low most ps rest all.1)
 pub whole_within : (most : ℕ) (all : List Stated) (lengths : List ℕ) (n : ℕ) → AreLow most all → n ≤ most
     → TokensWithin most (number_tokens all ++ (map SubfileBegun lengths ++ (ObjectEnded ∷ Confirmed n ∷ [])))
 whole_within most all lengths n low le =
-    within_append most (number_tokens all) _ (numbers_within most all low) (within_append most (map SubfileBegun lengths) _ (begun_within most lengths) (le, tt))
+    within_append most (number_tokens all) _ (numbers_within most all low)
+    (within_append most (map SubfileBegun lengths) _ (begun_within most lengths) (le, tt))
 
 pub rows_low : (ps : List Stated) → AllByRecursion InRow ps → AreLow greatest_size ps
 rows_low ps all = all_map InRow (λ (p : Stated). p.number ≤ greatest_size) ps row_low all

@@ -4,14 +4,16 @@ use Rattle.std.specs.Prelude.{Result, Ok, Err, OnOk, OnErr}
 use Rattle.std.proofs.lemmas.List.{take-append-le}
 use Rattle.std.specs.Io.KnownBytes.{Appends}
 
-pub puts_more : {W : Type 0} (state : W → Device) (a b c : Output W) (xs ys : List ℕ) → TextsJoin → Puts state a b xs → Puts state b c ys → Puts state a c (xs ++ ys)
+pub puts_more : {W : Type 0} (state : W → Device) (a b c : Output W) (xs ys : List ℕ) → TextsJoin → Puts state a b xs → Puts state b c ys
+    → Puts state a c (xs ++ ys)
 puts_more state a b c xs ys join p q = record {
   wrote = join.more (state a.writer) (state b.writer) (state c.writer) xs ys p.wrote q.wrote;
   counted = omega (arith, p.counted, q.counted, length-append xs ys);
   patience = omega (arith, p.patience, q.patience, length-append xs ys);
 }
 
-pub cuts_later : {W : Type 0} (state : W → Device) (a b c : Output W) (xs ys : List ℕ) → TextsJoin → Puts state a b xs → Cuts state b c ys → Cuts state a c (xs ++ ys)
+pub cuts_later : {W : Type 0} (state : W → Device) (a b c : Output W) (xs ys : List ℕ) → TextsJoin → Puts state a b xs → Cuts state b c ys
+    → Cuts state a c (xs ++ ys)
 cuts_later state a b c xs ys join p q = record {
   out = length xs + q.out;
   stopped = join.stopped (state a.writer) (state b.writer) (state c.writer) xs ys q.out p.wrote q.stopped;
@@ -24,7 +26,11 @@ cuts_more state a b xs ys q =
     let front : take q.out (xs ++ ys) ≡ take q.out xs = take-append-le q.out xs ys (omega (arith, q.stopped.0)) in
     record {
       out = q.out;
-      stopped = (omega (arith, q.stopped.0, length-append xs ys), subst (Appends (state a.writer).octets (state b.writer).octets) (sym front) q.stopped.1, q.stopped.2);
+      stopped = (
+        omega (arith, q.stopped.0, length-append xs ys),
+        subst (Appends (state a.writer).octets (state b.writer).octets) (sym front) q.stopped.1,
+        q.stopped.2,
+      );
       counted = q.counted;
       patience = q.patience;
     }

@@ -2,13 +2,10 @@
 use Rattle.iim_object.proofs.Words.{◌≡◌, ℕ, zero, suc, ◌-◌, ◌*◌, ◌<◌, ◌≤◌, Bool, List, [], ◌∷◌, ◌++◌, length, map, sum, Option, Some, None, is_some, unwrap_or, refl, sym, ap, ◌∙◌, arith, inl, inr, append_assoc, AllByRecursion, cases_lt, nil_from_length, IsAlive, sum_cons, max_subfiles, Stated, InRow, AreOnce, AreStated, number_at, SubfileBegun, ObjectLanguage, number_tokens, NoClash, HasDuties, Fit, Place, NotEnded, HasBoth, ending_tokens, tokens_of, HasNumbers, IsState, IsStateAt, StandsAt, State}
 use Rattle.std.proofs.Common.{min, IfSome}
 use Rattle.iim_dataset.specs.Format.Octets.{greatest_size}
-use Rattle.iim_object.specs.Format.Causes.{bound}
+use Rattle.iim_object.specs.{Format.Causes.bound, Laws.PlacesAreReached, States.Reading.HasSubfiles}
 use Rattle.std.proofs.Math.Nat.{suc-mul}
 use Rattle.iim_dataset.proofs.Lists.{sum_fits}
-use Rattle.iim_object.specs.Laws.{PlacesAreReached}
-use Rattle.iim_object.specs.States.Reading.{HasSubfiles}
-use Rattle.iim_object.proofs.Numbers.{in_row_at}
-use Rattle.iim_object.proofs.Subfiles.{front_lives, numbers_law, subfiles_law}
+use Rattle.iim_object.proofs.{Numbers.in_row_at, Subfiles.front_lives, Subfiles.numbers_law, Subfiles.subfiles_law}
 use Rattle.iim_object.proofs.Steps.{tells_of, both_of, not_ended_tokens, number_before}
 
 -- ---- the state of a place
@@ -21,10 +18,12 @@ numbers_told s p t each clash = grind (arith, in_row_at)
 within_bound : (announced most : Option ℕ) (n : ℕ) → n ≤ greatest_size → IfSome announced (λ a. n ≤ a) → IfSome most (λ m. n ≤ m) → n ≤ bound announced most
 within_bound announced most n greatest least below = grind arith
 
-bound_keeps : (announced most : Option ℕ) (n : ℕ) → IfSome announced (λ a. a ≤ greatest_size) → IfSome most (λ m. m ≤ greatest_size) → n ≤ bound announced most → (n ≤ greatest_size) × IfSome announced (λ a. n ≤ a) × IfSome most (λ m. n ≤ m)
+bound_keeps : (announced most : Option ℕ) (n : ℕ) → IfSome announced (λ a. a ≤ greatest_size) → IfSome most (λ m. m ≤ greatest_size)
+    → n ≤ bound announced most → (n ≤ greatest_size) × IfSome announced (λ a. n ≤ a) × IfSome most (λ m. n ≤ m)
 bound_keeps announced most n least below within = grind arith
 
-subfiles_told : (s : State) (p : Place) (known : Bool) (subfile : ℕ) → IsStateAt s p → HasDuties known subfile p.stated → Fit known subfile p.stated p.lengths → length p.lengths ≤ max_subfiles → HasSubfiles s
+subfiles_told : (s : State) (p : Place) (known : Bool) (subfile : ℕ) → IsStateAt s p → HasDuties known subfile p.stated → Fit known subfile p.stated p.lengths
+    → length p.lengths ≤ max_subfiles → HasSubfiles s
 subfiles_told s p known subfile t d fit few =
     let held = sum_fits subfile p.lengths fit.each in
     record {
@@ -156,8 +155,13 @@ alive_in : (s : State) → IsState s → IsAlive ObjectLanguage (tokens_of (plac
 alive_in s is = elim (cases_lt 0 s.subfiles) [
   | inl some ↦
       let h = is.some_subfiles some in
-      let d : HasDuties (is_some s.announced) h.subfile (numbers_in s) = record { stated = are_stated s is.numbers; mode = mode_in s ∙ h.mode; largest = largest_in s ∙ h.largest } in
-      rw (not_ended_tokens (place_in s) refl) ((subfiles_law (is_some s.announced) h.subfile (numbers_in s) (lengths_in s) d (omega (arith, length_in s, some))).1 (fits_in s is h))
+      let d : HasDuties (is_some s.announced) h.subfile (numbers_in s) = record {
+        stated = are_stated s is.numbers;
+        mode = mode_in s ∙ h.mode;
+        largest = largest_in s ∙ h.largest;
+      } in
+      rw (not_ended_tokens (place_in s) refl) ((subfiles_law (is_some s.announced) h.subfile (numbers_in s) (lengths_in s) d
+      (omega (arith, length_in s, some))).1 (fits_in s is h))
   | inr none ↦
       let empty : lengths_in s ≡ [] = nil_from_length (lengths_in s) (omega (arith, length_in s, none)) in
       rw (number_before (place_in s) empty refl) ((numbers_law (numbers_in s) (are_stated s is.numbers)).1 (clash_in s is.numbers))

@@ -1,8 +1,7 @@
 -- How many octets are out of an object that is cut into subfiles.
 use Rattle.iim_object.proofs.Words.{◌≡◌, ℕ, ◌+◌, ◌*◌, ◌≤◌, true, false, List, [], length, refl, arith, le_of_mul-le-mul_left, canonical_dataset, tag_octets, Device, greatest_size, dataset_length, subfile_dataset, max_subfiles, Puts, Cuts, HasRoom, Output, Cutter}
 use Rattle.iim_dataset.specs.States.Devices.{Reserved}
-use Rattle.iim_object.specs.Steps.{Becomes}
-use Rattle.iim_object.specs.Format.Objects.{most_sizes}
+use Rattle.iim_object.specs.{Steps.Becomes, Format.Objects.most_sizes}
 use Rattle.iim_object.proofs.PlanParts.{plan_parts}
 
 -- what is out and what is held, while no write failed

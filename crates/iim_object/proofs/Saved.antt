@@ -5,11 +5,8 @@ use Rattle.std.proofs.lemmas.List.{length_push}
 use Rattle.std.specs.Result.{result_ok}
 use Rattle.iim_object.specs.States.Reading.{state_numbers, SizeCause, IsAt, LastIsBegun, stated_numbers}
 use Rattle.iim_object.specs.Laws.{PlacesHaveOneReader}
-use Rattle.iim_object.proofs.Subfiles.{front_lives}
-use Rattle.iim_object.proofs.Steps.{sum_more, tokens_follow}
+use Rattle.iim_object.proofs.{Subfiles.front_lives, Steps.sum_more, Steps.tokens_follow, Staying.may_take, Bounded.possible_of}
 use Rattle.iim_object.proofs.Reached.{place_in, tells_in, stands_in, few_in, state_of}
-use Rattle.iim_object.proofs.Staying.{may_take}
-use Rattle.iim_object.proofs.Bounded.{possible_of}
 
 -- ---- a place and its state
 
@@ -47,7 +44,8 @@ Finds IsOne found = (IsSome found ↔ ((p : Place) × IsOne p × IsPossible p)) 
 abbrev pub with_subfiles : State → ℕ → ℕ → State
 with_subfiles s subfiles total = record s { subfiles = subfiles; total = total }
 
-pub finds_between : (n : State) (taken heads : ℕ) (found : Option State) → (IsSome found → IsState (with_subfiles n heads taken)) → (IsState (with_subfiles n heads taken) → IsSome found)
+pub finds_between : (n : State) (taken heads : ℕ) (found : Option State) → (IsSome found → IsState (with_subfiles n heads taken))
+    → (IsState (with_subfiles n heads taken) → IsSome found)
     → IfSome found (λ x. x ≡ with_subfiles n heads taken) → Finds (IsAt (state_numbers n) taken None heads) found
 finds_between n taken heads found there back value =
     let s : State = with_subfiles n heads taken in
@@ -89,7 +87,8 @@ pub record Before (n : State) (taken count left heads : ℕ) (p : Place) : Type 
   pub follows : MayFollow place (SubfileBegun count)
   pub leads : place_after place (SubfileBegun count) ≡ p
 
-pub before : (n : State) (taken count left heads : ℕ) (p : Place) → IsAt (state_numbers n) taken (Some (count, left)) heads p → IsPossible p → Before n taken count left heads p
+pub before : (n : State) (taken count left heads : ℕ) (p : Place) → IsAt (state_numbers n) taken (Some (count, left)) heads p → IsPossible p
+    → Before n taken count left heads p
 before n taken count left heads p is possible =
     let b : LastIsBegun p.lengths taken count left = is.octets in
     let s : State = state_before n taken count left heads in
@@ -103,7 +102,13 @@ before n taken count left heads p is possible =
     let tells : IsStateAt s q = tells_by s q is.numbers_are (omega (arith, is.subfiles, long)) (omega (arith, b.octets, total, b.fits)) in
     let alive = front_lives ObjectLanguage (tokens_of q) (token ∷ []) (rw (← leads, tokens_follow q token follows) at possible.alive) in
     let few : length q.lengths ≤ max_subfiles = omega (arith, long, possible.few) in
-    let stands : StandsAt (Some s) q = stands_by s q tells (record { stated = possible.stated; subfiles = λ e. is.not_ended; duties = λ some. both; few = few; alive = alive }) in
+    let stands : StandsAt (Some s) q = stands_by s q tells (record {
+      stated = possible.stated;
+      subfiles = λ e. is.not_ended;
+      duties = λ some. both;
+      few = few;
+      alive = alive;
+    }) in
     record {
       place = q;
       begun = (b.some, b.fits, omega (arith, is.subfiles, long), omega (arith, b.octets, total));
@@ -116,18 +121,20 @@ before n taken count left heads p is possible =
 finds_none : (IsOne : Place → Type 0) → ((p : Place) → IsOne p → IsPossible p → ⊥) → Finds IsOne None
 finds_none IsOne out = ((λ some. absurd cc, λ h. absurd (out h.0 h.1 h.2)), tt)
 
-pub no_state_before : (n : State) (taken count left heads : ℕ) → (IsState (state_before n taken count left heads) → ⊥) → Finds (IsAt (state_numbers n) taken (Some (count, left)) heads) None
-no_state_before n taken count left heads out = finds_none (IsAt (state_numbers n) taken (Some (count, left)) heads) (λ p is possible. out (before n taken count left heads p is possible).is_state)
+pub no_state_before : (n : State) (taken count left heads : ℕ) → (IsState (state_before n taken count left heads) → ⊥)
+    → Finds (IsAt (state_numbers n) taken (Some (count, left)) heads) None
+no_state_before n taken count left heads out = finds_none (IsAt (state_numbers n) taken (Some (count, left)) heads)
+    (λ p is possible. out (before n taken count left heads p is possible).is_state)
 
 pub dead_head : (n : State) (taken count left heads : ℕ) (cause : SizeCause) → Refuses (Some (state_before n taken count left heads)) (SubfileBegun count) cause
     → Finds (IsAt (state_numbers n) taken (Some (count, left)) heads) None
 dead_head n taken count left heads cause refused =
-    finds_none (IsAt (state_numbers n) taken (Some (count, left)) heads)
-    (λ p is possible.
+    finds_none (IsAt (state_numbers n) taken (Some (count, left)) heads) (λ p is possible.
     let b = before n taken count left heads p is possible in
     (refused b.place b.stands b.follows).0.1 (rw (← b.leads, tokens_follow b.place (SubfileBegun count) b.follows) at possible.alive))
 
-pub finds_within : (n : State) (taken count left heads : ℕ) (new : State) → MayHaveBegun taken count left heads → IsState (state_before n taken count left heads)
+pub finds_within : (n : State) (taken count left heads : ℕ) (new : State) → MayHaveBegun taken count left heads
+    → IsState (state_before n taken count left heads)
     → TakesSubfile (state_before n taken count left heads) → LeadsOn (Some (state_before n taken count left heads)) (SubfileBegun count) (Some new)
     → Finds (IsAt (state_numbers n) taken (Some (count, left)) heads) (Some new)
 finds_within n taken count left heads new (some, fits, long, room) is takes goes =
@@ -155,8 +162,11 @@ finds_within n taken count left heads new (some, fits, long, room) is takes goes
       λ r here possible. let b = before n taken count left heads r here possible in rw (← b.leads) (goes b.place b.stands b.follows),
     )
 
-pub finds_after : (n : State) (taken count left heads : ℕ) (answer : Result State SizeCause) → MayHaveBegun taken count left heads → IsState (state_before n taken count left heads)
-    → TakesSubfile (state_before n taken count left heads) → IfOk answer (λ new. LeadsOn (Some (state_before n taken count left heads)) (SubfileBegun count) (Some new))
-    → IfErr answer (Refuses (Some (state_before n taken count left heads)) (SubfileBegun count)) → Finds (IsAt (state_numbers n) taken (Some (count, left)) heads) (result_ok answer)
+pub finds_after : (n : State) (taken count left heads : ℕ) (answer : Result State SizeCause) → MayHaveBegun taken count left heads
+    → IsState (state_before n taken count left heads)
+    → TakesSubfile (state_before n taken count left heads)
+    → IfOk answer (λ new. LeadsOn (Some (state_before n taken count left heads)) (SubfileBegun count) (Some new))
+    → IfErr answer (Refuses (Some (state_before n taken count left heads)) (SubfileBegun count))
+    → Finds (IsAt (state_numbers n) taken (Some (count, left)) heads) (result_ok answer)
 finds_after n taken count left heads (Ok new) begun is takes goes refused = finds_within n taken count left heads new begun is takes goes
 finds_after n taken count left heads (Err cause) begun is takes goes refused = dead_head n taken count left heads cause refused

@@ -1,13 +1,11 @@
 -- What a reader that stands after whole records says of their sizes.
 use Rattle.iim_object.proofs.Words.{◌≡◌, subst, ◌<◌, List, [], ◌∷◌, length, true, Some, None, refl, sym, ap, ◌∙◌, arith, length-map, eq-eqb, number, Dataset, Agree, sizes_at, HasDuties, AreObjectRecords, numbers_of, lengths_of, place_after_datasets, StandsAt, State}
-use Rattle.iim_object.specs.Laws.{ReadersTellSizes}
-use Rattle.iim_object.specs.Format.Objects.{HaveSizes}
-use Rattle.iim_object.proofs.Subfiles.{agree_of, confirmed_law}
-use Rattle.iim_object.proofs.Steps.{sizes_are, sizes_in}
+use Rattle.iim_object.specs.{Laws.ReadersTellSizes, Format.Objects.HaveSizes}
+use Rattle.iim_object.proofs.{Subfiles.agree_of, Subfiles.confirmed_law, Steps.sizes_are, Steps.sizes_in, Cuts.place_is, Cuts.place_with, Cuts.sorted}
 use Rattle.iim_object.proofs.Members.{one_confirmation, some_subfile, ten_of}
-use Rattle.iim_object.proofs.Cuts.{place_is, place_with, sorted}
 
-sizes_at_end : (s : State) (r7 r8 r9 : List Dataset) (e : Dataset) → r9 ≡ e ∷ [] → e.set ≡ 10 → 0 < length r8 → StandsAt (Some s) (place_with r7 r8 (e ∷ [])) → HaveSizes r7 r8 r9 (sizes_in s)
+sizes_at_end : (s : State) (r7 r8 r9 : List Dataset) (e : Dataset) → r9 ≡ e ∷ [] → e.set ≡ 10 → 0 < length r8 → StandsAt (Some s) (place_with r7 r8 (e ∷ []))
+    → HaveSizes r7 r8 r9 (sizes_in s)
 sizes_at_end s r7 r8 r9 e one ten long st =
     let (known, subfile, mode, largest, told) = sizes_are s (place_with r7 r8 (e ∷ [])) (number e.octets) st refl in
     let duties : HasDuties known subfile (numbers_of r7) = record { stated = st.stated; mode = mode; largest = largest } in
@@ -22,7 +20,8 @@ sizes_at_end s r7 r8 r9 e one ten long st =
       total = refl;
       confirmed = number e.octets;
       is_confirmed = rw (one, eq-eqb e.set 10 ten) refl;
-      agree = subst (Agree (sizes_at known subfile (numbers_of r7) (lengths_of r8)) (lengths_of r8)) (sym same) (agree_of known subfile (numbers_of r7) (lengths_of r8) fit whole);
+      agree = subst (Agree (sizes_at known subfile (numbers_of r7) (lengths_of r8)) (lengths_of r8)) (sym same)
+          (agree_of known subfile (numbers_of r7) (lengths_of r8) fit whole);
     })
 
 pub have_sizes : (s : State) (ds : List Dataset) (r : AreObjectRecords ds) → StandsAt (Some s) (place_after_datasets ds) → HaveSizes r.r7 r.r8 r.r9 (sizes_in s)
@@ -32,5 +31,15 @@ have_sizes s ds r st =
     sizes_at_end s r.r7 r.r8 r.r9 e one (ten_of e nine) (some_subfile r.r8 r.object) (rw place at st)
 
 pub tell_sizes : ReadersTellSizes
-tell_sizes None = (record { known = true; subfile = 0; announced = None; maximum = None; subfiles = 0; total = 0 }, λ ds r st. absurd (let clash = st.is_state in cc))
+tell_sizes None = (
+  record {
+    known = true;
+    subfile = 0;
+    announced = None;
+    maximum = None;
+    subfiles = 0;
+    total = 0;
+  },
+  λ ds r st. absurd (let clash = st.is_state in cc),
+)
 tell_sizes (Some s) = (sizes_in s, have_sizes s)

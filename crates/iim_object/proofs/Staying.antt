@@ -16,8 +16,18 @@ Takes s _ = Unit {0}
 
 -- where a token may follow, the state takes it
 pub takes_of : (s : State) (token : ObjectToken) (p : Place) → StandsAt (Some s) p → MayFollow p token → Takes s token
-takes_of s (NumberRead set number) p st (not_ended, none, stated) = ((tells_of s p st).subfiles ∙ ap length none, all_last InRow p.stated (record { set = set; number = number }) stated.each)
-takes_of s (SubfileBegun count) p st (not_ended, both, few) = let t = tells_of s p st in (ap is_some t.mode ∙ both.0, ap is_some t.largest ∙ both.1, omega (arith, t.subfiles, few))
+takes_of s (NumberRead set number) p st (not_ended, none, stated) = (
+  (tells_of s p st).subfiles ∙ ap length none,
+  all_last InRow p.stated (record {
+    set = set;
+    number = number;
+  }) stated.each,
+)
+takes_of s (SubfileBegun count) p st (not_ended, both, few) = let t = tells_of s p st in (
+  ap is_some t.mode ∙ both.0,
+  ap is_some t.largest ∙ both.1,
+  omega (arith, t.subfiles, few),
+)
 takes_of s _ p st may = tt
 
 -- a token is refused that is not taken, or has a cause
@@ -30,10 +40,14 @@ refuses s token out = by_cause (cause_in s token) refl
 
 -- ---- a number
 
-numbers_with : (s : State) (set number : ℕ) → HasNumbers s → InRow (record { set = set; number = number }) → cause_in s (NumberRead set number) ≡ None → HasNumbers (state_with s set number)
+numbers_with : (s : State) (set number : ℕ) → HasNumbers s → InRow (record {
+  set = set;
+  number = number;
+}) → cause_in s (NumberRead set number) ≡ None → HasNumbers (state_with s set number)
 numbers_with s set number h row no_cause = grind arith
 
-pub number_state : (s : State) (set number : ℕ) → IsState s → TakesNumber s set number → cause_in s (NumberRead set number) ≡ None → IsState (state_with s set number)
+pub number_state : (s : State) (set number : ℕ) → IsState s → TakesNumber s set number → cause_in s (NumberRead set number) ≡ None
+    → IsState (state_with s set number)
 number_state s set number is (none, row) no_cause = record {
   numbers = numbers_with s set number is.numbers row no_cause;
   no_subfile = is.no_subfile;
@@ -47,23 +61,30 @@ room_for s count is no_cause = let small = is.numbers.announced in grind arith
 
 -- after the subfiles of a state that takes one more, one may follow
 pub may_take : (s : State) (count : ℕ) → IsState s → TakesSubfile s → MayFollow (place_in s) (SubfileBegun count)
-may_take s count is (mode, largest, few) = (refl, (ap is_some (mode_in s) ∙ mode, ap is_some (largest_in s) ∙ largest), omega (arith, (tells_in s is).subfiles, few))
+may_take s count is (mode, largest, few) = (
+  refl,
+  (ap is_some (mode_in s) ∙ mode, ap is_some (largest_in s) ∙ largest),
+  omega (arith, (tells_in s is).subfiles, few),
+)
 
 pub subfile_state : (s : State) (count : ℕ) → IsState s → TakesSubfile s → cause_in s (SubfileBegun count) ≡ None → IsState (next s (SubfileBegun count))
 subfile_state s count is takes no_cause =
     let p : Place = place_in s in
-    state_of (next s (SubfileBegun count)) (place_after p (SubfileBegun count)) (leads_on s (SubfileBegun count) no_cause p (stands_in s is) (may_take s count is takes))
+    state_of (next s (SubfileBegun count)) (place_after p (SubfileBegun count))
+    (leads_on s (SubfileBegun count) no_cause p (stands_in s is) (may_take s count is takes))
     (omega (arith, (tells_in s is).subfiles, takes.2, length-append p.lengths (count ∷ [])))
 
 -- ---- the end
 
-pub ends_as : (s : State) (number : ℕ) → is_some (end_cause s.announced s.total) ≡ false → is_some (confirmed_cause s.total number) ≡ false → EndsAs (Some s) number (Some s)
+pub ends_as : (s : State) (number : ℕ) → is_some (end_cause s.announced s.total) ≡ false → is_some (confirmed_cause s.total number) ≡ false
+    → EndsAs (Some s) number (Some s)
 ends_as s number e f = record { ended = Some s; at_end = leads_on s ObjectEnded (no_some _ e); at_number = leads_on s (Confirmed number) (no_some _ f) }
 
 pub no_end : (s : State) (number : ℕ) → is_some (end_cause s.announced s.total) ≡ true → RefusesToEnd (Some s) number
 no_end s number e = let (cause, is) = some_of (end_cause s.announced s.total) e in inl (cause, refused s ObjectEnded cause is)
 
-pub not_confirmed : (s : State) (number : ℕ) → is_some (end_cause s.announced s.total) ≡ false → is_some (confirmed_cause s.total number) ≡ true → RefusesToEnd (Some s) number
+pub not_confirmed : (s : State) (number : ℕ) → is_some (end_cause s.announced s.total) ≡ false → is_some (confirmed_cause s.total number) ≡ true
+    → RefusesToEnd (Some s) number
 not_confirmed s number e f =
     let (cause, is) = some_of (confirmed_cause s.total number) f in
     inr (Some s, leads_on s ObjectEnded (no_some _ e), (cause, refused s (Confirmed number) cause is))

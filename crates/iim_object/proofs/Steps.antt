@@ -1,12 +1,9 @@
 -- How each token leads on, and where the object layer dies with it.
 use Rattle.iim_object.proofs.Words.{◌≡◌, ℕ, ◌+◌, ◌<◌, ◌≤◌, Bool, List, [], ◌∷◌, ◌++◌, length, map, sum, Option, Some, None, IfSome, unwrap_or, refl, sym, ap, ◌∙◌, arith, append_assoc, append-nil, length-append, AllByRecursion, map-append, nil_from_length, same_Some, IsAlive, greatest_size, all_append, all_last, sum_append, some_of, Stated, AreOnce, AreStated, number_at, mode_number, ObjectToken, NumberRead, SubfileBegun, ObjectEnded, Confirmed, ObjectLanguage, number_tokens, NoClash, HasDuties, Fit, MeetsAnnounced, Place, NotEnded, ConfirmedAs, tokens_of, place_after, place_start, HasBoth, MayFollow, end_cause, confirmed_cause, cause_at, IsStateAt, StandsAt, LeadsOn, Refuses, State, state_with}
-use Rattle.iim_object.specs.Format.Objects.{Sizes}
-use Rattle.iim_object.specs.Laws.{TokensFollow}
-use Rattle.iim_object.specs.Format.Causes.{is_given, number_cause, subfile_cause}
+use Rattle.iim_object.specs.{Format.Objects.Sizes, Laws.TokensFollow, Format.Causes.is_given, Format.Causes.number_cause, Format.Causes.subfile_cause}
 use Rattle.iim_object.specs.States.Reading.{LivesWith, IsSizes, SizeCause, set_where, state_start}
-use Rattle.iim_object.proofs.Numbers.{at-append, at_most_size, in_row_at, mode_at_most_one, none-append}
+use Rattle.iim_object.proofs.{Numbers.at-append, Numbers.at_most_size, Numbers.in_row_at, Numbers.mode_at_most_one, Numbers.none-append, Bounded.mode_known}
 use Rattle.iim_object.proofs.Subfiles.{numbers_law, subfiles_law, ends_law, confirmed_law}
-use Rattle.iim_object.proofs.Bounded.{mode_known}
 
 -- ---- tokens of a place
 
@@ -38,7 +35,11 @@ some_lengths p a ended = grind (arith, nil_from_length p.lengths)
 
 -- it stays so with a token that may follow
 pub stays_admitted : (p : Place) (token : ObjectToken) → IsAdmitted p → MayFollow p token → IsAdmitted (place_after p token)
-stays_admitted p (NumberRead set n) a (not_ended, none, stated) = record { stated = stated; subfiles = λ e. not_ended; duties = λ some. absurd (omega (arith, ap length none)) }
+stays_admitted p (NumberRead set n) a (not_ended, none, stated) = record {
+  stated = stated;
+  subfiles = λ e. not_ended;
+  duties = λ some. absurd (omega (arith, ap length none));
+}
 stays_admitted p (SubfileBegun count) a (not_ended, both, few) = record { stated = a.stated; subfiles = λ e. not_ended; duties = λ some. both }
 stays_admitted p ObjectEnded a (not_ended, some) = record { stated = a.stated; subfiles = λ e. absurd (omega (arith, ap length e)); duties = a.duties }
 stays_admitted p (Confirmed n) a ended = record { stated = a.stated; subfiles = λ e. absurd (let clash = sym (a.subfiles e) ∙ ended in cc); duties = a.duties }
@@ -73,22 +74,27 @@ both_of ps stated both =
     (known.0, largest.0, record { stated = stated; mode = mode.1 ∙ ap (λ (n : ℕ). Some n) known.1; largest = largest.1 })
 
 -- what the numbers and subfiles so far have
-so_far : (known : Bool) (subfile : ℕ) (ps : List Stated) (lengths : List ℕ) → HasDuties known subfile ps → IsAlive ObjectLanguage (number_tokens ps ++ map SubfileBegun lengths)
+so_far : (known : Bool) (subfile : ℕ) (ps : List Stated) (lengths : List ℕ) → HasDuties known subfile ps
+    → IsAlive ObjectLanguage (number_tokens ps ++ map SubfileBegun lengths)
     → NoClash ps × AllByRecursion (λ n. n ≤ subfile) lengths
 so_far known subfile ps [] d alive = ((numbers_law ps d.stated).0 (rw append-nil at alive), tt)
 so_far known subfile ps (l ∷ lengths) d alive = let fit = (subfiles_law known subfile ps (l ∷ lengths) d (omega arith)).0 alive in (fit.clash, fit.each)
 
 -- no cause, and one more subfile fits
-subfile_fits : (known : Bool) (subfile : ℕ) (ps : List Stated) (lengths : List ℕ) (count : ℕ) → HasDuties known subfile ps → NoClash ps → AllByRecursion (λ n. n ≤ subfile) lengths
+subfile_fits : (known : Bool) (subfile : ℕ) (ps : List Stated) (lengths : List ℕ) (count : ℕ) → HasDuties known subfile ps → NoClash ps
+    → AllByRecursion (λ n. n ≤ subfile) lengths
     → IfSome (number_at 90 ps) (λ a. a ≤ greatest_size)
-    → subfile_cause (number_at 10 ps) (number_at 20 ps) (number_at 90 ps) (number_at 95 ps) (sum lengths) count ≡ None → Fit known subfile ps (lengths ++ count ∷ [])
+    → subfile_cause (number_at 10 ps) (number_at 20 ps) (number_at 90 ps) (number_at 95 ps) (sum lengths) count ≡ None
+    → Fit known subfile ps (lengths ++ count ∷ [])
 subfile_fits known subfile ps lengths count d clash each small clear = grind (arith, sum_more, all_append)
 
-no_subfile_cause : (known : Bool) (subfile : ℕ) (ps : List Stated) (lengths : List ℕ) (count : ℕ) → HasDuties known subfile ps → Fit known subfile ps (lengths ++ count ∷ [])
+no_subfile_cause : (known : Bool) (subfile : ℕ) (ps : List Stated) (lengths : List ℕ) (count : ℕ) → HasDuties known subfile ps
+    → Fit known subfile ps (lengths ++ count ∷ [])
     → subfile_cause (number_at 10 ps) (number_at 20 ps) (number_at 90 ps) (number_at 95 ps) (sum lengths) count ≡ None
 no_subfile_cause known subfile ps lengths count d fit = grind (arith, sum_more, all_last)
 
-whole_of : (ps : List Stated) (lengths : List ℕ) → IfSome (number_at 90 ps) (λ a. sum lengths ≤ a) → end_cause (number_at 90 ps) (sum lengths) ≡ None → MeetsAnnounced ps lengths
+whole_of : (ps : List Stated) (lengths : List ℕ) → IfSome (number_at 90 ps) (λ a. sum lengths ≤ a) → end_cause (number_at 90 ps) (sum lengths) ≡ None
+    → MeetsAnnounced ps lengths
 whole_of ps lengths fits e = grind arith
 
 no_end_cause : (ps : List Stated) (lengths : List ℕ) → MeetsAnnounced ps lengths → end_cause (number_at 90 ps) (sum lengths) ≡ None
@@ -96,7 +102,8 @@ no_end_cause ps lengths whole = grind arith
 
 -- The object layer lives with a token just where it has no cause.
 pub lives_on : {reader : Option State} (p : Place) (token : ObjectToken) → StandsAt reader p → MayFollow p token
-    → (IsAlive ObjectLanguage (tokens_of (place_after p token)) → cause_at p token ≡ None) × (cause_at p token ≡ None → IsAlive ObjectLanguage (tokens_of (place_after p token)))
+    → (IsAlive ObjectLanguage (tokens_of (place_after p token)) → cause_at p token ≡ None)
+    × (cause_at p token ≡ None → IsAlive ObjectLanguage (tokens_of (place_after p token)))
 lives_on p (NumberRead set n) st (not_ended, none, stated) =
     let law = numbers_law (place_after p (NumberRead set n)).stated stated in
     rw (number_before (place_after p (NumberRead set n)) none not_ended) (λ alive. no_number_cause _ (law.0 alive), λ e. law.1 (clear_numbers _ e))
@@ -104,8 +111,10 @@ lives_on p (SubfileBegun count) st (not_ended, both, few) =
     let (known, subfile, d) = both_of p.stated st.stated both in
     let so = so_far known subfile p.stated p.lengths d (rw (not_ended_tokens p not_ended) at st.alive) in
     let law = subfiles_law known subfile p.stated (p.lengths ++ count ∷ []) d (omega (arith, length-append p.lengths (count ∷ []))) in
-    rw (not_ended_tokens (place_after p (SubfileBegun count)) not_ended)
-    (λ alive. no_subfile_cause known subfile p.stated p.lengths count d (law.0 alive), λ e. law.1 (subfile_fits known subfile p.stated p.lengths count d so.0 so.1 (announced_small p.stated st.stated) e))
+    rw (not_ended_tokens (place_after p (SubfileBegun count)) not_ended) (
+      λ alive. no_subfile_cause known subfile p.stated p.lengths count d (law.0 alive),
+      λ e. law.1 (subfile_fits known subfile p.stated p.lengths count d so.0 so.1 (announced_small p.stated st.stated) e),
+    )
 lives_on p ObjectEnded st (not_ended, some) =
     let (known, subfile, d) = both_of p.stated st.stated (st.duties some) in
     let fit = (subfiles_law known subfile p.stated p.lengths d some).0 (rw (not_ended_tokens p not_ended) at st.alive) in
@@ -137,7 +146,8 @@ cause_in s (Confirmed n) = confirmed_cause s.total n
 pub tells_of : (s : State) (p : Place) → StandsAt (Some s) p → IsStateAt s p
 tells_of s p st = rw (same_Some s st.state st.is_state) st.tells
 
-at_set : (wanted set number : ℕ) (ps : List Stated) → number_at set ps ≡ None → set_where wanted set number (number_at wanted ps) ≡ number_at wanted (ps ++ record { set = set; number = number } ∷ [])
+at_set : (wanted set number : ℕ) (ps : List Stated) → number_at set ps ≡ None
+    → set_where wanted set number (number_at wanted ps) ≡ number_at wanted (ps ++ record { set = set; number = number } ∷ [])
 at_set wanted set number ps none = grind (arith, at-append, none-append)
 
 tells_next : (s : State) (p : Place) (token : ObjectToken) → IsStateAt s p → MayFollow p token → IsStateAt (next s token) (place_after p token)
@@ -208,7 +218,14 @@ known_is o known e = grind arith
 
 -- the sizes of a state
 abbrev pub sizes_in : State → Sizes
-sizes_in s = record { known = is_given s.mode 1; subfile = unwrap_or s.subfile 0; announced = s.announced; maximum = s.maximum; subfiles = s.subfiles; total = s.total }
+sizes_in s = record {
+  known = is_given s.mode 1;
+  subfile = unwrap_or s.subfile 0;
+  announced = s.announced;
+  maximum = s.maximum;
+  subfiles = s.subfiles;
+  total = s.total;
+}
 
 pub sizes_are : (s : State) (p : Place) (n : ℕ) → StandsAt (Some s) p → p.ending ≡ ConfirmedAs n → IsSizes p (sizes_in s)
 sizes_are s p n st e =

@@ -27,7 +27,8 @@ pub agree_of : (known : Bool) (subfile : ℕ) (ps : List Stated) (lengths : List
 agree_of known subfile ps lengths fit whole = grind arith
 
 -- an object of these numbers and lengths, by each greatest size that they keep to
-whole_object : (most : ℕ) (known : Bool) (subfile : ℕ) (ps : List Stated) (lengths : List ℕ) → AreLow most ps → sum lengths ≤ most → HasDuties known subfile ps → 0 < length lengths → Fit known subfile ps lengths
+whole_object : (most : ℕ) (known : Bool) (subfile : ℕ) (ps : List Stated) (lengths : List ℕ) → AreLow most ps → sum lengths ≤ most
+    → HasDuties known subfile ps → 0 < length lengths → Fit known subfile ps lengths
     → MeetsAnnounced ps lengths → LanguageWithin most (number_tokens ps ++ (map SubfileBegun lengths ++ end_with (sum lengths)))
 whole_object most known subfile ps lengths low le d some fit whole = (
   record {
@@ -55,7 +56,8 @@ short_ones zero subfile h = tt
 short_ones (suc n) subfile h = (h, short_ones n subfile h)
 
 -- with subfiles of one octet the announced size is reached
-filled_fits : (known : Bool) (subfile : ℕ) (ps : List Stated) (lengths : List ℕ) (a : ℕ) → HasDuties known subfile ps → Fit known subfile ps lengths → number_at 90 ps ≡ Some a
+filled_fits : (known : Bool) (subfile : ℕ) (ps : List Stated) (lengths : List ℕ) (a : ℕ) → HasDuties known subfile ps → Fit known subfile ps lengths
+    → number_at 90 ps ≡ Some a
     → Fit known subfile ps (lengths ++ replicate (a - sum lengths) 1) × (sum (lengths ++ replicate (a - sum lengths) 1) ≡ a)
 filled_fits known subfile ps lengths a d fit e =
     let one = at_least_one subfile (in_row_at 20 subfile ps d.stated.each d.largest) in
@@ -65,8 +67,10 @@ filled_fits known subfile ps lengths a d fit e =
     grind (arith, sum_append lengths (replicate (a - sum lengths) 1), sum_ones (a - sum lengths))
 
 -- It can continue by each greatest size that numbers and total keep to.
-pub alive_within : (most : ℕ) (known : Bool) (subfile : ℕ) (ps : List Stated) (lengths : List ℕ) (ending : Ending) → AreLow most ps → sum lengths ≤ most → HasDuties known subfile ps → 0 < length lengths
-    → Fit known subfile ps lengths → Ends ending ps lengths → IsAlive (LanguageWithin most) (number_tokens ps ++ (map SubfileBegun lengths ++ ending_tokens ending))
+pub alive_within : (most : ℕ) (known : Bool) (subfile : ℕ) (ps : List Stated) (lengths : List ℕ) (ending : Ending) → AreLow most ps → sum lengths ≤ most
+    → HasDuties known subfile ps → 0 < length lengths
+    → Fit known subfile ps lengths → Ends ending ps lengths
+    → IsAlive (LanguageWithin most) (number_tokens ps ++ (map SubfileBegun lengths ++ ending_tokens ending))
 alive_within most known subfile ps lengths NotEnded low le d some fit ends = by_announced (number_at 90 ps) refl
   where
     by_announced : (o : Option ℕ) → number_at 90 ps ≡ o → IsAlive (LanguageWithin most) (number_tokens ps ++ (map SubfileBegun lengths ++ []))
@@ -77,8 +81,10 @@ alive_within most known subfile ps lengths NotEnded low le d some fit ends = by_
         let long : 0 < length (lengths ++ more) = omega (arith, length-append lengths more) in
         let object = whole_object most known subfile ps (lengths ++ more) low (omega (arith, total, low_at most 90 a ps low e)) d long fits (rw e total) in
         (map SubfileBegun more ++ end_with a, simp (append-nil, append_assoc) (simp (map-append, append_assoc, total) at object))
-alive_within most known subfile ps lengths Ended low le d some fit ends = (Confirmed (sum lengths) ∷ [], simp append_assoc (whole_object most known subfile ps lengths low le d some fit ends))
-alive_within most known subfile ps lengths (ConfirmedAs n) low le d some fit ends = ([], rw ends.1 (simp append-nil (whole_object most known subfile ps lengths low le d some fit ends.0)))
+alive_within most known subfile ps lengths Ended low le d some fit
+    ends = (Confirmed (sum lengths) ∷ [], simp append_assoc (whole_object most known subfile ps lengths low le d some fit ends))
+alive_within most known subfile ps lengths (ConfirmedAs n) low le d some fit
+    ends = ([], rw ends.1 (simp append-nil (whole_object most known subfile ps lengths low le d some fit ends.0)))
 
 -- ---- numbers complete, too
 
@@ -88,14 +94,16 @@ record AreFit (most : ℕ) (ps : List Stated) : Type 0 where
   stated : AreStated ps
   clash : NoClash ps
 
-with_one : (most : ℕ) (ps : List Stated) (q : Stated) → AreFit most ps → number_at q.set ps ≡ None → InRow q → q.number ≤ most → NoClash (ps ++ q ∷ []) → AreFit most (ps ++ q ∷ [])
+with_one : (most : ℕ) (ps : List Stated) (q : Stated) → AreFit most ps → number_at q.set ps ≡ None → InRow q → q.number ≤ most → NoClash (ps ++ q ∷ [])
+    → AreFit most (ps ++ q ∷ [])
 with_one most ps q fit none row low clash = record {
   low = all_append (λ (p : Stated). p.number ≤ most) ps (q ∷ []) fit.low (low, tt);
   stated = record { each = all_append InRow ps (q ∷ []) fit.stated.each (row, tt); once = once-append ps q fit.stated.once none };
   clash = clash;
 }
 
-live_before : (most : ℕ) (ps : List Stated) (q : Stated) → IsAlive (LanguageWithin most) (number_tokens (ps ++ q ∷ [])) → IsAlive (LanguageWithin most) (number_tokens ps)
+live_before : (most : ℕ) (ps : List Stated) (q : Stated) → IsAlive (LanguageWithin most) (number_tokens (ps ++ q ∷ []))
+    → IsAlive (LanguageWithin most) (number_tokens ps)
 live_before most ps q alive = front_lives (LanguageWithin most) (number_tokens ps) (NumberRead q.set q.number ∷ []) (rw map-append at alive)
 
 empty_fits : (known : Bool) (subfile : ℕ) (ps : List Stated) → NoClash ps → is_some (number_at 90 ps) ≡ known → Fit known subfile ps (0 ∷ [])
@@ -105,17 +113,26 @@ empty_fits known subfile ps clash by_mode = grind arith
 largest_clash : (ps : List Stated) → NoClash ps → NoClash (ps ++ record { set = 20; number = 1 } ∷ [])
 largest_clash ps clash = grind (arith, at-append, none-append)
 
-mode_clash : (ps : List Stated) → number_at 10 ps ≡ None → NoClash ps → NoClash (ps ++ record { set = 10; number = mode_number (is_some (number_at 90 ps)) } ∷ [])
+mode_clash : (ps : List Stated) → number_at 10 ps ≡ None → NoClash ps → NoClash (ps ++ record {
+  set = 10;
+  number = mode_number (is_some (number_at 90 ps));
+} ∷ [])
 mode_clash ps none clash = grind (arith, at-append, none-append)
 
 -- the largest subfile is given or to come
-with_largest : (most : ℕ) (known : Bool) (ps : List Stated) → 1 ≤ most → AreFit most ps → number_at 10 ps ≡ Some (mode_number known) → is_some (number_at 90 ps) ≡ known → IsAlive (LanguageWithin most) (number_tokens ps)
+with_largest : (most : ℕ) (known : Bool) (ps : List Stated) → 1 ≤ most → AreFit most ps → number_at 10 ps ≡ Some (mode_number known)
+    → is_some (number_at 90 ps) ≡ known → IsAlive (LanguageWithin most) (number_tokens ps)
 with_largest most known ps one fit mode by_mode = by_given (number_at 20 ps) refl
   where
-    run : (subfile : ℕ) (qs : List Stated) → AreFit most qs → number_at 10 qs ≡ Some (mode_number known) → number_at 20 qs ≡ Some subfile → is_some (number_at 90 qs) ≡ known → IsAlive (LanguageWithin most) (number_tokens qs)
+    run : (subfile : ℕ) (qs : List Stated) → AreFit most qs → number_at 10 qs ≡ Some (mode_number known) → number_at 20 qs ≡ Some subfile
+        → is_some (number_at 90 qs) ≡ known → IsAlive (LanguageWithin most) (number_tokens qs)
     run subfile qs f m l b =
         front_lives (LanguageWithin most) (number_tokens qs) (SubfileBegun 0 ∷ [])
-        (alive_within most known subfile qs (0 ∷ []) NotEnded f.low (omega arith) (record { stated = f.stated; mode = m; largest = l }) (omega arith) (empty_fits known subfile qs f.clash b) tt)
+        (alive_within most known subfile qs (0 ∷ []) NotEnded f.low (omega arith) (record {
+          stated = f.stated;
+          mode = m;
+          largest = l;
+        }) (omega arith) (empty_fits known subfile qs f.clash b) tt)
 
     by_given : (o : Option ℕ) → number_at 20 ps ≡ o → IsAlive (LanguageWithin most) (number_tokens ps)
     by_given (Some subfile) e = run subfile ps fit mode e by_mode
@@ -125,7 +142,8 @@ with_largest most known ps one fit mode by_mode = by_given (number_at 20 ps) ref
         (at-append 10 (mode_number known) ps (q ∷ []) mode) (none-append 20 ps (q ∷ []) e) (grind (arith, at-append, none-append)))
 
 -- so is the announced size where the mode is 1
-with_announced : (most : ℕ) (known : Bool) (ps : List Stated) → 1 ≤ most → AreFit most ps → number_at 10 ps ≡ Some (mode_number known) → IsAlive (LanguageWithin most) (number_tokens ps)
+with_announced : (most : ℕ) (known : Bool) (ps : List Stated) → 1 ≤ most → AreFit most ps → number_at 10 ps ≡ Some (mode_number known)
+    → IsAlive (LanguageWithin most) (number_tokens ps)
 with_announced most false ps one fit mode = with_largest most false ps one fit mode (ap is_some (fit.clash.mode mode))
 with_announced most true ps one fit mode = by_given (number_at 90 ps) refl
   where
@@ -133,11 +151,13 @@ with_announced most true ps one fit mode = by_given (number_at 90 ps) refl
     by_given (Some a) e = with_largest most true ps one fit mode (ap is_some e)
     by_given None e =
         let q : Stated = record { set = 90; number = 0 } in
-        live_before most ps q (with_largest most true (ps ++ q ∷ []) one (with_one most ps q fit e (inr (inr (inl refl, omega arith))) (omega arith) (grind (arith, at-append, none-append, fit.clash)))
+        live_before most ps q (with_largest most true (ps ++ q ∷ []) one
+        (with_one most ps q fit e (inr (inr (inl refl, omega arith))) (omega arith) (grind (arith, at-append, none-append, fit.clash)))
         (at-append 10 1 ps (q ∷ []) mode) (ap is_some (none-append 90 ps (q ∷ []) e)))
 
 -- It can continue by each greatest size that the numbers keep to.
-pub numbers_alive_within : (most : ℕ) → 1 ≤ most → (ps : List Stated) → AreLow most ps → AreStated ps → NoClash ps → IsAlive (LanguageWithin most) (number_tokens ps)
+pub numbers_alive_within : (most : ℕ) → 1 ≤ most → (ps : List Stated) → AreLow most ps → AreStated ps → NoClash ps
+    → IsAlive (LanguageWithin most) (number_tokens ps)
 numbers_alive_within most one ps low stated clash = by_given (number_at 10 ps) refl
   where
     fit : AreFit most ps
@@ -147,7 +167,8 @@ numbers_alive_within most one ps low stated clash = by_given (number_at 10 ps) r
     by_given None e =
         let known : Bool = is_some (number_at 90 ps) in
         let q : Stated = record { set = 10; number = mode_number known } in
-        live_before most ps q (with_announced most known (ps ++ q ∷ []) one (with_one most ps q fit e (inl (refl, grind arith)) (grind arith) (mode_clash ps e clash)) (none-append 10 ps (q ∷ []) e))
+        live_before most ps q (with_announced most known (ps ++ q ∷ []) one
+        (with_one most ps q fit e (inl (refl, grind arith)) (grind arith) (mode_clash ps e clash)) (none-append 10 ps (q ∷ []) e))
     by_given (Some zero) e = with_announced most false ps one fit e
     by_given (Some (suc zero)) e = with_announced most true ps one fit e
     by_given (Some (suc (suc n))) e = absurd (omega (arith, mode_at_most_one (suc (suc n)) (in_row_at 10 (suc (suc n)) ps stated.each e)))
@@ -155,7 +176,8 @@ numbers_alive_within most one ps low stated clash = by_given (number_at 10 ps) r
 -- ---- and what completes has these parts
 
 -- Tokens that begin others are theirs, and what comes after them begins the rest.
-front_of : {X : Type 0} (f : X → ObjectToken) (tail : List ObjectToken) → ((x y : X) → f x ≡ f y → x ≡ y) → ((x : X) (ts : List ObjectToken) → f x ∷ ts ≡ tail → ⊥) → (xs ys : List X) (rest : List ObjectToken)
+front_of : {X : Type 0} (f : X → ObjectToken) (tail : List ObjectToken) → ((x y : X) → f x ≡ f y → x ≡ y)
+    → ((x : X) (ts : List ObjectToken) → f x ∷ ts ≡ tail → ⊥) → (xs ys : List X) (rest : List ObjectToken)
     → map f xs ++ rest ≡ map f ys ++ tail → (more : List X) × (ys ≡ xs ++ more) × (rest ≡ map f more ++ tail)
 front_of f tail one out [] ys rest e = (ys, refl, e)
 front_of f tail one out (x ∷ xs) [] rest e = absurd (out x (map f xs ++ rest) e)
@@ -164,9 +186,11 @@ front_of f tail one out (x ∷ xs) (y ∷ ys) rest e =
     let more = front_of f tail one out xs ys rest (cc) in
     (more.0, cc, more.2)
 
-pub numbers_front : (ps all : List Stated) (rest : List ObjectToken) (lengths : List ℕ) (n : ℕ) → number_tokens ps ++ rest ≡ number_tokens all ++ (map SubfileBegun lengths ++ end_with n)
+pub numbers_front : (ps all : List Stated) (rest : List ObjectToken) (lengths : List ℕ) (n : ℕ)
+    → number_tokens ps ++ rest ≡ number_tokens all ++ (map SubfileBegun lengths ++ end_with n)
     → (more : List Stated) × (all ≡ ps ++ more) × (rest ≡ number_tokens more ++ (map SubfileBegun lengths ++ end_with n))
-numbers_front ps all rest lengths n e = front_of (λ (p : Stated). NumberRead p.set p.number) (map SubfileBegun lengths ++ end_with n) one (λ p ts. no_number p ts lengths) ps all rest e
+numbers_front ps all rest lengths n e = front_of (λ (p : Stated). NumberRead p.set p.number) (map SubfileBegun lengths ++ end_with n) one
+    (λ p ts. no_number p ts lengths) ps all rest e
   where
     one : (p q : Stated) → NumberRead p.set p.number ≡ NumberRead q.set q.number → p ≡ q
     one p q e = grind arith
@@ -176,31 +200,38 @@ numbers_front ps all rest lengths n e = front_of (λ (p : Stated). NumberRead p.
     no_number p ts (l ∷ lengths) e = cc
 
 -- the parts of an object whose tokens begin with numbers and subfiles
-pub parts_of : (ps : List Stated) (lengths : List ℕ) (rest : List ObjectToken) → 0 < length lengths → (o : ObjectLanguage (number_tokens ps ++ (map SubfileBegun lengths ++ rest)))
+pub parts_of : (ps : List Stated) (lengths : List ℕ) (rest : List ObjectToken) → 0 < length lengths
+    → (o : ObjectLanguage (number_tokens ps ++ (map SubfileBegun lengths ++ rest)))
     → (o.stated ≡ ps) × ((more : List ℕ) × (o.lengths ≡ lengths ++ more) × (rest ≡ map SubfileBegun more ++ end_with o.confirmed))
 parts_of ps [] rest some o = absurd (omega arith)
-parts_of ps (l ∷ lengths) rest some o = let (more, all, tokens) = numbers_front ps o.stated (map SubfileBegun (l ∷ lengths) ++ rest) o.lengths o.confirmed o.tokens_are in by_more more all tokens
+parts_of ps (l ∷ lengths) rest some o = let (more, all, tokens) = numbers_front ps o.stated (map SubfileBegun (l ∷ lengths) ++ rest) o.lengths o.confirmed
+    o.tokens_are in by_more more all tokens
   where
-    by_more : (more : List Stated) → o.stated ≡ ps ++ more → map SubfileBegun (l ∷ lengths) ++ rest ≡ number_tokens more ++ (map SubfileBegun o.lengths ++ end_with o.confirmed)
+    by_more : (more : List Stated) → o.stated ≡ ps ++ more
+        → map SubfileBegun (l ∷ lengths) ++ rest ≡ number_tokens more ++ (map SubfileBegun o.lengths ++ end_with o.confirmed)
         → (o.stated ≡ ps) × ((more : List ℕ) × (o.lengths ≡ (l ∷ lengths) ++ more) × (rest ≡ map SubfileBegun more ++ end_with o.confirmed))
     by_more [] all tokens = (all ∙ append-nil ps, front_of SubfileBegun (end_with o.confirmed) (λ x y e. cc) (λ x ts e. cc) (l ∷ lengths) o.lengths rest tokens)
     by_more (p ∷ more) all tokens = absurd cc
 
 -- and of one that ends with them
-pub ended_parts : (ps : List Stated) (lengths : List ℕ) (rest : List ObjectToken) → 0 < length lengths → (o : ObjectLanguage (number_tokens ps ++ (map SubfileBegun lengths ++ ObjectEnded ∷ rest)))
+pub ended_parts : (ps : List Stated) (lengths : List ℕ) (rest : List ObjectToken) → 0 < length lengths
+    → (o : ObjectLanguage (number_tokens ps ++ (map SubfileBegun lengths ++ ObjectEnded ∷ rest)))
     → (o.stated ≡ ps) × ((o.lengths ≡ lengths) × (rest ≡ Confirmed o.confirmed ∷ []))
 ended_parts ps lengths rest some o = let (stated, (more, all, tokens)) = parts_of ps lengths (ObjectEnded ∷ rest) some o in (stated, by_more more all tokens)
   where
-    by_more : (more : List ℕ) → o.lengths ≡ lengths ++ more → ObjectEnded ∷ rest ≡ map SubfileBegun more ++ end_with o.confirmed → (o.lengths ≡ lengths) × (rest ≡ Confirmed o.confirmed ∷ [])
+    by_more : (more : List ℕ) → o.lengths ≡ lengths ++ more → ObjectEnded ∷ rest ≡ map SubfileBegun more ++ end_with o.confirmed
+        → (o.lengths ≡ lengths) × (rest ≡ Confirmed o.confirmed ∷ [])
     by_more [] all tokens = (all ∙ append-nil lengths, cc)
     by_more (l ∷ more) all tokens = absurd cc
 
 -- numbers whose sizes agree don't clash, and those before them don't either
-no_clash : (ps more all : List Stated) (known : Bool) (subfile n : ℕ) (lengths : List ℕ) → all ≡ ps ++ more → number_at 10 all ≡ Some (mode_number known) → Agree (sizes_at known subfile all lengths) lengths n → NoClash ps
+no_clash : (ps more all : List Stated) (known : Bool) (subfile n : ℕ) (lengths : List ℕ) → all ≡ ps ++ more → number_at 10 all ≡ Some (mode_number known)
+    → Agree (sizes_at known subfile all lengths) lengths n → NoClash ps
 no_clash ps more all known subfile n lengths parts mode agree = grind (arith, at-append)
 
 -- a front of lengths that agree fits
-fits_so : (known k : Bool) (subfile j n : ℕ) (ps : List Stated) (lengths more all : List ℕ) → HasDuties known subfile ps → number_at 10 ps ≡ Some (mode_number k) → number_at 20 ps ≡ Some j
+fits_so : (known k : Bool) (subfile j n : ℕ) (ps : List Stated) (lengths more all : List ℕ) → HasDuties known subfile ps
+    → number_at 10 ps ≡ Some (mode_number k) → number_at 20 ps ≡ Some j
     → Agree (sizes_at k j ps all) all n → all ≡ lengths ++ more → Fit known subfile ps lengths
 fits_so known k subfile j n ps lengths more all d mode largest agree parts =
     let clash = no_clash ps [] ps k j n all (sym (append-nil ps)) mode agree in
@@ -209,12 +240,16 @@ fits_so known k subfile j n ps lengths more all d mode largest agree parts =
     let total : sum all ≡ sum lengths + sum more = rw parts (sum_append lengths more) in
     grind arith
 
-ends_so : (k : Bool) (j n : ℕ) (ps : List Stated) (lengths more all : List ℕ) (rest : List ObjectToken) (ending : Ending) → Agree (sizes_at k j ps all) all n → all ≡ lengths ++ more
+ends_so : (k : Bool) (j n : ℕ) (ps : List Stated) (lengths more all : List ℕ) (rest : List ObjectToken) (ending : Ending) → Agree (sizes_at k j ps all) all n
+    → all ≡ lengths ++ more
     → ending_tokens ending ++ rest ≡ map SubfileBegun more ++ end_with n → Ends ending ps lengths
 ends_so k j n ps lengths more all rest NotEnded agree parts tokens = tt
 ends_so k j n ps lengths (l ∷ more) all rest ending agree parts tokens = absurd cc
 ends_so k j n ps lengths [] all rest Ended agree parts tokens = rw (parts, append-nil) at agree.as_announced
-ends_so k j n ps lengths [] all rest (ConfirmedAs m) agree parts tokens = (rw (parts, append-nil) at agree.as_announced, let same : m ≡ n = cc in same ∙ (rw (parts, append-nil) at agree.as_confirmed))
+ends_so k j n ps lengths [] all rest (ConfirmedAs m) agree parts tokens = (
+  rw (parts, append-nil) at agree.as_announced,
+  let same : m ≡ n = cc in same ∙ (rw (parts, append-nil) at agree.as_confirmed),
+)
 
 -- What lives fits, and is as whole as its ending says.
 pub lives_by : (known : Bool) (subfile : ℕ) (ps : List Stated) (lengths : List ℕ) (ending : Ending) → HasDuties known subfile ps → 0 < length lengths
@@ -242,17 +277,20 @@ pub ending_law : (known : Bool) (subfile : ℕ) (ps : List Stated) (lengths : Li
     → IsAlive ObjectLanguage (number_tokens ps ++ (map SubfileBegun lengths ++ ending_tokens ending)) ↔ (Fit known subfile ps lengths × Ends ending ps lengths)
 ending_law known subfile ps lengths ending d some = (
   lives_by known subfile ps lengths ending d some,
-  λ (fit, ends). let alive = alive_within greatest_size known subfile ps lengths ending (rows_low ps d.stated.each) fit.total d some fit ends in (alive.0, alive.1.0),
+  λ (fit, ends). let alive = alive_within greatest_size known subfile ps lengths ending (rows_low ps d.stated.each) fit.total d some fit
+      ends in (alive.0, alive.1.0),
 )
 
 pub subfiles_law : SubfilesLiveWhileTheyFit
-subfiles_law known subfile ps lengths d some = let law = ending_law known subfile ps lengths NotEnded d some in (λ alive. (law.0 (rw append-nil alive)).0, λ fit. rw append-nil at (law.1 (fit, tt)))
+subfiles_law known subfile ps lengths d some = let law = ending_law known subfile ps lengths NotEnded d
+    some in (λ alive. (law.0 (rw append-nil alive)).0, λ fit. rw append-nil at (law.1 (fit, tt)))
 
 pub ends_law : ObjectsEndWhereTheyAreWhole
 ends_law known subfile ps lengths d some = ending_law known subfile ps lengths Ended d some
 
 pub confirmed_law : TotalsAreConfirmed
-confirmed_law known subfile ps lengths n d some = let law = ending_law known subfile ps lengths (ConfirmedAs n) d some in (λ alive. let e = law.0 alive in (e.0, e.1.0, e.1.1), λ h. law.1 (h.0, (h.1, h.2)))
+confirmed_law known subfile ps lengths n d some = let law = ending_law known subfile ps lengths (ConfirmedAs n) d
+    some in (λ alive. let e = law.0 alive in (e.0, e.1.0, e.1.1), λ h. law.1 (h.0, (h.1, h.2)))
 
 -- ---- the sizes
 

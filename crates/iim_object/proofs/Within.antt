@@ -1,12 +1,13 @@
 -- From a possible place the layer can continue by each smaller greatest size that the place keeps to.
 use Rattle.iim_object.proofs.Words.{◌≡◌, ℕ, ◌<◌, ◌≤◌, List, [], ◌∷◌, ◌++◌, length, map, sum, refl, arith, append-nil, IsAlive, Stated, AreStated, SubfileBegun, ObjectLanguage, number_tokens, Ending, NotEnded, HasBoth, ending_tokens, LanguageWithin}
 use Rattle.iim_object.specs.Laws.{PlacesLiveWithin}
-use Rattle.iim_object.proofs.Numbers.{AreLow, numbers_low}
+use Rattle.iim_object.proofs.{Numbers.AreLow, Numbers.numbers_low, Steps.both_of}
 use Rattle.iim_object.proofs.Subfiles.{numbers_law, lives_by, alive_within, numbers_alive_within}
-use Rattle.iim_object.proofs.Steps.{both_of}
 
-by_lengths : (most : ℕ) (ps : List Stated) (ls : List ℕ) (ending : Ending) → 1 ≤ most → AreLow most ps → sum ls ≤ most → AreStated ps → (ls ≡ [] → ending ≡ NotEnded) → (0 < length ls → HasBoth ps)
-    → IsAlive ObjectLanguage (number_tokens ps ++ (map SubfileBegun ls ++ ending_tokens ending)) → IsAlive (LanguageWithin most) (number_tokens ps ++ (map SubfileBegun ls ++ ending_tokens ending))
+by_lengths : (most : ℕ) (ps : List Stated) (ls : List ℕ) (ending : Ending) → 1 ≤ most → AreLow most ps → sum ls ≤ most → AreStated ps
+    → (ls ≡ [] → ending ≡ NotEnded) → (0 < length ls → HasBoth ps)
+    → IsAlive ObjectLanguage (number_tokens ps ++ (map SubfileBegun ls ++ ending_tokens ending))
+    → IsAlive (LanguageWithin most) (number_tokens ps ++ (map SubfileBegun ls ++ ending_tokens ending))
 by_lengths most ps [] ending one low le stated none duties alive =
     rw (none refl, append-nil) (numbers_alive_within most one ps low stated ((numbers_law ps stated).0 (rw (none refl, append-nil) at alive)))
 by_lengths most ps (l ∷ ls) ending one low le stated none duties alive =
@@ -16,4 +17,5 @@ by_lengths most ps (l ∷ ls) ending one low le stated none duties alive =
 
 pub live_within : PlacesLiveWithin
 live_within most p one is fits total =
-    by_lengths most p.stated p.lengths p.ending one (numbers_low most p.stated (map SubfileBegun p.lengths ++ ending_tokens p.ending) fits) total is.stated is.subfiles is.duties is.alive
+    by_lengths most p.stated p.lengths p.ending one (numbers_low most p.stated (map SubfileBegun p.lengths ++ ending_tokens p.ending) fits) total is.stated
+    is.subfiles is.duties is.alive

@@ -3,18 +3,16 @@ use Rattle.iim_object.proofs.Words.{◌≡◌, ℕ, ◌+◌, ◌<◌, ◌≤◌,
 use Rattle.std.proofs.Common.{cond}
 use Rattle.std.specs.Prelude.{IfNone}
 use Rattle.std.proofs.lemmas.List.{take-append-drop}
-use Rattle.iim_object.specs.Format.Packing.{confirmed_datasets, object_datasets}
+use Rattle.iim_object.specs.{Format.Packing.confirmed_datasets, Format.Packing.object_datasets, Steps.Becomes}
 use Rattle.iim_object.specs.States.Writing.{Writing, HasWritten, Begins, BreaksOff, ContinuesWith, IsTheWhole, Finishes}
-use Rattle.iim_object.specs.Steps.{Becomes}
-use Rattle.iim_object.proofs.Rooms.{holding}
-use Rattle.iim_object.proofs.PlanParts.{plan_parts}
-use Rattle.iim_object.proofs.Cutting.{same_first, some_octet, too_short}
+use Rattle.iim_object.proofs.{Rooms.holding, PlanParts.plan_parts, Cutting.same_first, Cutting.some_octet, Cutting.too_short}
 
 -- ---- streams
 
 pub stream_append : (xs ys : List Dataset) → canonical_stream (xs ++ ys) ≡ canonical_stream xs ++ canonical_stream ys
 stream_append [] ys = refl
-stream_append (x ∷ xs) ys = ap (λ (t : List ℕ). canonical_dataset x ++ t) (stream_append xs ys) ∙ sym (append_assoc (canonical_dataset x) (canonical_stream xs) (canonical_stream ys))
+stream_append (x ∷ xs) ys = ap (λ (t : List ℕ). canonical_dataset x ++ t) (stream_append xs ys)
+    ∙ sym (append_assoc (canonical_dataset x) (canonical_stream xs) (canonical_stream ys))
 
 stream_more : (ds xs ys : List Dataset) → canonical_stream (ds ++ (xs ++ ys)) ≡ canonical_stream (ds ++ xs) ++ canonical_stream ys
 stream_more ds xs ys = simp (stream_append, append_assoc)
@@ -69,7 +67,8 @@ goes_nowhere state w join unfailed = record {
   stands = λ object out s. simp append-nil s;
 }
 
-pub leads_on : {W : Type 0} (state : W → Device) (a b c : Writing W) (xs ys : List ℕ) → TextsJoin → Lengthens state a b xs → Lengthens state b c ys → Lengthens state a c (xs ++ ys)
+pub leads_on : {W : Type 0} (state : W → Device) (a b c : Writing W) (xs ys : List ℕ) → TextsJoin → Lengthens state a b xs → Lengthens state b c ys
+    → Lengthens state a c (xs ++ ys)
 leads_on state a b c xs ys join l m = record {
   more = l.more ++ m.more;
   wrote = join.more (state a.writer) (state b.writer) (state c.writer) l.more m.more l.wrote m.wrote;
@@ -147,7 +146,8 @@ front_length n text lt = omega (arith, lt, length-take n text)
 parted : (ds last : List Dataset) (ps others : List (List ℕ)) (p : List ℕ) → canonical_stream (ds ++ (subfile_datasets ((ps ++ p ∷ []) ++ others) ++ last))
     ≡ canonical_stream (ds ++ subfile_datasets ps) ++ (canonical_dataset (subfile_dataset p) ++ canonical_stream (subfile_datasets others ++ last))
 parted ds last ps others p =
-    let all : ds ++ (subfile_datasets ((ps ++ p ∷ []) ++ others) ++ last) ≡ (ds ++ subfile_datasets ps) ++ (subfile_dataset p ∷ (subfile_datasets others ++ last)) = simp (map-append, append_assoc) in
+    let all : ds ++ (subfile_datasets ((ps ++ p ∷ []) ++ others) ++ last) ≡ (ds ++ subfile_datasets ps)
+    ++ (subfile_dataset p ∷ (subfile_datasets others ++ last)) = simp (map-append, append_assoc) in
     ap canonical_stream all ∙ stream_append (ds ++ subfile_datasets ps) (subfile_dataset p ∷ (subfile_datasets others ++ last))
 
 -- A write of this text failed, with which continues whatever may be written.
@@ -177,8 +177,10 @@ halted state old new octets full some cut is =
     let cut = w.cut in
     let joins : joined_parts (s.parts ++ held ∷ []) ++ (octets ++ rest) ≡ joined_parts cut.full ++ cut.last =
     rw (joined_append s.parts held, ← s.object_is) (simp append_assoc at cut.joined) in
-    let (others, first) = first_parts plan.subfile (s.parts ++ held ∷ []) cut.full cut.last (octets ++ rest) (plan_parts plan.subfile plan.size plan.valid).least
-    (full_append plan.subfile s.parts held s.are_full full) cut.are_full cut.fits (λ empty. sym cut.joined ∙ cut.some empty) (omega (arith, some, length-append octets rest)) joins in
+    let (others, first) = first_parts plan.subfile (s.parts ++ held ∷ []) cut.full cut.last (octets ++ rest)
+    (plan_parts plan.subfile plan.size plan.valid).least
+    (full_append plan.subfile s.parts held s.are_full full) cut.are_full cut.fits (λ empty. sym cut.joined ∙ cut.some empty)
+    (omega (arith, some, length-append octets rest)) joins in
     let last : List Dataset = confirmed_datasets ((object ++ octets) ++ rest) in (
       canonical_stream (subfile_datasets others ++ last),
       rw (w.octets_are, cut.parts_are, first, s.out_is) (parted (plan_datasets plan.subfile plan.size) last s.parts others held),
@@ -199,10 +201,12 @@ breaks_on state Now May a b c xs join l may k = record {
       rw append_assoc at (k.begins (object ++ xs) (out ++ l.more) whole (l.stands object out s) (may object whole w));
 }
 
-pub breaks_later : {W : Type 0} (state : W → Device) (a b c : Writing W) (xs ys : List ℕ) → TextsJoin → Lengthens state a b xs → BreaksOff state (ContinuesWith b.plan ys) b c
+pub breaks_later : {W : Type 0} (state : W → Device) (a b c : Writing W) (xs ys : List ℕ) → TextsJoin → Lengthens state a b xs
+    → BreaksOff state (ContinuesWith b.plan ys) b c
     → BreaksOff state (ContinuesWith a.plan (xs ++ ys)) a c
 breaks_later state a b c xs ys join l k =
-    breaks_on state (ContinuesWith b.plan ys) (ContinuesWith a.plan (xs ++ ys)) a b c xs join l (λ object whole w. (w.0, rw (l.plan, append_assoc object xs ys) w.1)) k
+    breaks_on state (ContinuesWith b.plan ys) (ContinuesWith a.plan (xs ++ ys)) a b c xs join l
+    (λ object whole w. (w.0, rw (l.plan, append_assoc object xs ys) w.1)) k
 
 -- ---- a writer finishes
 
@@ -215,21 +219,35 @@ total_is w object out s = omega (arith, ap length s.object_is, s.sent, length-ap
 
 -- the parts that are out and the last one
 cut_here : {W : Type 0} (w : Writing W) (object out : List ℕ) (s : HasWritten w object out) → IsCut w.plan.subfile object (s.parts ++ w.held ∷ [])
-cut_here w object out s = record { full = s.parts; last = w.held; are_full = s.are_full; fits = omega (arith, s.within); some = s.some; joined = s.object_is; parts_are = refl }
+cut_here w object out s = record {
+  full = s.parts;
+  last = w.held;
+  are_full = s.are_full;
+  fits = omega (arith, s.within);
+  some = s.some;
+  joined = s.object_is;
+  parts_are = refl;
+}
 
 -- The whole is what is out and what is still to be written.
 ended : {W : Type 0} (w : Writing W) (object out : List ℕ) (s : HasWritten w object out)
     → canonical_stream (object_datasets w.plan.subfile w.plan.size object (s.parts ++ w.held ∷ [])) ≡ out ++ ending_of w
 ended w object out s =
     let all = parted (plan_datasets w.plan.subfile w.plan.size) (confirmed_datasets object) s.parts [] w.held in
-    rw (s.out_is, ← total_is w object out s) (rw (append-nil (s.parts ++ w.held ∷ []), append-nil (canonical_dataset (number_dataset 9 10 (length object)))) at all)
+    rw (s.out_is, ← total_is w object out s)
+    (rw (append-nil (s.parts ++ w.held ∷ []), append-nil (canonical_dataset (number_dataset 9 10 (length object)))) at all)
 
-pub finished : {W : Type 0} (state : W → Device) (old : Cutter W) (last : Output W) → Puts state old.output last (ending_of (writing_of old)) → Finishes state (writing_of old) last.writer
+pub finished : {W : Type 0} (state : W → Device) (old : Cutter W) (last : Output W) → Puts state old.output last (ending_of (writing_of old))
+    → Finishes state (writing_of old) last.writer
 finished state old last p = record {
   more = ending_of (writing_of old);
   wrote = p.wrote;
   patience = p.patience;
-  whole = λ object out s. record { parts = s.parts ++ old.held.items ∷ []; cut = cut_here (writing_of old) object out s; octets_are = sym (ended (writing_of old) object out s) };
+  whole = λ object out s. record {
+    parts = s.parts ++ old.held.items ∷ [];
+    cut = cut_here (writing_of old) object out s;
+    octets_are = sym (ended (writing_of old) object out s);
+  };
 }
 
 pub unfinished : {W : Type 0} (state : W → Device) (old : Cutter W) (output : Output W) → ObjectsAreCutOneWay
@@ -238,7 +256,8 @@ pub unfinished : {W : Type 0} (state : W → Device) (old : Cutter W) (output : 
 unfinished state old output one cut =
     breaks_off state (IsTheWhole old.plan) old output (ending_of (writing_of old)) cut (λ object out whole s w.
     let same : w.parts ≡ s.parts ++ old.held.items ∷ [] =
-    one old.plan.subfile object w.parts (s.parts ++ old.held.items ∷ []) (plan_parts old.plan.subfile old.plan.size old.plan.valid).least w.cut (cut_here (writing_of old) object out s) in
+    one old.plan.subfile object w.parts (s.parts ++ old.held.items ∷ []) (plan_parts old.plan.subfile old.plan.size old.plan.valid).least w.cut
+    (cut_here (writing_of old) object out s) in
     ([], rw (w.octets_are, same, append-nil) (ended (writing_of old) object out s)))
 
 -- ---- causes

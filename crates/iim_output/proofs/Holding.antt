@@ -4,11 +4,8 @@ use Rattle.std.proofs.Math.Seq.{take-append_seam}
 use Rattle.std.proofs.lemmas.List.{drop-append-le, drop-drop, length-drop, take-append-drop}
 use Rattle.std.specs.Borrow.{MutBor}
 use Rattle.iim_dataset.specs.States.Devices.{Device, Broke, Stopped, WithinInterruptionLimit, Wrote}
-use Rattle.iim_dataset.specs.Format.Octets.{Rose}
-use Rattle.iim_dataset.specs.Laws.{TextsJoin}
-use Rattle.wire_story.specs.Format.Texts.{LineOctet}
-use Rattle.wire_story.specs.States.Reading.{HasBroken}
-use Rattle.wire_story.specs.Steps.{octets_of_line}
+use Rattle.iim_dataset.specs.{Format.Octets.Rose, Laws.TextsJoin}
+use Rattle.wire_story.specs.{Format.Texts.LineOctet, States.Reading.HasBroken, Steps.octets_of_line}
 use Rattle.iim_output.specs.States.Holding.{HasPut, HasStuck, HoldsNothing, KeepsWriter, PutsOn, PutsLines, StaysStuck, device_of, held_of, stops_of, IsCutShort}
 use Rattle.iim_output.specs.HoldingLaws.{parts_on}
 use Rattle.iim_dataset.specs.declared.stop.Stop.{Stop}
@@ -22,7 +19,8 @@ takes out items new more octets is added within = rw (added, drop-append-le out 
 pub passes : (out k : ℕ) (items octets : List ℕ) → drop out items ≡ octets → drop (out + k) items ≡ drop k octets
 passes out k items octets is = rw (← drop-drop k out items, is) refl
 
-pub few_out : (out k room : ℕ) (items octets : List ℕ) → drop out items ≡ octets → k ≤ length octets → out ≤ length items → length items ≤ room → room ≡ 4096 → out + k ≤ 4096
+pub few_out : (out k room : ℕ) (items octets : List ℕ) → drop out items ≡ octets → k ≤ length octets → out ≤ length items → length items ≤ room → room ≡ 4096
+    → out + k ≤ 4096
 few_out out k room items octets is le within few whole = omega (arith, le, ap length is, length-drop out items, within, few, whole)
 
 -- ---- counts
@@ -43,7 +41,8 @@ broke a b (inr i) = (omega (arith, i.0), i.1, inr i.2)
 
 -- ---- what was told
 
-pub puts_of_put : {W : Type 0} (state : W → Device) (a b : BlockWriter W) (text : List ℕ) → HasPut state a b text → stops_of b ≡ stops_of a → PutsOn state a b text
+pub puts_of_put : {W : Type 0} (state : W → Device) (a b : BlockWriter W) (text : List ℕ) → HasPut state a b text → stops_of b ≡ stops_of a
+    → PutsOn state a b text
 puts_of_put state a b text h same = record {
   out = h.out;
   same = h.same;
@@ -58,7 +57,8 @@ puts_of_put state a b text h same = record {
   };
 }
 
-pub puts_of_stuck : {W : Type 0} (state : W → Device) (a b : BlockWriter W) (text : List ℕ) → HasStuck state a b text → Rose (stops_of a) (stops_of b) → PutsOn state a b text
+pub puts_of_stuck : {W : Type 0} (state : W → Device) (a b : BlockWriter W) (text : List ℕ) → HasStuck state a b text → Rose (stops_of a) (stops_of b)
+    → PutsOn state a b text
 puts_of_stuck state a b text h rose =
     let (failures, interruptions, broken) = broke (device_of state a) (device_of state b) h.broke.1 in
     record {
@@ -81,7 +81,8 @@ told_line state a b xs p = rw (octets_of_line xs) p
 
 -- ---- what is held and let out
 
-pub holds : {W : Type 0} (state : W → Device) → TextsJoin → (a b : BlockWriter W) (text : List ℕ) → KeepsWriter a b → held_of b ≡ held_of a ++ text → device_of state b ≡ device_of state a → HasPut state a b text
+pub holds : {W : Type 0} (state : W → Device) → TextsJoin → (a b : BlockWriter W) (text : List ℕ) → KeepsWriter a b → held_of b ≡ held_of a ++ text
+    → device_of state b ≡ device_of state a → HasPut state a b text
 holds state texts a b text keeps is same = record {
   out = [];
   same = keeps;
@@ -90,7 +91,8 @@ holds state texts a b text keeps is same = record {
   patience = omega (arith, ap (λ (d : Device). d.interruptions) same);
 }
 
-pub lets_out : {W : Type 0} (state : W → Device) (a b : BlockWriter W) (octets : List ℕ) → KeepsWriter a b → octets ≡ held_of a → held_of b ≡ [] → Wrote (device_of state a) (device_of state b) octets
+pub lets_out : {W : Type 0} (state : W → Device) (a b : BlockWriter W) (octets : List ℕ) → KeepsWriter a b → octets ≡ held_of a → held_of b ≡ []
+    → Wrote (device_of state a) (device_of state b) octets
     → WithinInterruptionLimit (length octets) (device_of state a) (device_of state b) → HasPut state a b []
 lets_out state a b octets same is none wrote limit = record {
   out = octets;
@@ -100,7 +102,8 @@ lets_out state a b octets same is none wrote limit = record {
   patience = limit;
 }
 
-pub stays_stuck : {W : Type 0} (state : W → Device) (a b : BlockWriter W) (octets : List ℕ) (n : ℕ) → KeepsWriter a b → octets ≡ held_of a → held_of b ≡ drop n (held_of a) → Stopped (device_of state a) (device_of state b) octets n
+pub stays_stuck : {W : Type 0} (state : W → Device) (a b : BlockWriter W) (octets : List ℕ) (n : ℕ) → KeepsWriter a b → octets ≡ held_of a
+    → held_of b ≡ drop n (held_of a) → Stopped (device_of state a) (device_of state b) octets n
     → WithinInterruptionLimit (n + 1) (device_of state a) (device_of state b) → Rose (stops_of a) (stops_of b) → StaysStuck state a b
 stays_stuck state a b octets n same is rest stopped limit rose = (
   record {
@@ -115,7 +118,8 @@ stays_stuck state a b octets n same is rest stopped limit rose = (
 )
 
 -- a text that is longer than a block, where nothing is held
-pub passes_through : {W : Type 0} (state : W → Device) (a b : BlockWriter W) (text : List ℕ) → KeepsWriter a b → HoldsNothing a → held_of b ≡ held_of a → Wrote (device_of state a) (device_of state b) text
+pub passes_through : {W : Type 0} (state : W → Device) (a b : BlockWriter W) (text : List ℕ) → KeepsWriter a b → HoldsNothing a → held_of b ≡ held_of a
+    → Wrote (device_of state a) (device_of state b) text
     → WithinInterruptionLimit (length text) (device_of state a) (device_of state b) → HasPut state a b text
 passes_through state a b text keeps none same wrote limit = record {
   out = text;
@@ -125,7 +129,8 @@ passes_through state a b text keeps none same wrote limit = record {
   patience = limit;
 }
 
-pub breaks_through : {W : Type 0} (state : W → Device) (a b : BlockWriter W) (text : List ℕ) (n : ℕ) → KeepsWriter a b → HoldsNothing a → held_of b ≡ held_of a → Stopped (device_of state a) (device_of state b) text n
+pub breaks_through : {W : Type 0} (state : W → Device) (a b : BlockWriter W) (text : List ℕ) (n : ℕ) → KeepsWriter a b → HoldsNothing a
+    → held_of b ≡ held_of a → Stopped (device_of state a) (device_of state b) text n
     → WithinInterruptionLimit (n + 1) (device_of state a) (device_of state b) → HasStuck state a b (take n text)
 breaks_through state a b text n keeps none same stopped limit = record {
   out = take n text;
@@ -135,7 +140,8 @@ breaks_through state a b text n keeps none same stopped limit = record {
   patience = omega (arith, limit, stopped.0, length-take n text);
 }
 
-pub stuck_on : {W : Type 0} (state : W → Device) → TextsJoin → (a b c : BlockWriter W) (xs ys : List ℕ) → HasPut state a b xs → HasStuck state b c ys → HasStuck state a c (xs ++ ys)
+pub stuck_on : {W : Type 0} (state : W → Device) → TextsJoin → (a b c : BlockWriter W) (xs ys : List ℕ) → HasPut state a b xs → HasStuck state b c ys
+    → HasStuck state a c (xs ++ ys)
 stuck_on state texts a b c xs ys first then = record {
   out = first.out ++ then.out;
   same = then.same ∙ first.same;
@@ -151,18 +157,21 @@ front_of : {W : Type 0} (a : BlockWriter W) (text out rest : List ℕ) → Holds
 front_of a text out rest before parts = rw before at parts
 
 -- nothing was held before nor is after
-pub all_out : {W : Type 0} (state : W → Device) (a b : BlockWriter W) (text : List ℕ) → HoldsNothing a → HoldsNothing b → HasPut state a b text → Wrote (device_of state a) (device_of state b) text
+pub all_out : {W : Type 0} (state : W → Device) (a b : BlockWriter W) (text : List ℕ) → HoldsNothing a → HoldsNothing b → HasPut state a b text
+    → Wrote (device_of state a) (device_of state b) text
 all_out state a b text before after put =
     let is : text ≡ put.out = front_of a text put.out (held_of b) before put.parts ∙ ap (λ (t : List ℕ). put.out ++ t) after ∙ append-nil put.out in
     rw is put.wrote
 
-pub stopped_in : {W : Type 0} (state : W → Device) (a b : BlockWriter W) (text : List ℕ) → HoldsNothing a → (cut : IsCutShort state a b text) → Stopped (device_of state a) (device_of state b) text (length cut.out)
+pub stopped_in : {W : Type 0} (state : W → Device) (a b : BlockWriter W) (text : List ℕ) → HoldsNothing a → (cut : IsCutShort state a b text)
+    → Stopped (device_of state a) (device_of state b) text (length cut.out)
 stopped_in state a b text before cut =
     let is = front_of a text cut.out cut.rest before cut.parts in
     (omega (arith, cut.some, ap length is, length-append cut.out cut.rest), rw (is, take-append_seam cut.out cut.rest) cut.broke.0, cut.broke.1)
 
 -- a text was taken, and what was held could not be let out
-pub cut_by_stuck : {W : Type 0} (state : W → Device) → TextsJoin → (a b c : BlockWriter W) (text : List ℕ) → HasPut state a b text → StaysStuck state b c → IsCutShort state a c text
+pub cut_by_stuck : {W : Type 0} (state : W → Device) → TextsJoin → (a b c : BlockWriter W) (text : List ℕ) → HasPut state a b text → StaysStuck state b c
+    → IsCutShort state a c text
 cut_by_stuck state texts a b c text put stuck =
     let both = stuck_on state texts a b c text [] put stuck.0 in
     record {
@@ -176,7 +185,8 @@ cut_by_stuck state texts a b c text put stuck =
     }
 
 -- a text was taken in part
-pub cut_by_put : {W : Type 0} (state : W → Device) (a b : BlockWriter W) (text : List ℕ) (n : ℕ) → n < length text → HasStuck state a b (take n text) → IsCutShort state a b text
+pub cut_by_put : {W : Type 0} (state : W → Device) (a b : BlockWriter W) (text : List ℕ) (n : ℕ) → n < length text → HasStuck state a b (take n text)
+    → IsCutShort state a b text
 cut_by_put state a b text n within stuck = record {
   out = stuck.out;
   rest = held_of b ++ drop n text;
@@ -190,7 +200,8 @@ cut_by_put state a b text n within stuck = record {
 }
 
 -- a text was taken, and then another was cut short
-pub cut_on : {W : Type 0} (state : W → Device) → TextsJoin → (a b c : BlockWriter W) (xs ys : List ℕ) → HasPut state a b xs → IsCutShort state b c ys → IsCutShort state a c (xs ++ ys)
+pub cut_on : {W : Type 0} (state : W → Device) → TextsJoin → (a b c : BlockWriter W) (xs ys : List ℕ) → HasPut state a b xs → IsCutShort state b c ys
+    → IsCutShort state a c (xs ++ ys)
 cut_on state texts a b c xs ys put cut = record {
   out = put.out ++ cut.out;
   rest = cut.rest;
@@ -204,7 +215,8 @@ cut_on state texts a b c xs ys put cut = record {
 -- ---- of answers
 
 -- where at most one octet was to be taken
-pub none_of_one : {T : Type 0} (r : Result T Stop) (x : ℕ) (P : List ℕ → Type 0) → IfErr r (λ stop. stop.taken < 1) → IfErr r (λ stop. P (take stop.taken (x ∷ []))) → OnErr r (P [])
+pub none_of_one : {T : Type 0} (r : Result T Stop) (x : ℕ) (P : List ℕ → Type 0) → IfErr r (λ stop. stop.taken < 1)
+    → IfErr r (λ stop. P (take stop.taken (x ∷ []))) → OnErr r (P [])
 none_of_one (Ok y) x P few front = tt
 none_of_one (Err stop) x P few front = let none : stop.taken ≡ 0 = omega (arith, few) in rw none at front
 
@@ -213,6 +225,7 @@ taken_none (Ok y) few = tt
 taken_none (Err stop) few = omega (arith, few)
 
 -- what is so of the devices of a writer is so of the target that it was lent, before and after
-pub between : {W : Type 0} {after : Device} (state : W → Device) (P : Device → Device → Type 0) (a c : BlockWriter W) (first last : MutBor W) → a.writer ≡ first → last ≡ c.writer → after ≡ state last.now → P (device_of state a) (device_of state c)
+pub between : {W : Type 0} {after : Device} (state : W → Device) (P : Device → Device → Type 0) (a c : BlockWriter W) (first last : MutBor W)
+    → a.writer ≡ first → last ≡ c.writer → after ≡ state last.now → P (device_of state a) (device_of state c)
     → P (state first.now) after
 between state P a c first last begun ended back p = rw (back, ended, ← begun) p

@@ -1,13 +1,9 @@
 -- What is packed carries the fields, the object and the sizes of the plan.
 use Rattle.iim_pack.proofs.Words.{◌≡◌, ℕ, ◌≤◌, List, [], ◌++◌, length, refl, sym, ap, subst, ◌∙◌, arith, append_assoc, append-nil, AllByRecursion, greatest_size, Dataset, canonical_stream, count_octets, of_record, HasSpellings, all_append, all_map, IsGoodDataset, kept, joined, bound_of, plan_datasets, subfile_datasets, confirmed_datasets, plan_parts, stream_append, canonical}
-use Rattle.iim_dataset.specs.Format.Octets.{Octets}
-use Rattle.iim_dataset.specs.Format.Datasets.{SpellsStream}
-use Rattle.iim_dataset.specs.Laws.{CanonicalStreamsAreSpelled}
+use Rattle.iim_dataset.specs.{Format.Octets.Octets, Format.Datasets.SpellsStream, Laws.CanonicalStreamsAreSpelled}
 use Rattle.iim_fields.specs.Format.Records.{AreSections}
 use Rattle.iim_tables.specs.Format.Records.{IsGoodRecord}
-use Rattle.iim_object.specs.Format.Objects.{HaveSizes}
-use Rattle.iim_object.specs.Format.Packing.{packed_sizes}
-use Rattle.iim_object.specs.Laws.{PackedObjectsHaveSizes, PackedRecordsAreGood}
+use Rattle.iim_object.specs.{Format.Objects.HaveSizes, Format.Packing.packed_sizes, Laws.PackedObjectsHaveSizes, Laws.PackedRecordsAreGood}
 use Rattle.iim_pack.specs.Laws.{PackedOctetsCarryTheValue}
 use Rattle.wire_message.proofs.MessageOctets.{message_octets}
 use Rattle.iim_pack.proofs.Spelling.{record_spelled}
@@ -28,7 +24,13 @@ record AreGood (r1 r2 r7 r8 r9 : List Dataset) : Type 0 where
   pub nine : IsGoodRecord 9 r9
 
 in_order : (r1 r2 r7 r8 r9 : List Dataset) → AreGood r1 r2 r7 r8 r9 → AreInOrder r1 r2 r7 r8 r9
-in_order r1 r2 r7 r8 r9 g = record { ones = of_good 1 r1 g.one; twos = of_good 2 r2 g.two; sevens = of_good 7 r7 g.seven; eights = of_good 8 r8 g.eight; nines = of_good 9 r9 g.nine }
+in_order r1 r2 r7 r8 r9 g = record {
+  ones = of_good 1 r1 g.one;
+  twos = of_good 2 r2 g.two;
+  sevens = of_good 7 r7 g.seven;
+  eights = of_good 8 r8 g.eight;
+  nines = of_good 9 r9 g.nine;
+}
 
 sections : (r1 r2 r7 r8 r9 : List Dataset) → AreGood r1 r2 r7 r8 r9 → AreSections ((r1 ++ r2) ++ (r7 ++ (r8 ++ r9)))
 sections r1 r2 r7 r8 r9 g = (
@@ -67,9 +69,12 @@ carried spell good have fields head lines trailer plan octets p =
     (all_append HasSpellings r1 r2 (record_spelled 1 r1 (omega arith) g.one.each) (record_spelled 2 r2 (omega arith) g.two.each))
     (all_append HasSpellings r7 (r8 ++ r9) (record_spelled 7 r7 (omega arith) g.seven.each)
     (all_append HasSpellings r8 r9 (record_spelled 8 r8 (omega arith) g.eight.each) (record_spelled 9 r9 (omega arith) g.nine.each))) in
-    let joined_is : joined r8 ≡ object = ap (λ (ps : List (List ℕ)). joined (subfile_datasets ps)) cut.parts_are ∙ (object_joined cut.full cut.last ∙ sym cut.joined) in
-    let whole : octets ≡ canonical_stream (fields ++ (r7 ++ (r8 ++ r9))) = p.octets_are ∙ (ap (λ (t : List ℕ). canonical_stream fields ++ t) p.written.octets_are ∙ sym (stream_append fields (r7 ++ (r8 ++ r9)))) in
-    let Is : List Dataset → Type 0 = λ ds. (SpellsStream count_octets ds (canonical_stream ds)) × AreSections ds × (kept ds ≡ r1 ++ r2) × (joined (of_record 8 ds) ≡ object)
+    let joined_is : joined r8 ≡ object = ap (λ (ps : List (List ℕ)). joined (subfile_datasets ps)) cut.parts_are
+    ∙ (object_joined cut.full cut.last ∙ sym cut.joined) in
+    let whole : octets ≡ canonical_stream (fields ++ (r7 ++ (r8 ++ r9))) = p.octets_are
+    ∙ (ap (λ (t : List ℕ). canonical_stream fields ++ t) p.written.octets_are ∙ sym (stream_append fields (r7 ++ (r8 ++ r9)))) in
+    let Is : List Dataset → Type 0 = λ ds. (SpellsStream count_octets ds (canonical_stream ds)) × AreSections ds × (kept ds ≡ r1 ++ r2)
+    × (joined (of_record 8 ds) ≡ object)
     × HaveSizes (of_record 7 ds) (of_record 8 ds) (of_record 9 ds) (packed_sizes plan.subfile plan.size object p.written.parts) in
     let sizes = have plan.subfile plan.size object p.written.parts plan.valid o cut p.may.suits in
     let s7 = sevens_are r1 r2 r7 r8 r9 order in
@@ -80,8 +85,10 @@ carried spell good have fields head lines trailer plan octets p =
       sections r1 r2 r7 r8 r9 g,
       kept_are r1 r2 r7 r8 r9 order,
       ap joined s8 ∙ joined_is,
-      subst (λ (xs : List Dataset). HaveSizes xs (of_record 8 ((r1 ++ r2) ++ (r7 ++ (r8 ++ r9)))) (of_record 9 ((r1 ++ r2) ++ (r7 ++ (r8 ++ r9)))) (packed_sizes plan.subfile plan.size object p.written.parts)) (sym s7)
-          (subst (λ (xs : List Dataset). HaveSizes r7 xs (of_record 9 ((r1 ++ r2) ++ (r7 ++ (r8 ++ r9)))) (packed_sizes plan.subfile plan.size object p.written.parts)) (sym s8)
+      subst (λ (xs : List Dataset). HaveSizes xs (of_record 8 ((r1 ++ r2) ++ (r7 ++ (r8 ++ r9)))) (of_record 9 ((r1 ++ r2) ++ (r7 ++ (r8 ++ r9))))
+          (packed_sizes plan.subfile plan.size object p.written.parts)) (sym s7)
+          (subst (λ (xs : List Dataset). HaveSizes r7 xs (of_record 9 ((r1 ++ r2) ++ (r7 ++ (r8 ++ r9))))
+          (packed_sizes plan.subfile plan.size object p.written.parts)) (sym s8)
           (subst (λ (xs : List Dataset). HaveSizes r7 r8 xs (packed_sizes plan.subfile plan.size object p.written.parts)) (sym s9) sizes)),
     ) in
     let there = subst Is all here in

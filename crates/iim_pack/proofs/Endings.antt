@@ -14,7 +14,8 @@ pub record Ends {W : Type 0} (state : W → Device) (old : Writing W) (tail : Li
   pub patience : WithinInterruptionLimit (length more) (state old.writer) (state writer)
   pub whole : (object out : List ℕ) → HasWritten old object out → EndsWithTail old.plan tail object (out ++ more)
 
-pub ends : {W : Type 0} (state : W → Device) (old mid : Writing W) (tail : List ℕ) (writer : W) → TextsJoin → Lengthens state old mid tail → Finishes state mid writer → Ends state old tail writer
+pub ends : {W : Type 0} (state : W → Device) (old mid : Writing W) (tail : List ℕ) (writer : W) → TextsJoin → Lengthens state old mid tail
+    → Finishes state mid writer → Ends state old tail writer
 ends state old mid tail writer join l f = record {
   more = l.more ++ f.more;
   wrote = join.more (state old.writer) (state mid.writer) (state writer) l.more f.more l.wrote f.wrote;
@@ -23,7 +24,8 @@ ends state old mid tail writer join l f = record {
 }
 
 -- the tail could not be written
-pub tail_broke : {W : Type 0} (state : W → Device) (old new : Writing W) (tail : List ℕ) → BreaksOff state (ContinuesWith old.plan tail) old new → BreaksOff state (EndsWithTail old.plan tail) old new
+pub tail_broke : {W : Type 0} (state : W → Device) (old new : Writing W) (tail : List ℕ) → BreaksOff state (ContinuesWith old.plan tail) old new
+    → BreaksOff state (EndsWithTail old.plan tail) old new
 tail_broke state old new tail k = record {
   more = k.more;
   appends = k.appends;
@@ -32,11 +34,13 @@ tail_broke state old new tail k = record {
   plan = k.plan;
   failed = k.failed;
   counted = k.counted;
-  begins = λ object out whole s w. k.begins object out whole s ([], subst (λ (t : List ℕ). IsWritten old.plan.subfile old.plan.size t whole) (sym (append-nil (object ++ tail))) w);
+  begins = λ object out whole s w. k.begins object out whole s
+      ([], subst (λ (t : List ℕ). IsWritten old.plan.subfile old.plan.size t whole) (sym (append-nil (object ++ tail))) w);
 }
 
 -- what follows could not be written
-pub end_broke : {W : Type 0} (state : W → Device) (old mid new : Writing W) (tail : List ℕ) → TextsJoin → Lengthens state old mid tail → BreaksOff state (IsTheWhole mid.plan) mid new → BreaksOff state (EndsWithTail old.plan tail) old new
+pub end_broke : {W : Type 0} (state : W → Device) (old mid new : Writing W) (tail : List ℕ) → TextsJoin → Lengthens state old mid tail
+    → BreaksOff state (IsTheWhole mid.plan) mid new → BreaksOff state (EndsWithTail old.plan tail) old new
 end_broke state old mid new tail join l k =
     breaks_on state (IsTheWhole mid.plan) (EndsWithTail old.plan tail) old mid new tail join l
     (λ object whole w. subst (λ (p : Plan). IsWritten p.subfile p.size (object ++ tail) whole) (sym l.plan) w) k
@@ -44,7 +48,8 @@ end_broke state old mid new tail join l k =
 pub may_write : {W : Type 0} (w : Writing W) (n : ℕ) → w.failed ≡ false → total_of w + n ≤ most_of w.plan → write_cause w n ≡ None
 may_write w n unfailed fits = rw (unfailed, le-leb (total_of w + n) (most_of w.plan) fits) refl
 
-pub may_finish : {W : Type 0} (state : W → Device) (old mid : Writing W) (tail : List ℕ) → Lengthens state old mid tail → is_short old.plan.size (total_of old + length tail) ≡ false → finish_cause mid ≡ None
+pub may_finish : {W : Type 0} (state : W → Device) (old mid : Writing W) (tail : List ℕ) → Lengthens state old mid tail
+    → is_short old.plan.size (total_of old + length tail) ≡ false → finish_cause mid ≡ None
 may_finish state old mid tail l whole =
     let now : is_short mid.plan.size (total_of mid) ≡ false = rw (l.plan, l.total) whole in
     rw (l.unfailed, now) refl

@@ -1,7 +1,6 @@
 -- Records 1 and 2 written one dataset after another.
 use Rattle.iim_pack.proofs.Words.{◌≡◌, ℕ, ◌+◌, ◌*◌, ◌^◌, ◌<◌, ◌≤◌, List, [], ◌∷◌, ◌++◌, length, sym, ap, subst, ◌∙◌, arith, append_assoc, append-nil, length-append, stream_append, Device, Wrote, Stopped, TextsJoin, Dataset, canonical_dataset, canonical_stream, tag_octets, joined}
-use Rattle.iim_dataset.proofs.StoppedTexts.{stopped_more}
-use Rattle.iim_dataset.proofs.WrittenNumbers.{dataset_length}
+use Rattle.iim_dataset.proofs.{StoppedTexts.stopped_more, WrittenNumbers.dataset_length}
 use Rattle.iim_fields.specs.States.Standing.{AreFew}
 
 -- ---- how long datasets are
@@ -21,20 +20,30 @@ stream_one xs d = stream_append xs (d ∷ []) ∙ ap (λ (t : List ℕ). canonic
 
 -- ---- the datasets of an envelope
 
-parted : (ds front rest : List Dataset) (d : Dataset) → ds ≡ front ++ d ∷ rest → canonical_stream ds ≡ (canonical_stream front ++ canonical_dataset d) ++ canonical_stream rest
-parted ds front rest d e = ap canonical_stream e ∙ (stream_append front (d ∷ rest) ∙ sym (append_assoc (canonical_stream front) (canonical_dataset d) (canonical_stream rest)))
+parted : (ds front rest : List Dataset) (d : Dataset) → ds ≡ front ++ d ∷ rest
+    → canonical_stream ds ≡ (canonical_stream front ++ canonical_dataset d) ++ canonical_stream rest
+parted ds front rest d e = ap canonical_stream e
+    ∙ (stream_append front (d ∷ rest) ∙ sym (append_assoc (canonical_stream front) (canonical_dataset d) (canonical_stream rest)))
 
 pub front_small : (ds front rest : List Dataset) → AreFew ds → ds ≡ front ++ rest → length (canonical_stream front) < 2 ^ 40
 front_small ds front rest f e =
     let small = stream_small ds f in
     omega (arith, small, ap length (ap canonical_stream e ∙ stream_append front rest), length-append (canonical_stream front) (canonical_stream rest))
 
-pub part_small : (ds front rest : List Dataset) (d : Dataset) → AreFew ds → ds ≡ front ++ d ∷ rest → length (canonical_stream front) + length (canonical_dataset d) < 2 ^ 40
+pub part_small : (ds front rest : List Dataset) (d : Dataset) → AreFew ds → ds ≡ front ++ d ∷ rest
+    → length (canonical_stream front) + length (canonical_dataset d) < 2 ^ 40
 part_small ds front rest d f e =
     let small = stream_small ds f in
-    omega (arith, small, ap length (parted ds front rest d e), length-append (canonical_stream front ++ canonical_dataset d) (canonical_stream rest), length-append (canonical_stream front) (canonical_dataset d))
+    omega (
+      arith,
+      small,
+      ap length (parted ds front rest d e),
+      length-append (canonical_stream front ++ canonical_dataset d) (canonical_stream rest),
+      length-append (canonical_stream front) (canonical_dataset d),
+    )
 
-pub part_stopped : (a b c : Device) (ds front rest : List Dataset) (d : Dataset) (n : ℕ) → TextsJoin → ds ≡ front ++ d ∷ rest → Wrote a b (canonical_stream front) → Stopped b c (canonical_dataset d) n
+pub part_stopped : (a b c : Device) (ds front rest : List Dataset) (d : Dataset) (n : ℕ) → TextsJoin → ds ≡ front ++ d ∷ rest
+    → Wrote a b (canonical_stream front) → Stopped b c (canonical_dataset d) n
     → Stopped a c (canonical_stream ds) (length (canonical_stream front) + n)
 part_stopped a b c ds front rest d n join e w s =
     subst (λ (t : List ℕ). Stopped a c t (length (canonical_stream front) + n)) (sym (parted ds front rest d e))

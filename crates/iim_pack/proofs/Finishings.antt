@@ -5,11 +5,8 @@ use Rattle.iim_object.specs.Format.Packing.{IsAsKnown}
 use Rattle.iim_object.specs.States.Writing as object
 use Rattle.wire_story.specs.Laws.{EventsArePackedAsLines}
 use Rattle.wire_message.specs.Laws.{CanonicalObjectsAreMessages}
-use Rattle.iim_pack.specs.Format.Packed.{Packed}
-use Rattle.iim_pack.specs.States.Packing.{BreaksOff, Finishes, ending_cause}
-use Rattle.iim_pack.proofs.Endings.{Ends, EndsWithTail}
-use Rattle.iim_pack.proofs.Goings.{breaks}
-use Rattle.iim_pack.proofs.Openings.{total_is}
+use Rattle.iim_pack.specs.{Format.Packed.Packed, States.Packing.BreaksOff, States.Packing.Finishes, States.Packing.ending_cause}
+use Rattle.iim_pack.proofs.{Endings.Ends, Endings.EndsWithTail, Goings.breaks, Openings.total_is}
 
 -- ---- causes
 
@@ -37,7 +34,8 @@ pub canonical_is : (head : Header) (events : List StoryEvent) (trailer : List �
 canonical_is head events trailer e =
     ap (λ (t : List ℕ). packed_head head ++ (t ++ packed_tail trailer)) e ∙ sym (append_assoc (packed_head head) (packed_events events) (packed_tail trailer))
 
-pub finished : {W : Type 0} (state : W → Device) (before : ℕ) (old : Writing W) (trailer : List ℕ) (writer : W) → EventsArePackedAsLines → CanonicalObjectsAreMessages → MayEnd old.plan (total_of old) trailer
+pub finished : {W : Type 0} (state : W → Device) (before : ℕ) (old : Writing W) (trailer : List ℕ) (writer : W) → EventsArePackedAsLines
+    → CanonicalObjectsAreMessages → MayEnd old.plan (total_of old) trailer
     → Ends state old (packed_tail trailer) writer → Finishes state (record { before = before; object = old }) trailer writer
 finished state before old trailer writer lines messages may ends = record {
   more = ends.more;
@@ -48,7 +46,11 @@ finished state before old trailer writer lines messages may ends = record {
       let message = messages head (lines_of events) trailer s.header lined.make may.trailer_is in
       let is = canonical_is head events trailer lined.text in
       let total : length (canonical head (lines_of events) trailer) ≡ total_of old + length (packed_tail trailer) =
-      ap length is ∙ omega (arith, length-append (packed_head head ++ packed_events events) (packed_tail trailer), total_is old (packed_head head ++ packed_events events) s.object_out s.stands) in
+      ap length is ∙ omega (
+        arith,
+        length-append (packed_head head ++ packed_events events) (packed_tail trailer),
+        total_is old (packed_head head ++ packed_events events) s.object_out s.stands,
+      ) in
       let fits : length (canonical head (lines_of events) trailer) ≤ most_of plan = rw (← s.is_plan, total) may.fits in
       let whole : is_short plan.size (length (canonical head (lines_of events) trailer)) ≡ false = rw (← s.is_plan, total) may.whole in
       record {
@@ -65,7 +67,8 @@ finished state before old trailer writer lines messages may ends = record {
       };
 }
 
-pub unfinished : {W : Type 0} (state : W → Device) (before : ℕ) (old new : Writing W) (trailer : List ℕ) → EventsArePackedAsLines → object.BreaksOff state (EndsWithTail old.plan (packed_tail trailer)) old new
+pub unfinished : {W : Type 0} (state : W → Device) (before : ℕ) (old new : Writing W) (trailer : List ℕ) → EventsArePackedAsLines
+    → object.BreaksOff state (EndsWithTail old.plan (packed_tail trailer)) old new
     → BreaksOff state (λ fields head before. Packed fields head (lines_of before) trailer) (record { before = before; object = old })
     (record { before = before; object = new })
 unfinished state before old new trailer lines k =

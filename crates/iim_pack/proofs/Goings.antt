@@ -21,7 +21,8 @@ line_events (b ∷ bs) h = let parts = and_parts (is_line_octet b) (list_all is_
 pub begins_after : (zs xs ys : List ℕ) → Begins xs ys → Begins (zs ++ xs) (zs ++ ys)
 begins_after zs xs ys b = (b.0, append_assoc zs xs b.0 ∙ ap (λ (t : List ℕ). zs ++ t) b.1)
 
-pub lengthened : {W : Type 0} (state : W → Device) (before : ℕ) (old new : Writing W) (events : List StoryEvent) → AreEvents events → object.Lengthens state old new (packed_events events)
+pub lengthened : {W : Type 0} (state : W → Device) (before : ℕ) (old new : Writing W) (events : List StoryEvent) → AreEvents events
+    → object.Lengthens state old new (packed_events events)
     → Lengthens state (record { before = before; object = old }) (record { before = before; object = new }) events
 lengthened state before old new events are l = record {
   more = l.more;
@@ -40,14 +41,17 @@ lengthened state before old new events are l = record {
     object_out = s.object_out ++ l.more;
     stands =
         let joined : (packed_head head ++ packed_events evs) ++ packed_events events ≡ packed_head head ++ packed_events (evs ++ events) =
-        append_assoc (packed_head head) (packed_events evs) (packed_events events) ∙ ap (λ (t : List ℕ). packed_head head ++ t) (sym (events_append evs events)) in
-        subst (λ (t : List ℕ). object.HasWritten new t (s.object_out ++ l.more)) joined (l.stands (packed_head head ++ packed_events evs) s.object_out s.stands);
+        append_assoc (packed_head head) (packed_events evs) (packed_events events)
+        ∙ ap (λ (t : List ℕ). packed_head head ++ t) (sym (events_append evs events)) in
+        subst (λ (t : List ℕ). object.HasWritten new t (s.object_out ++ l.more)) joined
+        (l.stands (packed_head head ++ packed_events evs) s.object_out s.stands);
     out_is = ap (λ (t : List ℕ). t ++ l.more) s.out_is ∙ append_assoc (canonical_stream fields) s.object_out l.more;
   };
 }
 
 -- the canonical object of lines that begin with events
-form_object : (head : Header) (evs events rest : List StoryEvent) (lines : List (List ℕ)) (trailer : List ℕ) → LinesArePackedAsTheirEvents → events_of_lines lines ≡ (evs ++ events) ++ rest
+form_object : (head : Header) (evs events rest : List StoryEvent) (lines : List (List ℕ)) (trailer : List ℕ) → LinesArePackedAsTheirEvents
+    → events_of_lines lines ≡ (evs ++ events) ++ rest
     → canonical head lines trailer ≡ ((packed_head head ++ packed_events evs) ++ packed_events events) ++ (packed_events rest ++ packed_tail trailer)
 form_object head evs events rest lines trailer law e =
     let h : List ℕ = packed_head head in
@@ -55,14 +59,16 @@ form_object head evs events rest lines trailer law e =
     let b : List ℕ = packed_events events in
     let r : List ℕ = packed_events rest in
     let t : List ℕ = packed_tail trailer in
-    let text : packed_text lines ≡ (a ++ b) ++ r = law lines ∙ (ap packed_events e ∙ (events_append (evs ++ events) rest ∙ ap (λ (x : List ℕ). x ++ r) (events_append evs events))) in
+    let text : packed_text lines ≡ (a ++ b) ++ r = law lines
+    ∙ (ap packed_events e ∙ (events_append (evs ++ events) rest ∙ ap (λ (x : List ℕ). x ++ r) (events_append evs events))) in
     ap (λ (x : List ℕ). h ++ (x ++ t)) text
     ∙ (ap (λ (x : List ℕ). h ++ x) (append_assoc (a ++ b) r t ∙ append_assoc a b (r ++ t))
     ∙ (sym (append_assoc h a (b ++ (r ++ t))) ∙ sym (append_assoc (h ++ a) b (r ++ t))))
 
 -- A break of the writer of the object breaks off the packer, where each form that may come of it is the fields and an object that may be
 -- written.
-pub breaks : {W : Type 0} (state : W → Device) (before : ℕ) (May : List ℕ → List ℕ → Type 0) (Form : List Dataset → Header → List StoryEvent → Plan → List ℕ → Type 0) (old new : Writing W)
+pub breaks : {W : Type 0} (state : W → Device) (before : ℕ) (May : List ℕ → List ℕ → Type 0) (Form : List Dataset → Header → List StoryEvent → Plan → List ℕ
+    → Type 0) (old new : Writing W)
     → ((fields : List Dataset) (head : Header) (evs : List StoryEvent) (whole : List ℕ) → AreEvents evs → Form fields head evs old.plan whole
     → (object : List ℕ) × (whole ≡ canonical_stream fields ++ object) × May (packed_head head ++ packed_events evs) object)
     → object.BreaksOff state May old new → BreaksOff state Form (record { before = before; object = old }) (record { before = before; object = new })
@@ -82,7 +88,8 @@ breaks state before May Form old new parts k = record {
       (subst (λ (x : List ℕ). Begins x (front ++ o)) (sym (ap (λ (t : List ℕ). t ++ k.more) s.out_is ∙ append_assoc front s.object_out k.more)) there);
 }
 
-pub broken : {W : Type 0} (state : W → Device) (before : ℕ) (old new : Writing W) (events : List StoryEvent) → LinesArePackedAsTheirEvents → object.BreaksOff state (object.ContinuesWith old.plan (packed_events events)) old new
+pub broken : {W : Type 0} (state : W → Device) (before : ℕ) (old new : Writing W) (events : List StoryEvent) → LinesArePackedAsTheirEvents
+    → object.BreaksOff state (object.ContinuesWith old.plan (packed_events events)) old new
     → BreaksOff state (ContinuesWith events) (record { before = before; object = old }) (record { before = before; object = new })
 broken state before old new events law k =
     breaks state before (object.ContinuesWith old.plan (packed_events events)) (ContinuesWith events) old new
@@ -92,14 +99,17 @@ broken state before old new events law k =
       p.octets_are,
       (
         packed_events form.rest ++ packed_tail form.trailer,
-        subst (λ (o : List ℕ). IsWritten old.plan.subfile old.plan.size o p.object) (form_object head evs events form.rest form.lines form.trailer law form.begins) p.written,
+        subst (λ (o : List ℕ). IsWritten old.plan.subfile old.plan.size o p.object)
+            (form_object head evs events form.rest form.lines form.trailer law form.begins) p.written,
       ),
     ))
     k
 
 -- ---- causes
 
-pub may_write : {W : Type 0} (w : Writing W) (n ending : ℕ) → w.failed ≡ false → not (nat_le (total_of w + (n + ending)) (most_of w.plan)) ≡ false → write_cause w n ≡ None
+pub may_write : {W : Type 0} (w : Writing W) (n ending : ℕ) → w.failed ≡ false → not (nat_le (total_of w + (n + ending)) (most_of w.plan)) ≡ false
+    → write_cause w n ≡ None
 may_write w n ending unfailed fits =
-    let le : total_of w + (n + ending) ≤ most_of w.plan = leb-true (total_of w + (n + ending)) (most_of w.plan) (not-false (nat_le (total_of w + (n + ending)) (most_of w.plan)) fits) in
+    let le : total_of w + (n + ending) ≤ most_of w.plan = leb-true (total_of w + (n + ending)) (most_of w.plan)
+    (not-false (nat_le (total_of w + (n + ending)) (most_of w.plan)) fits) in
     rw (unfailed, le-leb (total_of w + n) (most_of w.plan) (omega (arith, le))) refl

@@ -4,14 +4,13 @@ use Rattle.std.proofs.lemmas.List.{length-map}
 use Rattle.iim_object.specs.Format.Packing.{IsCut, number_dataset, subfile_dataset}
 use Rattle.iim_object.proofs.PlanParts.{number_length}
 use Rattle.iim_pack.specs.Laws.{PackedOctetsAreFew}
-use Rattle.iim_pack.proofs.FieldsOut.{stream_length}
-use Rattle.iim_pack.proofs.Ones.{few_subfiles}
-use Rattle.iim_pack.proofs.Openings.{plan_small}
-use Rattle.iim_pack.proofs.Sorting.{object_joined}
+use Rattle.iim_pack.proofs.{FieldsOut.stream_length, Ones.few_subfiles, Openings.plan_small, Sorting.object_joined}
 
-subfiles_length : (size : ℕ) (object : List ℕ) (parts : List (List ℕ)) → (cut : IsCut size object parts) → length (canonical_stream (subfile_datasets parts)) ≤ tag_octets * length parts + length object
+subfiles_length : (size : ℕ) (object : List ℕ) (parts : List (List ℕ)) → (cut : IsCut size object parts)
+    → length (canonical_stream (subfile_datasets parts)) ≤ tag_octets * length parts + length object
 subfiles_length size object parts cut =
-    let is : joined (subfile_datasets parts) ≡ object = ap (λ (ps : List (List ℕ)). joined (subfile_datasets ps)) cut.parts_are ∙ (object_joined cut.full cut.last ∙ sym cut.joined) in
+    let is : joined (subfile_datasets parts) ≡ object = ap (λ (ps : List (List ℕ)). joined (subfile_datasets ps)) cut.parts_are
+    ∙ (object_joined cut.full cut.last ∙ sym cut.joined) in
     let long = stream_length (subfile_datasets parts) in
     let many : length (subfile_datasets parts) ≡ length parts = length-map parts subfile_dataset in
     omega (arith, long, many, ap length is)
@@ -19,7 +18,8 @@ subfiles_length size object parts cut =
 confirmed_length : (object : List ℕ) → length (canonical_stream (confirmed_datasets object)) ≤ tag_octets
 confirmed_length object = omega (arith, number_length 9 10 (length object), length-append (canonical_dataset (number_dataset 9 10 (length object))) [])
 
-object_length : (plan : Plan) (object : List ℕ) (parts : List (List ℕ)) → IsCut plan.subfile object parts → length (canonical_stream (object_datasets plan.subfile plan.size object parts)) ≤ 6 + 3 * tag_octets + (tag_octets * length parts + length object)
+object_length : (plan : Plan) (object : List ℕ) (parts : List (List ℕ)) → IsCut plan.subfile object parts
+    → length (canonical_stream (object_datasets plan.subfile plan.size object parts)) ≤ 6 + 3 * tag_octets + (tag_octets * length parts + length object)
 object_length plan object parts cut =
     let subfiles = subfiles_length plan.subfile object parts cut in
     let begun = plan_small plan in

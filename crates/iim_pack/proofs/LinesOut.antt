@@ -1,7 +1,6 @@
 -- Lines packed one after another.
 use Rattle.iim_pack.proofs.Words.{◌≡◌, ℕ, ◌+◌, ◌≤◌, Bool, true, false, None, List, [], ◌∷◌, ◌++◌, length, map, refl, sym, ap, subst, ◌∙◌, arith, append_assoc, append-nil, length-append, le-leb, Device, TextsJoin, most_of, total_of, Begins, IsLine, StoryEvent, LineOctet, LineEnd, events_of_lines, packed_events, events_append, Packing, FormWith, text_cause, line_end_cause}
-use Rattle.iim_pack.specs.States.Packing.{Lengthens, BreaksOff, ContinuesWith}
-use Rattle.iim_pack.specs.Steps.{line_events}
+use Rattle.iim_pack.specs.{States.Packing.Lengthens, States.Packing.BreaksOff, States.Packing.ContinuesWith, Steps.line_events}
 
 pub goes_nowhere : {W : Type 0} (state : W → Device) (k : Packing W) → TextsJoin → k.object.failed ≡ false → Lengthens state k k []
 goes_nowhere state k join unfailed = record {
@@ -15,7 +14,8 @@ goes_nowhere state k join unfailed = record {
   stands = λ fields head evs plan out s. rw (append-nil evs, append-nil out) s;
 }
 
-pub leads_on : {W : Type 0} (state : W → Device) (a b c : Packing W) (xs ys : List StoryEvent) → TextsJoin → Lengthens state a b xs → Lengthens state b c ys → Lengthens state a c (xs ++ ys)
+pub leads_on : {W : Type 0} (state : W → Device) (a b c : Packing W) (xs ys : List StoryEvent) → TextsJoin → Lengthens state a b xs → Lengthens state b c ys
+    → Lengthens state a c (xs ++ ys)
 leads_on state a b c xs ys join l m = record {
   more = l.more ++ m.more;
   wrote = join.more (state a.object.writer) (state b.object.writer) (state c.object.writer) l.more m.more l.wrote m.wrote;
@@ -25,10 +25,12 @@ leads_on state a b c xs ys join l m = record {
   unfailed = m.unfailed;
   plan = m.plan ∙ l.plan;
   stands = λ fields head evs plan out s.
-      rw (← append_assoc evs xs ys, ← append_assoc out l.more m.more) (m.stands fields head (evs ++ xs) plan (out ++ l.more) (l.stands fields head evs plan out s));
+      rw (← append_assoc evs xs ys, ← append_assoc out l.more m.more)
+      (m.stands fields head (evs ++ xs) plan (out ++ l.more) (l.stands fields head evs plan out s));
 }
 
-pub breaks_later : {W : Type 0} (state : W → Device) (a b c : Packing W) (xs ys : List StoryEvent) → TextsJoin → Lengthens state a b xs → BreaksOff state (ContinuesWith ys) b c → BreaksOff state (ContinuesWith (xs ++ ys)) a c
+pub breaks_later : {W : Type 0} (state : W → Device) (a b c : Packing W) (xs ys : List StoryEvent) → TextsJoin → Lengthens state a b xs
+    → BreaksOff state (ContinuesWith ys) b c → BreaksOff state (ContinuesWith (xs ++ ys)) a c
 breaks_later state a b c xs ys join l k = record {
   more = l.more ++ k.more;
   appends = (join.broke (state a.object.writer) (state b.object.writer) (state c.object.writer) l.more k.more l.wrote (k.appends, k.broke)).0;
@@ -38,11 +40,13 @@ breaks_later state a b c xs ys join l k = record {
   counted = omega (arith, k.counted, l.counted, length-append l.more k.more);
   begins = λ fields head evs plan out whole s form.
       subst (λ (t : List ℕ). Begins t whole) (append_assoc out l.more k.more)
-      (k.begins fields head (evs ++ xs) plan (out ++ l.more) whole (l.stands fields head evs plan out s) (subst (λ (e : List StoryEvent). FormWith fields head plan e whole) (sym (append_assoc evs xs ys)) form));
+      (k.begins fields head (evs ++ xs) plan (out ++ l.more) whole (l.stands fields head evs plan out s)
+      (subst (λ (e : List StoryEvent). FormWith fields head plan e whole) (sym (append_assoc evs xs ys)) form));
 }
 
 -- what continues with more events than these continues with these
-pub breaks_before : {W : Type 0} (state : W → Device) (a c : Packing W) (xs ys : List StoryEvent) → BreaksOff state (ContinuesWith xs) a c → BreaksOff state (ContinuesWith (xs ++ ys)) a c
+pub breaks_before : {W : Type 0} (state : W → Device) (a c : Packing W) (xs ys : List StoryEvent) → BreaksOff state (ContinuesWith xs) a c
+    → BreaksOff state (ContinuesWith (xs ++ ys)) a c
 breaks_before state a c xs ys k = record {
   more = k.more;
   appends = k.appends;
@@ -60,7 +64,8 @@ breaks_before state a c xs ys k = record {
       });
 }
 
-pub may_text : {W : Type 0} (k : Packing W) (line : List ℕ) → IsLine line → k.object.failed ≡ false → total_of k.object + (length line + 2) ≤ most_of k.object.plan → text_cause k line ≡ None
+pub may_text : {W : Type 0} (k : Packing W) (line : List ℕ) → IsLine line → k.object.failed ≡ false
+    → total_of k.object + (length line + 2) ≤ most_of k.object.plan → text_cause k line ≡ None
 may_text k line is unfailed fits = rw (unfailed, is, le-leb (total_of k.object + (length line + 2)) (most_of k.object.plan) fits) refl
 
 pub may_end_line : {W : Type 0} (k : Packing W) → k.object.failed ≡ false → total_of k.object + 4 ≤ most_of k.object.plan → line_end_cause k ≡ None

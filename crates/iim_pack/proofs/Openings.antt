@@ -4,10 +4,9 @@ use Rattle.std.proofs.Common.{drop}
 use Rattle.std.proofs.lemmas.List.{take-append-drop}
 use Rattle.iim_dataset.specs.States.Devices.{BrokeAfter}
 use Rattle.iim_object.specs.Format.Objects.{most_sizes}
-use Rattle.iim_object.proofs.PlanParts.{plan_length}
 use Rattle.iim_object.specs.States.Writing.{HasWritten, Lengthens, BreaksOff, ContinuesWith}
+use Rattle.iim_object.proofs.{PlanParts.plan_length, Written.front_length}
 use Rattle.iim_object.specs.declared.writing.cause.PackCause.TheVariants as causes
-use Rattle.iim_object.proofs.Written.{front_length}
 
 pub begins_by : (text rest whole : List ℕ) (n : ℕ) → whole ≡ text ++ rest → Begins (take n text) whole
 begins_by text rest whole n e =
@@ -25,7 +24,8 @@ whole_begins : (plan : Plan) (xs whole : List ℕ) → (w : IsWritten plan.subfi
 whole_begins plan xs whole w = w.octets_are ∙ stream_append (plan_datasets plan.subfile plan.size) (subfile_datasets w.parts ++ confirmed_datasets xs)
 
 -- record 7 could not be written
-pub not_begun : {W : Type 0} (state : W → Device) (writer : W) (plan : Plan) (front : List ℕ) (fault : StartFault W) → fault.cause ≡ causes.Write → Stopped (state writer) (state fault.writer) (plan_octets plan) fault.written
+pub not_begun : {W : Type 0} (state : W → Device) (writer : W) (plan : Plan) (front : List ℕ) (fault : StartFault W) → fault.cause ≡ causes.Write
+    → Stopped (state writer) (state fault.writer) (plan_octets plan) fault.written
     → WithinInterruptionLimit (fault.written + 1) (state writer) (state fault.writer) → StartBreaksOff state (IsWrittenFrom plan front) writer fault
 not_begun state writer plan front fault cause s limit = record {
   cause_is = cause;
@@ -34,11 +34,14 @@ not_begun state writer plan front fault cause s limit = record {
   broke = s.2;
   patience = omega (arith, limit, front_length fault.written (plan_octets plan) s.0);
   counted = sym (front_length fault.written (plan_octets plan) s.0);
-  begins = λ whole w. begins_by (plan_octets plan) (canonical_stream (subfile_datasets w.1.parts ++ confirmed_datasets (front ++ w.0))) whole fault.written (whole_begins plan (front ++ w.0) whole w.1);
+  begins = λ whole w. begins_by (plan_octets plan) (canonical_stream (subfile_datasets w.1.parts ++ confirmed_datasets (front ++ w.0))) whole fault.written
+      (whole_begins plan (front ++ w.0) whole w.1);
 }
 
-pub opened : {W : Type 0} (state : W → Device) (writer : W) (plan : Plan) (front : List ℕ) (first new : Writing W) → TextsJoin → first.plan ≡ plan → HasWritten first [] (plan_octets plan) → Wrote (state writer) (state first.writer) (plan_octets plan)
-    → WithinInterruptionLimit (length (plan_octets plan)) (state writer) (state first.writer) → Lengthens state first new front → Opens state writer plan front new
+pub opened : {W : Type 0} (state : W → Device) (writer : W) (plan : Plan) (front : List ℕ) (first new : Writing W) → TextsJoin → first.plan ≡ plan
+    → HasWritten first [] (plan_octets plan) → Wrote (state writer) (state first.writer) (plan_octets plan)
+    → WithinInterruptionLimit (length (plan_octets plan)) (state writer) (state first.writer) → Lengthens state first new front
+    → Opens state writer plan front new
 opened state writer plan front first new join is_plan s wrote limit l = record {
   out = plan_octets plan ++ l.more;
   wrote = join.more (state writer) (state first.writer) (state new.writer) (plan_octets plan) l.more wrote l.wrote;
@@ -48,7 +51,8 @@ opened state writer plan front first new join is_plan s wrote limit l = record {
 }
 
 -- a write failed after a beginning
-pub halts_after : {W : Type 0} (state : W → Device) (Form : List ℕ → Type 0) (writer middle end : W) (fault : StartFault W) (out more : List ℕ) (before : ℕ) → TextsJoin → Wrote (state writer) (state middle) out
+pub halts_after : {W : Type 0} (state : W → Device) (Form : List ℕ → Type 0) (writer middle end : W) (fault : StartFault W) (out more : List ℕ) (before : ℕ)
+    → TextsJoin → Wrote (state writer) (state middle) out
     → BrokeAfter (state middle) (state end) more → fault.writer ≡ end → fault.cause ≡ causes.Write → fault.written ≡ before + length more → before ≡ length out
     → WithinInterruptionLimit (length out) (state writer) (state middle) → WithinInterruptionLimit (length more + 1) (state middle) (state end)
     → ((whole : List ℕ) → Form whole → Begins (out ++ more) whole) → StartBreaksOff state Form writer fault
@@ -65,15 +69,19 @@ halts_after state Form writer middle end fault out more before join wrote broke 
     }
 
 -- the octets of the beginning could not be written
-pub opening_broke : {W : Type 0} (state : W → Device) (writer : W) (plan : Plan) (front : List ℕ) (first new : Writing W) (fault : StartFault W) → TextsJoin → first.plan ≡ plan → HasWritten first [] (plan_octets plan)
-    → Wrote (state writer) (state first.writer) (plan_octets plan) → WithinInterruptionLimit (length (plan_octets plan)) (state writer) (state first.writer) → BreaksOff state (ContinuesWith first.plan front) first new → fault.cause ≡ causes.Write → fault.writer ≡ new.writer → fault.written ≡ new.written
+pub opening_broke : {W : Type 0} (state : W → Device) (writer : W) (plan : Plan) (front : List ℕ) (first new : Writing W) (fault : StartFault W) → TextsJoin
+    → first.plan ≡ plan → HasWritten first [] (plan_octets plan)
+    → Wrote (state writer) (state first.writer) (plan_octets plan) → WithinInterruptionLimit (length (plan_octets plan)) (state writer) (state first.writer)
+    → BreaksOff state (ContinuesWith first.plan front) first new → fault.cause ≡ causes.Write → fault.writer ≡ new.writer → fault.written ≡ new.written
     → StartBreaksOff state (IsWrittenFrom plan front) writer fault
 opening_broke state writer plan front first new fault join is_plan s wrote limit k cause handed written =
-    halts_after state (IsWrittenFrom plan front) writer first.writer new.writer fault (plan_octets plan) k.more first.written join wrote (k.appends, k.broke) handed cause (written ∙ k.counted)
+    halts_after state (IsWrittenFrom plan front) writer first.writer new.writer fault (plan_octets plan) k.more first.written join wrote (k.appends, k.broke)
+    handed cause (written ∙ k.counted)
     (omega (arith, s.written)) limit k.patience
     (λ whole w. k.begins [] (plan_octets plan) whole s (w.0, subst (λ (p : Plan). IsWritten p.subfile p.size (front ++ w.0) whole) (sym is_plan) w.1))
 
-pub may_open : {W : Type 0} (w : Writing W) (plan : Plan) (front : List ℕ) → w.plan ≡ plan → HasWritten w [] (plan_octets plan) → length front ≤ most_of plan → write_cause w (length front) ≡ None
+pub may_open : {W : Type 0} (w : Writing W) (plan : Plan) (front : List ℕ) → w.plan ≡ plan → HasWritten w [] (plan_octets plan) → length front ≤ most_of plan
+    → write_cause w (length front) ≡ None
 may_open w plan front is_plan s fits =
     let nothing : total_of w ≡ 0 = omega (arith, s.sent, ap length s.object_is, length-append (joined_parts s.parts) w.held) in
     rw (s.unfailed, is_plan, le-leb (total_of w + length front) (most_of plan) (omega (arith, nothing, fits))) refl

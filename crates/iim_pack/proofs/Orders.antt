@@ -11,7 +11,8 @@ use Rattle.iim_pack.specs.Format.Orders.{IsFirstOf, Against}
 abbrev Tells : Bool → Type 0 → Type 0
 Tells b P = (b ≡ true → P) × (b ≡ false → P → ⊥)
 
-later : (Says : PackCause → Type 0) (cause : PackCause) (order : List PackCause) (rest : Option PackCause) → (Says cause → ⊥) → IsFirstOf Says order rest → IsFirstOf Says (cause ∷ order) rest
+later : (Says : PackCause → Type 0) (cause : PackCause) (order : List PackCause) (rest : Option PackCause) → (Says cause → ⊥) → IsFirstOf Says order rest
+    → IsFirstOf Says (cause ∷ order) rest
 later Says cause order None not_this h = (not_this, h)
 later Says cause order (Some c) not_this h = record {
   before = cause ∷ h.before;
@@ -21,7 +22,8 @@ later Says cause order (Some c) not_this h = record {
   holds = h.holds;
 }
 
-step : (Says : PackCause → Type 0) (b : Bool) (cause : PackCause) (order : List PackCause) (rest : Option PackCause) → Tells b (Says cause) → IsFirstOf Says order rest
+step : (Says : PackCause → Type 0) (b : Bool) (cause : PackCause) (order : List PackCause) (rest : Option PackCause) → Tells b (Says cause)
+    → IsFirstOf Says order rest
     → IsFirstOf Says (cause ∷ order) (cond b (Some cause) rest)
 step Says true cause order rest t h = record { before = []; after = order; order_is = refl; none_before = tt; holds = t.0 refl }
 step Says false cause order rest t h = later Says cause order rest (t.1 refl) h

@@ -23,7 +23,8 @@ by_record p rec b ds test h = all_map (λ (d : Dataset). d.rec ≡ rec) (λ (d :
 
 -- five records after one another
 five : (p : ℕ → Bool) (a b x y z : List Dataset)
-    → filter (λ d. p d.rec) ((a ++ b) ++ (x ++ (y ++ z))) ≡ (filter (λ d. p d.rec) a ++ filter (λ d. p d.rec) b) ++ (filter (λ d. p d.rec) x ++ (filter (λ d. p d.rec) y ++ filter (λ d. p d.rec) z))
+    → filter (λ d. p d.rec) ((a ++ b) ++ (x ++ (y ++ z))) ≡ (filter (λ d. p d.rec) a ++ filter (λ d. p d.rec) b)
+    ++ (filter (λ d. p d.rec) x ++ (filter (λ d. p d.rec) y ++ filter (λ d. p d.rec) z))
 five p a b x y z =
     let q : Dataset → Bool = λ d. p d.rec in
     filter-append q (a ++ b) (x ++ (y ++ z))

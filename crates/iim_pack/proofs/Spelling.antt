@@ -18,7 +18,8 @@ in_lines : {E : Type 0} (rec_of set_of : E → ℕ) (row_at : E → Row) (es : L
 in_lines rec_of set_of row_at [] rec set h = tt
 in_lines rec_of set_of row_at (e ∷ es) rec set h =
     let p = and_parts (nat_le (row_at e).max greatest_size) (list_all (λ x. nat_le (row_at x).max greatest_size) es) h in
-    cond_both (nat_eq (rec_of e) rec && nat_eq (set_of e) set) (Some e) (find (λ x. nat_eq (rec_of x) rec && nat_eq (set_of x) set) es) (λ o. IsBounded (option_map row_at o))
+    cond_both (nat_eq (rec_of e) rec && nat_eq (set_of e) set) (Some e) (find (λ x. nat_eq (rec_of x) rec && nat_eq (set_of x) set) es)
+    (λ o. IsBounded (option_map row_at o))
     (λ t. leb-true (row_at e).max greatest_size p.0) (λ f. in_lines rec_of set_of row_at es rec set p.1)
 
 others_bounded : (rec : ℕ) → IsBounded (row_of_others rec)
@@ -30,7 +31,8 @@ either (Some r) b h k = h
 
 row_bounded : (rec set : ℕ) → IsBounded (row_of rec set)
 unfolding row_of
-row_bounded rec set = either (row_in table rec set) (row_of_others rec) (in_lines (λ e. e.rec) (λ e. e.set) (λ e. e.row) table rec set table_bounded) (others_bounded rec)
+row_bounded rec set = either (row_in table rec set) (row_of_others rec) (in_lines (λ e. e.rec) (λ e. e.set) (λ e. e.row) table rec set table_bounded)
+    (others_bounded rec)
 
 within_row : (o : Option Row) (xs : List ℕ) → IsBounded o → IsSomeAnd o (λ r. is_admitted r xs ≡ true) → length xs ≤ greatest_size
 within_row None xs h m = absurd m

@@ -5,11 +5,11 @@ use Rattle.iim_fields.specs.Format.Records.{IsEnvelope}
 use Rattle.iim_object.specs.States.Writing as object
 use Rattle.iim_object.specs.declared.writing.cause.PackCause.TheVariants as causes
 use Rattle.wire_message.specs.Format.Messages.{IsHeader}
-use Rattle.iim_pack.proofs.Goings.{begins_after}
-use Rattle.iim_pack.proofs.Openings.{begins_by, halts_after, total_is}
+use Rattle.iim_pack.proofs.{Goings.begins_after, Openings.begins_by, Openings.halts_after, Openings.total_is}
 
 -- records 1 and 2 could not be written
-pub fields_broke : {W : Type 0} (state : W → Device) (writer : W) (fields : List Dataset) (head : Header) (plan : Plan) (fault : StartFault W) → fault.cause ≡ causes.Write
+pub fields_broke : {W : Type 0} (state : W → Device) (writer : W) (fields : List Dataset) (head : Header) (plan : Plan) (fault : StartFault W)
+    → fault.cause ≡ causes.Write
     → Stopped (state writer) (state fault.writer) (canonical_stream fields) fault.written
     → WithinInterruptionLimit (fault.written + 1) (state writer) (state fault.writer) → StartBreaksOff state (FormWith fields head plan []) writer fault
 fields_broke state writer fields head plan fault cause s limit = record {
@@ -23,17 +23,23 @@ fields_broke state writer fields head plan fault cause s limit = record {
 }
 
 -- the object could not be begun after them
-pub object_broke : {W : Type 0} (state : W → Device) (writer first : W) (fields : List Dataset) (head : Header) (plan : Plan) (before : ℕ) (fault new : StartFault W) → TextsJoin → Wrote (state writer) (state first) (canonical_stream fields)
-    → before ≡ length (canonical_stream fields) → WithinInterruptionLimit before (state writer) (state first) → StartBreaksOff state (IsWrittenFrom plan (packed_head head)) first fault → new.cause ≡ fault.cause → new.writer ≡ fault.writer → new.written ≡ before + fault.written
+pub object_broke : {W : Type 0} (state : W → Device) (writer first : W) (fields : List Dataset) (head : Header) (plan : Plan) (before : ℕ)
+    (fault new : StartFault W) → TextsJoin → Wrote (state writer) (state first) (canonical_stream fields)
+    → before ≡ length (canonical_stream fields) → WithinInterruptionLimit before (state writer) (state first)
+    → StartBreaksOff state (IsWrittenFrom plan (packed_head head)) first fault → new.cause ≡ fault.cause → new.writer ≡ fault.writer
+    → new.written ≡ before + fault.written
     → StartBreaksOff state (FormWith fields head plan []) writer new
 object_broke state writer first fields head plan before fault new join wrote counted limit h cause handed written =
-    halts_after state (FormWith fields head plan []) writer first fault.writer new (canonical_stream fields) h.out before join wrote (h.appends, h.broke) handed (cause ∙ h.cause_is) (omega (arith, written, h.counted)) counted
+    halts_after state (FormWith fields head plan []) writer first fault.writer new (canonical_stream fields) h.out before join wrote (h.appends, h.broke)
+    handed (cause ∙ h.cause_is) (omega (arith, written, h.counted)) counted
     (omega (arith, limit, counted)) h.patience
     (λ whole form.
     subst (λ (w : List ℕ). Begins (canonical_stream fields ++ h.out) w) (sym form.packed.octets_are)
-    (begins_after (canonical_stream fields) h.out form.packed.object (h.begins form.packed.object (packed_text form.lines ++ packed_tail form.trailer, form.packed.written))))
+    (begins_after (canonical_stream fields) h.out form.packed.object
+    (h.begins form.packed.object (packed_text form.lines ++ packed_tail form.trailer, form.packed.written))))
 
-pub started : {W : Type 0} (state : W → Device) (writer first : W) (fields : List Dataset) (head : Header) (plan : Plan) (before : ℕ) (new : Writing W) → TextsJoin → IsEnvelope fields → IsHeader head
+pub started : {W : Type 0} (state : W → Device) (writer first : W) (fields : List Dataset) (head : Header) (plan : Plan) (before : ℕ) (new : Writing W)
+    → TextsJoin → IsEnvelope fields → IsHeader head
     → Wrote (state writer) (state first) (canonical_stream fields) → before ≡ length (canonical_stream fields)
     → WithinInterruptionLimit before (state writer) (state first) → Opens state first plan (packed_head head) new
     → Starts state writer fields head plan (record { before = before; object = new })

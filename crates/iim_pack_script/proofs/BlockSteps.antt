@@ -23,7 +23,8 @@ passes_by true true n now held after rest on e = ap (λ (t : List ℕ). n ∷ t)
 passes_by true false n now held after rest on e = absurd (true≢false (sym (on refl)))
 
 -- of what is held some went out
-pub passes : (first now after : Option (List ℕ)) (held out rest : List ℕ) → held ≡ out ++ rest → Appends now after out → Keeps (octets_behind first held now) (octets_behind first rest after)
+pub passes : (first now after : Option (List ℕ)) (held out rest : List ℕ) → held ≡ out ++ rest → Appends now after out
+    → Keeps (octets_behind first held now) (octets_behind first rest after)
 passes None now after held out rest e h = tt
 passes (Some first) None after held out rest e h = tt
 passes (Some first) (Some now) None held out rest e h = absurd h
@@ -35,22 +36,27 @@ passes (Some first) (Some now) (Some after) held out rest e h =
     (rw (h, e) (append_assoc now out rest))
 
 -- octets of a block that are moved to its front
-pub moved : (block new : List ℕ) (used count left : ℕ) → count + left ≡ used → used ≤ length block → new ≡ copy_within block count used 0 → take left new ≡ drop count (take used block)
+pub moved : (block new : List ℕ) (used count left : ℕ) → count + left ≡ used → used ≤ length block → new ≡ copy_within block count used 0
+    → take left new ≡ drop count (take used block)
 moved block new used count left sum fits made =
     let rest = length-drop count block in
     let few : used - count ≡ left = omega (arith, sum) in
     let same : left ≡ 0 + left = omega arith in
-    ap (take left) made ∙ ap (λ (n : ℕ). take left (paste block 0 (drop count block) n)) few ∙ ap (λ (k : ℕ). take k (paste block 0 (drop count block) left)) same
-    ∙ take-paste block 0 (drop count block) left (omega (arith, sum, fits)) (omega (arith, sum, fits, rest)) ∙ sym (drop-take count left block) ∙ ap (λ (k : ℕ). drop count (take k block)) sum
+    ap (take left) made ∙ ap (λ (n : ℕ). take left (paste block 0 (drop count block) n)) few
+    ∙ ap (λ (k : ℕ). take k (paste block 0 (drop count block) left)) same
+    ∙ take-paste block 0 (drop count block) left (omega (arith, sum, fits)) (omega (arith, sum, fits, rest)) ∙ sym (drop-take count left block)
+    ∙ ap (λ (k : ℕ). drop count (take k block)) sum
 
 -- the device behind the first octets, with those that are held
 abbrev pub behind : Option (List ℕ) → List ℕ → Device → Device
 behind first held d = record { octets = octets_behind first held d.octets; failures = d.failures; interruptions = d.interruptions }
 
 -- one write of what is held
-pub passed_on : (first : Option (List ℕ)) (held rest : List ℕ) (old new : Device) (count room : ℕ) → Accepted old new held count → rest ≡ drop count held → 0 < length held → (0 < count → 0 < room)
+pub passed_on : (first : Option (List ℕ)) (held rest : List ℕ) (old new : Device) (count room : ℕ) → Accepted old new held count → rest ≡ drop count held
+    → 0 < length held → (0 < count → 0 < room)
     → Keeps (behind first held old).octets (behind first rest new).octets
-    × (((0 < count) × (0 < room) × Calm (behind first held old) (behind first rest new)) ⊎ ((count ≡ 0) × CountedFailure (behind first held old) (behind first rest new)))
+    × (((0 < count) × (0 < room) × Calm (behind first held old) (behind first rest new))
+    ⊎ ((count ≡ 0) × CountedFailure (behind first held old) (behind first rest new)))
 passed_on first held rest old new count room h is some makes_room = (
   passes first old.octets new.octets held (take count held) rest (sym (take-append-drop count held) ∙ ap (λ (t : List ℕ). take count held ++ t) (sym is)) h.1,
   elim h.2 [
@@ -60,7 +66,8 @@ passed_on first held rest old new count room h is some makes_room = (
 )
 
 -- a write that moved nothing
-pub faulted_behind : (first : Option (List ℕ)) (held same : List ℕ) (old new : Device) (fault : IoFault) → held ≡ same → Faulted old new fault → Faulted (behind first held old) (behind first same new) fault
+pub faulted_behind : (first : Option (List ℕ)) (held same : List ℕ) (old new : Device) (fault : IoFault) → held ≡ same → Faulted old new fault
+    → Faulted (behind first held old) (behind first same new) fault
 faulted_behind first held same old new Failed is h = (passes first old.octets new.octets held [] same is (keeps_nothing old.octets new.octets h.0), h.1)
 faulted_behind first held same old new Interrupted is h = (passes first old.octets new.octets held [] same is (keeps_nothing old.octets new.octets h.0), h.1)
 
@@ -86,7 +93,8 @@ went_by true n first now held out le h =
     let parts : now ++ held ≡ (first ++ []) ++ out = cc in
     went first now held out (rw append-nil at parts) (omega (arith, same, le refl))
 
-went_behind : (first : List ℕ) (begun now : Option (List ℕ)) (held out : List ℕ) → Appends (Some (length first ∷ (first ++ []))) (octets_behind begun held now) out
+went_behind : (first : List ℕ) (begun now : Option (List ℕ)) (held out : List ℕ)
+    → Appends (Some (length first ∷ (first ++ []))) (octets_behind begun held now) out
     → (octets : List ℕ) × (now ≡ Some octets) × Went first octets held out
 went_behind first None now held out h = absurd h
 went_behind first (Some begun) None held out h = absurd h
@@ -97,13 +105,15 @@ fresh_octets : (first : List ℕ) → octets_behind (Some first) [] (Some first)
 fresh_octets first = rw (le-leb (length first) (length first) (omega arith)) refl
 
 -- all that was taken is out, where what was held went out at last
-pub finished : (old begun mid last : Option (List ℕ)) (held out : List ℕ) → Appends (octets_behind old [] old) (octets_behind begun held mid) out → Appends mid last held → Appends old last out
+pub finished : (old begun mid last : Option (List ℕ)) (held out : List ℕ) → Appends (octets_behind old [] old) (octets_behind begun held mid) out
+    → Appends mid last held → Appends old last out
 finished None begun mid last held out h k = tt
 finished (Some first) begun mid last held out h k =
     let (now, is, through) = went_behind first begun mid held out (rw (fresh_octets first) at h) in
     finished_by first now last held out through (rw is at k)
   where
-    finished_by : (first now : List ℕ) (last : Option (List ℕ)) (held out : List ℕ) → Went first now held out → Appends (Some now) last held → Appends (Some first) last out
+    finished_by : (first now : List ℕ) (last : Option (List ℕ)) (held out : List ℕ) → Went first now held out → Appends (Some now) last held
+        → Appends (Some first) last out
     finished_by first now None held out w k = absurd k
     finished_by first now (Some last) held out w k = rw (k, w.wrote, w.parts) (append_assoc first w.gone held)
 
@@ -115,7 +125,8 @@ broken_off (Some first) begun mid last held front rest out h e k =
     let (now, is, through) = went_behind first begun mid held out (rw (fresh_octets first) at h) in
     broken_by first now last held front rest out through e (rw is at k)
   where
-    broken_by : (first now : List ℕ) (last : Option (List ℕ)) (held front rest out : List ℕ) → Went first now held out → held ≡ front ++ rest → Appends (Some now) last front
+    broken_by : (first now : List ℕ) (last : Option (List ℕ)) (held front rest out : List ℕ) → Went first now held out → held ≡ front ++ rest
+        → Appends (Some now) last front
         → (gone : List ℕ) × Appends (Some first) last gone × Begins gone out
     broken_by first now None held front rest out w e k = absurd k
     broken_by first now (Some last) held front rest out w e k =

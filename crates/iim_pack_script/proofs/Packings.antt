@@ -2,9 +2,7 @@
 use Rattle.iim_pack_script.proofs.Words.{◌≡◌, ℕ, ◌+◌, ap, length-append, IfOk, min, ◌≤◌, ◌++◌, List, [], length, inl, inr, refl, take, drop, append_assoc, take-append-drop, sym, subst, ◌∙◌, arith, Bool, true, false, Option, Some, None, Result, Ok, Err, IfErr, IsTrue, Device, BrokeAfter, HasGiven, Stopped, Wrote, Begins, pack_cause, max_script, Answered, Asked, IsBrokenOff, IsNotPacked, IsPacked, IsPast, IsPlanOf, IsRead, IsScriptRefusal, IsScriptOf, IsUnanswered, IsUnread, ScriptContent, object_of, IsFresh, block_device, held_in, octets_behind, ComesTo, IsFailedRead, TellsFault}
 use Rattle.std.specs.Prelude.{if◌then◌else◌}
 use Rattle.std.specs.Option.{unwrap_or}
-use Rattle.iim_dataset.specs.Format.Octets.{greatest_size}
-use Rattle.iim_dataset.specs.Steps.{appends_nothing}
-use Rattle.iim_dataset.specs.Laws.{GiftsJoin}
+use Rattle.iim_dataset.specs.{Format.Octets.greatest_size, Steps.appends_nothing, Laws.GiftsJoin}
 use Rattle.iim_object.specs.Format.Objects.{bound_of, is_plan, most_in}
 use Rattle.iim_object.specs.declared.writing.cause.PackCause.TheVariants as causes
 use Rattle.iim_object.specs.declared.writing.cause.StartFault.{StartFault}
@@ -12,14 +10,11 @@ use Rattle.iim_object.specs.declared.plan.Plan.{Plan}
 use Rattle.iim_object.specs.declared.size.Size.TheVariants.{Known, Unknown}
 use Rattle.iim_object.proofs.PlanParts.{plan_parts}
 use Rattle.iim_dataset.proofs.DeviceLaws.{broke_later}
-use Rattle.iim_pack.specs.Format.Packed.{Packed}
-use Rattle.iim_pack.specs.Laws.{PackedOctetsAreOne}
-use Rattle.iim_pack.specs.States.Packing.{StartBreaksOff, IsStartFault, Packs}
+use Rattle.iim_pack.specs.{Format.Packed.Packed, Laws.PackedOctetsAreOne, States.Packing.StartBreaksOff, States.Packing.IsStartFault, States.Packing.Packs}
 use Rattle.iim_pack.proofs.Orders.{pack_order}
 use Rattle.iim_script.specs.Format.Causes.{IsScriptFault}
 use Rattle.iim_script.specs.declared.fault.ScriptFault.{ScriptFault}
-use Rattle.iim_output.specs.Format.{limits, IsSaid}
-use Rattle.iim_output.specs.States.Devices.{devices}
+use Rattle.iim_output.specs.{Format.limits, Format.IsSaid, States.Devices.devices}
 use Rattle.iim_pack_script.specs.declared.blocks.BlockTarget.{BlockTarget}
 use Rattle.iim_pack_script.proofs.BlockSteps.{broken_off, finished}
 use Rattle.iim_output.specs.declared.fault.CommandFault.{CommandFault}
@@ -33,7 +28,8 @@ use Rattle.iim_pack_script.specs.declared.packing.PackFault.TheVariants.{Refused
 abbrev begun : Device → Device
 begun d = record { octets = octets_behind d.octets [] d.octets; failures = d.failures; interruptions = d.interruptions }
 
-fresh_device : {W : Type 0} (state : W → Device) (old : W) (fresh : BlockTarget W) → fresh.writer ≡ old → IsFresh fresh → block_device state fresh ≡ begun (state old)
+fresh_device : {W : Type 0} (state : W → Device) (old : W) (fresh : BlockTarget W) → fresh.writer ≡ old → IsFresh fresh
+    → block_device state fresh ≡ begun (state old)
 fresh_device state old fresh is h =
     let first : fresh.first.value ≡ old = h.first_is ∙ is in
     let empty : held_in fresh ≡ [] = ap (λ (n : ℕ). take n fresh.block.now) h.empty in
@@ -147,7 +143,8 @@ told_fault a octets old f _ is h = absurd h
 
 -- ---- the input
 
-pub unread : GiftsJoin → (first mid new : Device) (script : List ℕ) (room : ℕ) (fault : CommandFault) → length script ≤ max_script → length script + room ≤ max_script + 1
+pub unread : GiftsJoin → (first mid new : Device) (script : List ℕ) (room : ℕ) (fault : CommandFault) → length script ≤ max_script
+    → length script + room ≤ max_script + 1
     → HasGiven first mid script → IsFailedRead mid new room fault → IsUnread first new fault
 unread joins first mid new script room CannotRead few fits given h = (script, h.0, few, joins.missed first mid new script h.0 given h.1)
 unread joins first mid new script room CannotWrite few fits given h = absurd h
@@ -168,13 +165,15 @@ unread_as a first rest old errors CannotWrite h = absurd h
 unread_as a first rest old errors _ h = (h, refl)
 
 pub told_refused : (a : Asked) (octets text : List ℕ) (first rest old new errors said : Device) (result : Result ℕ CommandFault)
-    → IsRead first rest octets → new ≡ old → IsScriptRefusal a octets text → IfOk result (IsSaid errors said text 1) → IfOk result (Answered a (devices first old errors) (devices rest new said))
+    → IsRead first rest octets → new ≡ old → IsScriptRefusal a octets text → IfOk result (IsSaid errors said text 1)
+    → IfOk result (Answered a (devices first old errors) (devices rest new said))
 told_refused a octets text first rest old new errors said (Ok status) read same refusal told = (octets, read, inr (text, refusal, same, told))
 told_refused a octets text first rest old new errors said (Err e) read same refusal told = tt
 
 -- memory was short for the line that tells a refusal
 pub starved_as : (a : Asked) (octets : List ℕ) (first rest old new errors said : Device) (result : Result ℕ CommandFault)
-    → IsRead first rest octets → new ≡ old → IfErr result (λ fault. fault ≡ OutOfMemory) → IfErr result (IsUnanswered a (devices first old errors) (devices rest new said))
+    → IsRead first rest octets → new ≡ old → IfErr result (λ fault. fault ≡ OutOfMemory)
+    → IfErr result (IsUnanswered a (devices first old errors) (devices rest new said))
 starved_as a octets first rest old new errors said (Ok status) read same starved = tt
 starved_as a octets first rest old new errors said (Err fault) read same starved = rw starved ((octets, few_read first rest octets read, read.0), same)
 

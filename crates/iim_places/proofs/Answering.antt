@@ -1,25 +1,19 @@
 -- A stream has one answer: what is refused, what is open and what is an envelope exclude one another.
 use Rattle.std.proofs.Common.{◌≡◌, ◌≢◌, ℕ, zero, suc, ◌<◌, ◌≤◌, ◌⊎◌, false, nat_eq, List, [], ◌∷◌, ◌++◌, length, take, slice_index, refl, ap, sym, subst, ◌∙◌, inl, inr, arith, append-nil, append_assoc, length-append}
 use Rattle.iim_places.proofs.Words.{cases_lt, ne_eqb, same_Some, map-append, take-length, Dataset, SpellsTag, count_octets, Begun, InTag, InData, IsBegun, Reads, BeginsNoTag, Head, AreSections, data_of, SectionsLive, section_after, Limits, AreSized, Holds, Octet, MessageLanguage, MessageLivesWith, MessageDiesAt, StoryLivesIn, text_so_far, HasCause, MessageCause, Value, Admits, object_of, begun_record, begun_number, tag_cause, refusal_at, IsTextOf, message_on, Kills, AdmittedOctetsHaveOneValue, NoTagBeginsAnother, NoDatasetBeginsAnother, NoSectionsBeginOthers, compare, object_so_far, AllCanContinue, IsUnfinished, Answer, RefusesByTests, RefusesNext, truncated_in, IsRefusedHead, IsRefusedValue, OpenOctetsBeginWithNoEnvelope, IsEnvelopeWithin, CanContinue, NothingContinuesFromRefusedOctets, RefusalsAreDetermined, StreamsHaveOneAnswer, Answers, Finished, Refused, Truncated, IsFinished, TokenFault, LowerLaws, IsPlaceOf, place_of, LeadsToSaved, IsOpen, MessagePlace, AreOpenOrWhole, DiesAtValue, Layer}
+use Rattle.iim_places.proofs.{ObjectOctets.lives_whole, Fronts.begun_none, Lasts.last_sections, Lasts.all_of, Places.lives_after, Places.no_dead_head}
+use Rattle.iim_places.proofs.Following.{Follows, follows, alive_of, object_lives_after, message_of, story_of, ends_tokens, with_data, led_in, value_goes}
+use Rattle.iim_places.proofs.Frames.{sized_by, no_others}
 use Rattle.iim_dataset.specs.Format.Octets as languages
-use Rattle.iim_dataset.proofs.Fronts.{begun_none as nothing_begun}
-use Rattle.iim_dataset.proofs.Spelled.{held_of, whole_read}
+use Rattle.iim_dataset.proofs.{Fronts.begun_none as nothing_begun, Spelled.held_of, Spelled.whole_read}
 use Rattle.wire_message.specs.States.Reading.{LeadsTo}
 use Rattle.wire_message.specs.declared.place.Place.TheVariants.{AfterEnd}
 use Rattle.wire_message.specs.declared.fault.MessageCause.TheVariants as messages
-use Rattle.iim_places.specs.Format.Open.{IsBadOctetAt}
-use Rattle.iim_places.specs.Laws.{RefusalsTellTheLowestCause}
+use Rattle.iim_places.specs.{Format.Open.IsBadOctetAt, Laws.RefusalsTellTheLowestCause, Format.Tickets.Place}
 use Rattle.iim_places.specs.declared.refusal.Refusal.{Refusal}
 use Rattle.iim_places.specs.declared.refusal.Layer.TheVariants as layers
 use Rattle.iim_places.specs.declared.refusal.Cause.TheVariants.{Message}
 use Rattle.wire_message.specs.declared.fault.MessageCause.TheVariants.{Sink}
-use Rattle.iim_places.proofs.ObjectOctets.{lives_whole}
-use Rattle.iim_places.proofs.Following.{Follows, follows, alive_of, object_lives_after, message_of, story_of, ends_tokens, with_data, led_in, value_goes}
-use Rattle.iim_places.proofs.Fronts.{begun_none}
-use Rattle.iim_places.proofs.Lasts.{last_sections, all_of}
-use Rattle.iim_places.proofs.Places.{lives_after, no_dead_head}
-use Rattle.iim_places.proofs.Frames.{sized_by, no_others}
-use Rattle.iim_places.specs.Format.Tickets.{Place}
 
 -- Every layer can continue from the octets, within the limits.
 pub record Lives (limits : Limits) (octets : List ℕ) : Type 0 where

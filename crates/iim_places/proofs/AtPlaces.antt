@@ -1,12 +1,11 @@
 -- Readers at a place: the message that a ticket tells, and what the record layer can continue with.
 use Rattle.std.proofs.Common.{◌≡◌, ℕ, ◌+◌, ◌↔◌, Bool, true, false, cond, IsTrue, IsSome, IfNone, OnOk, Option, Result, Ok, Err, is_ok, List, [], ◌∷◌, length, map, get_or, refl, sym, subst, ◌∙◌, arith, Bor}
 use Rattle.iim_places.proofs.Words.{same_Some, Dataset, Head, DatasetPlace, SectionsLive, SectionsLiveAt, HasChecked, HasTaken, kept, IsWithin, Limits, RecordPlace, FieldFault, head_alive, taken_alive, LeadsToSaved, MessagePlace, AreNumbers, RecordsLive, head_of_numbers, number_list, AreKept, CanContinueWithin, IsMessageOf, numbers_told, told_datasets, Phase, DataBegun}
+use Rattle.iim_places.proofs.{Fitting.message_told, Plain.plain_kept}
 use Rattle.iim_dataset.specs.States.Reading.{IsPlace}
 use Rattle.iim_fields.specs.Format.Causes.{joined}
 use Rattle.wire_message.specs.States.Reading.{StandsAt, LeadsTo as LeadTo, IsAt}
 use Rattle.wire_message.specs.declared.place.Place.{Place as Message}
-use Rattle.iim_places.proofs.Fitting.{message_told}
-use Rattle.iim_places.proofs.Plain.{plain_kept}
 
 pub no_place : {X A : Type 0} (result : Option X) (place : DatasetPlace) → IsSome result ↔ A → IsPlace place ↔ A → (P : Type 0) → (P → IsPlace place)
     → IfNone result (P → ⊥)
@@ -14,7 +13,8 @@ no_place result place exactly law P by = grind arith
 
 -- ---- records
 
-pub lives_at : (old new : Option RecordPlace) (h : Head) (r : Result (Unit {0}) FieldFault) → OnOk r ((ds : List Dataset) → HasChecked old ds → HasTaken new ds h) → IsTrue (is_ok r)
+pub lives_at : (old new : Option RecordPlace) (h : Head) (r : Result (Unit {0}) FieldFault)
+    → OnOk r ((ds : List Dataset) → HasChecked old ds → HasTaken new ds h) → IsTrue (is_ok r)
     → (ds : List Dataset) → HasChecked old ds → SectionsLiveAt ds h
 lives_at old new h (Ok u) stands yes' ds s = taken_alive new ds h (stands ds s)
 lives_at old new h (Err e) stands yes' ds s = let bad : false ≡ true = yes' in cc
@@ -39,12 +39,14 @@ leads_on_told limits section phase fields numbers some ended more one fit each w
 -- ---- the message
 
 pub texts_seven : (texts : List (Bor (List ℕ))) (z : Bor (List ℕ)) → length texts ≡ 7
-    → (get_or texts 0 z).now ∷ (get_or texts 1 z).now ∷ (get_or texts 2 z).now ∷ (get_or texts 3 z).now ∷ (get_or texts 4 z).now ∷ (get_or texts 5 z).now ∷ (get_or texts 6 z).now ∷ [] ≡ map (λ t. t.now) texts
+    → (get_or texts 0 z).now ∷ (get_or texts 1 z).now ∷ (get_or texts 2 z).now ∷ (get_or texts 3 z).now ∷ (get_or texts 4 z).now ∷ (get_or texts 5 z).now
+    ∷ (get_or texts 6 z).now ∷ [] ≡ map (λ t. t.now) texts
 texts_seven (a ∷ b ∷ c ∷ d ∷ e ∷ f ∷ g ∷ []) z is = refl
 texts_seven texts z is = absurd (omega (arith, is))
 
 -- What a ticket tells of a message is one place.
-pub same_message : (part counter flag : ℕ) (texts : List (List ℕ)) (m n : MessagePlace) → IsMessageOf part counter flag texts m → IsMessageOf part counter flag texts n → m ≡ n
+pub same_message : (part counter flag : ℕ) (texts : List (List ℕ)) (m n : MessagePlace) → IsMessageOf part counter flag texts m
+    → IsMessageOf part counter flag texts n → m ≡ n
 same_message part counter flag texts m n is are = grind (arith, message_told)
 
 -- Octets that lead to where the reader stands lead to its place as it is saved.

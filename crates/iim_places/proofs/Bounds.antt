@@ -2,21 +2,20 @@
 use Rattle.std.proofs.Common.{◌≡◌, ◌∙◌, nat_eq, cond, append-nil, ℕ, ◌+◌, ◌*◌, ◌<◌, ◌≤◌, ◌⊎◌, ◌^◌, ◌-◌, true, List, [], ◌∷◌, ◌++◌, length, map, sum, Option, Some, None, refl, ap, sym, subst, inl, inr, arith, append_assoc, length-append, ◌&&◌}
 use Rattle.std.proofs.Math.Nat.{pow-le-pow_right}
 use Rattle.iim_places.proofs.Words.{tells_number, or_cases, eqb-true, front_alive, section_after, last_more, head_of, ne_eqb, filter-append, AllByRecursion, Octets, number, greatest_size, all_append, all_front, all_back, all_map, Meets, Dataset, LowerLaws, SpellsStream, count_octets, of_record, tag_octets, Begun, InTag, InData, Reads, Head, sum_cons, sum_append, number-lt, AreRecords, records, IsGoodDataset, SectionsLive, SectionsLiveAt, kept, is_kept, Limits, ObjectToken, NumberRead, SubfileBegun, ObjectEnded, Confirmed, number_tokens, ending_tokens, place_after, place_after_datasets, lengths_of, Stated, AreOnce, InRow, number_at, MayContinue, ObjectLives, OpenOctetsAreBounded, EnvelopesAreBounded, kept_octets, length-map, within, nat_tests}
-use Rattle.iim_tables.specs.Format.Kinds.{size_octets}
-use Rattle.iim_tables.specs.Format.Rows.{table, row_of}
+use Rattle.iim_places.proofs.{Answering.lives_envelope, Following.alive_of, Following.within_of, Following.object_lives_after, TicketLengths.held_length}
+use Rattle.iim_places.proofs.Lasts.{not_all, last_sections}
+use Rattle.iim_tables.specs.{Format.Kinds.size_octets, Format.Rows.table, Format.Rows.row_of}
 use Rattle.iim_dataset.proofs.Spelled.{tag_length}
 use Rattle.iim_fields.specs.Format.Causes.{joined}
 use Rattle.iim_object.specs.Format.Objects.{Place}
-use Rattle.iim_places.proofs.Answering.{lives_envelope}
-use Rattle.iim_places.proofs.Following.{alive_of, within_of, object_lives_after}
-use Rattle.iim_places.proofs.Lasts.{not_all, last_sections}
-use Rattle.iim_places.proofs.TicketLengths.{held_length}
 
 -- what the good datasets of each record have, all of them have
-pub each_in : (P : Dataset → Type 0) (rs : List ℕ) (ds : List Dataset) → AllByRecursion (λ r. (d : Dataset) → d.rec ≡ r → IsGoodDataset d → P d) rs → AreRecords rs ds → AllByRecursion P ds
+pub each_in : (P : Dataset → Type 0) (rs : List ℕ) (ds : List Dataset) → AllByRecursion (λ r. (d : Dataset) → d.rec ≡ r → IsGoodDataset d → P d) rs
+    → AreRecords rs ds → AllByRecursion P ds
 each_in P [] ds has none = subst (AllByRecursion P) (sym none) tt
 each_in P (r ∷ rs) ds has (run, rest, parts, good, more) =
-    subst (AllByRecursion P) (sym parts) (all_append P run rest (all_map (λ (d : Dataset). (d.rec ≡ r) × IsGoodDataset d) P run (λ d h. has.0 d h.0 h.1) good.each) (each_in P rs rest has.1 more))
+    subst (AllByRecursion P) (sym parts) (all_append P run rest
+    (all_map (λ (d : Dataset). (d.rec ≡ r) × IsGoodDataset d) P run (λ d h. has.0 d h.0 h.1) good.each) (each_in P rs rest has.1 more))
 
 -- ---- the tokens of the object
 
@@ -76,7 +75,8 @@ abbrev slot : Option ℕ → ℕ
 slot None = 0
 slot (Some n) = 1
 
-slots : (ps : List Stated) → AllByRecursion InRow ps → AreOnce ps → length ps ≤ slot (number_at 10 ps) + slot (number_at 20 ps) + slot (number_at 90 ps) + slot (number_at 95 ps)
+slots : (ps : List Stated) → AllByRecursion InRow ps → AreOnce ps
+    → length ps ≤ slot (number_at 10 ps) + slot (number_at 20 ps) + slot (number_at 90 ps) + slot (number_at 95 ps)
 slots [] each once = omega arith
 slots (p ∷ ps) each once = grind (arith, slots ps each.1 once.1, each.0, once.0)
 

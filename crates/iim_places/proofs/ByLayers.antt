@@ -1,26 +1,19 @@
 -- A place is possible exactly where each layer alone can be there.
 use Rattle.std.proofs.Common.{◌≡◌, ℕ, zero, suc, ◌+◌, ◌-◌, ◌<◌, ◌≤◌, nat_eq, cond, if◌then◌else◌, Bool, true, false, List, [], ◌∷◌, ◌++◌, length, Some, None, refl, ap, sym, subst, ◌∙◌, inl, inr, arith, append-nil, length-append, ◌*◌, sum, take, drop, length-drop, IfSome}
 use Rattle.iim_places.proofs.Words.{IsLongField, eqb-true, eqb_tells, Octets, Dataset, count_octets, of_record, Begun, InTag, InData, Reads, Head, sum_append, SectionsLive, SectionsLiveAt, kept, section_after, Limits, place_after_datasets, place_ended, ending_of, ObjectEnded, SubfileBegun, NotEnded, ConfirmedAs, place_after, max_subfiles, lengths_of, numbers_of, IsPossible, stated_numbers, MessagePlace, object_of, LeadsByLayers, TagsLead, RecordsLive, ObjectLeads, record_datasets, begun_subfiles, one_of_some, are_ended, object_so_far, section, plain, Possible, widest, Phase, TagBegun, AllEnded, phase_of, place_of, ObjectLives, CanContinueAt, MayContinue, LowerLaws, AllByRecursion, unwrap_or, length-take, take-append-drop, nil_from_length, greatest_size, HasSpellings, IsBegun, all_append, all_front, all_back, front_are, sum_fits, IsGoodDataset, head_alive, Confirmed, Ending, IsSize, head_of_numbers, AreWithin, Numbers, number_list, plain_end, DataBegun, place_at, eq-eqb, CanContinue, place_in, IsWithin, AreHeadsWithin, LimitsAreToldByPlace, subfile_datasets, filled, AreKept, IsOctet, heads_of, ne_eqb, numbers_told, number_back}
+use Rattle.iim_places.proofs.{Following.within_of, AfterEnd.after_end, Lasts.last_sections, Lasts.not_all, Twins.Continues, Twins.plain_like, Twins.alive_at_as}
+use Rattle.iim_places.proofs.{Fitting.fit_in_rows, Fitting.each_fits, Fitting.goes_at, Fitting.begins_tag, Fitting.given_fits, ObjectOctets.living_octets}
+use Rattle.iim_places.proofs.PlainSizes.{numbers_in, all_kept, mode_octet, end_length, possible_like, AreBounded, bounded_at, ending_after, possible_after, possible_at}
+use Rattle.iim_places.proofs.{SameRecords.nines, SameRecords.stated_after_all, SameRecords.same_numbers, Bounds.object_fits, Taking.each_good}
+use Rattle.iim_places.proofs.{Tickets.total_of, Tickets.count_of, Tickets.sum_one, Tickets.heads_by, Tickets.so_far_by, SamePlace.SameObject}
+use Rattle.iim_places.proofs.Answering.{open_at, one_reading, nothing_held, reads_envelope}
+use Rattle.iim_places.proofs.Plain.{Tell, back_octets, plain_told, present_ended, plain_spelled}
 use Rattle.iim_object.specs.States.Reading.{IsAt}
 use Rattle.iim_places.specs.Format.Tickets.{Place}
-use Rattle.iim_places.proofs.Following.{within_of}
-use Rattle.iim_places.proofs.AfterEnd.{after_end}
-use Rattle.iim_places.proofs.Fitting.{fit_in_rows, each_fits, goes_at, begins_tag, given_fits}
-use Rattle.iim_places.proofs.Lasts.{last_sections, not_all}
-use Rattle.iim_places.proofs.Twins.{Continues, plain_like, alive_at_as}
-use Rattle.iim_places.proofs.PlainSizes.{numbers_in, all_kept, mode_octet, end_length, possible_like, AreBounded, bounded_at, ending_after, possible_after, possible_at}
-use Rattle.iim_places.proofs.SameRecords.{nines, stated_after_all, same_numbers}
-use Rattle.iim_places.proofs.Tickets.{total_of, count_of, sum_one, heads_by, so_far_by}
 use Rattle.iim_fields.specs.Format.Causes.{joined}
-use Rattle.iim_places.proofs.ObjectOctets.{living_octets}
-use Rattle.iim_places.proofs.Answering.{open_at, one_reading, nothing_held, reads_envelope}
-use Rattle.iim_places.proofs.Bounds.{object_fits}
-use Rattle.iim_places.proofs.Plain.{Tell, back_octets, plain_told, present_ended, plain_spelled}
-use Rattle.iim_places.proofs.Taking.{each_good}
 use Rattle.iim_dataset.specs.Format.Octets as languages
 use Rattle.iim_object.specs.Format.Objects as objects
 use Rattle.wire_message.specs.declared.saved.MessagePart.TheVariants as part
-use Rattle.iim_places.proofs.SamePlace.{SameObject}
 
 tags_lead : (octets : List ℕ) (ds : List Dataset) (b : Begun) → Reads count_octets octets ds b → TagsLead (section ds b) (phase_of ds b)
 tags_lead octets ds (InTag held) reads = grind (arith, begins_tag count_octets octets ds held reads)

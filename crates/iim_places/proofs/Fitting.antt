@@ -1,19 +1,15 @@
 -- The ticket of a possible place has the form of a ticket: each number fits its octets.
 use Rattle.std.proofs.Common.{◌≡◌, ℕ, ◌-◌, ◌<◌, ◌≤◌, ◌^◌, nat_eq, cond, if◌then◌else◌, Bool, true, false, List, [], ◌∷◌, ◌++◌, length, sum, get_or, Option, ◌↔◌, rules, Some, None, refl, ap, sym, subst, ◌∙◌, inl, inr, arith, append_assoc, append-nil, length-append}
 use Rattle.iim_places.proofs.Words.{InRow, IsPlaceOf, AreOpenOrWhole, AllByRecursion, all_map, nat_tests, Octets, Dataset, SpellsStream, SpellsTag, count_octets, of_record, Begun, InTag, InData, Reads, kept, Head, BeginsTag, numbers_of, stated_numbers, Stated, number_at, MessagePlace, LowerLaws, object_so_far, section, AllCanContinue, ObjectLives, MayContinue, present_version, phase_of, heads_of, place_of, ticket_in, part_number, IsLongField, IsSizeIn, AreTexts, IsSize, IsVersion, IsPhase, HasForm, Split, SplitsTicket, split_octets, place_in, IsSmall, IsSmallPhase, IsSmallPlace, widest, SmallPlacesWerePossible, TicketsTellOnePlace, TicketsOfPlacesAreSplit, texts_of, split_of, Limits, max_subfiles, greatest_size_before, CanContinueAt, IsBegun, canonical_stream}
+use Rattle.iim_places.proofs.{Answering.lives_as, Answering.one_reading, Bounds.object_fits, Bounds.is_one, SameRecords.stated_after_all, Splitting.one_split}
+use Rattle.iim_places.proofs.{Following.alive_of, Following.within_of, Tickets.total_of, Tickets.so_far_by}
+use Rattle.iim_places.proofs.TicketLengths.{tag_length_in, held_length, AreShortIn, texts_led}
 use Rattle.iim_fields.specs.Format.Causes.{joined}
 use Rattle.wire_message.specs.declared.saved.MessagePart.{MessagePart}
 use Rattle.wire_message.specs.declared.saved.MessagePart.TheVariants as part
 use Rattle.iim_places.specs.Format.Tickets.{Place}
 use Rattle.iim_dataset.proofs.Counts.{tag-lt}
-use Rattle.iim_places.proofs.Answering.{lives_as, one_reading}
-use Rattle.iim_places.proofs.Bounds.{object_fits, is_one}
-use Rattle.iim_places.proofs.SameRecords.{stated_after_all}
 use Rattle.iim_object.specs.Format.Objects as objects
-use Rattle.iim_places.proofs.Following.{alive_of, within_of}
-use Rattle.iim_places.proofs.Splitting.{one_split}
-use Rattle.iim_places.proofs.TicketLengths.{tag_length_in, held_length, AreShortIn, texts_led}
-use Rattle.iim_places.proofs.Tickets.{total_of, so_far_by}
 
 -- ---- what is read
 
@@ -53,7 +49,8 @@ fit_in_rows ps all = four_at IsSize ps tt (all_map _ _ ps (λ p row. omega (arit
 -- ---- the object
 
 -- the octets of the object so far are no more than its subfiles have
-pub so_far_fits : (counts : ℕ) (octets : List ℕ) (ds : List Dataset) (b : Begun) → Reads counts octets ds b → length (object_so_far ds b) ≤ sum (place_in ds b).lengths
+pub so_far_fits : (counts : ℕ) (octets : List ℕ) (ds : List Dataset) (b : Begun) → Reads counts octets ds b
+    → length (object_so_far ds b) ≤ sum (place_in ds b).lengths
 so_far_fits counts octets ds (InTag held) reads = omega (arith, total_of (of_record 8 ds))
 so_far_fits counts octets ds (InData h taken) reads =
     omega (arith, so_far_by (nat_eq h.rec 8) (nat_eq h.rec 9) ds taken h.count (h.count - length taken) (omega (arith, reads.is_rest.2)))
@@ -77,7 +74,8 @@ pub reads_of : (limit : ℕ) (ds : List Dataset) (b : Begun) (rest : List ℕ) �
 reads_of limit ds b rest spelled is = record { front = canonical_stream ds; rest = rest; is_front = spelled; is_rest = is; parts = refl }
 
 -- the data that are given are those that have come, where they are no subfile's
-pub given_fits : (b : Bool) (count : ℕ) (taken : List ℕ) → length taken < count → length (if b then [] else taken) ≡ (if b then 0 else count - (count - length taken))
+pub given_fits : (b : Bool) (count : ℕ) (taken : List ℕ) → length taken < count
+    → length (if b then [] else taken) ≡ (if b then 0 else count - (count - length taken))
 given_fits true count taken less = refl
 given_fits false count taken less = omega (arith, less)
 
@@ -105,7 +103,8 @@ small_size o = grind arith
 small_phase : (taken : ℕ) (ds : List Dataset) (b : Begun) → MayContinue widest ds b → IsPhase present_version (section ds b) (phase_of ds b)
     → IsSmallPhase (section ds b) taken (phase_of ds b) → IsPhase 1 (section ds b) (phase_of ds b)
 small_phase taken ds (InTag held) goes form small =
-    let short : BeginsTag 4 held → length held < 9 = λ b. omega (arith, tag_length_in 4 b.head (held ++ b.more) b.whole, length-append held b.more, b.some_more) in
+    let short : BeginsTag 4 held → length held < 9 = λ b. omega
+    (arith, tag_length_in 4 b.head (held ++ b.more) b.whole, length-append held b.more, b.some_more) in
     grind (arith, short)
 small_phase taken ds (InData h xs) goes form small = (low_count ds h goes (λ eight. (small.1 eight).0), form.1, form.2)
 
@@ -179,8 +178,17 @@ message_told m n parts counter flag texts =
 
 same_place : (version : ℕ) (p q : Place) → split_of version p ≡ split_of version q → p ≡ q
 same_place version p q e =
-    let message = message_told p.message q.message (ap (λ (s : Split). s.part) e) (ap (λ (s : Split). s.counter) e) (ap (λ (s : Split). s.flag) e) (ap (λ (s : Split). s.texts) e) in
-    λ i. record { section = (e i).section; phase = (e i).phase; fields = (e i).fields; numbers = (e i).numbers; taken = (e i).taken; heads = (e i).heads; message = message i }
+    let message = message_told p.message q.message (ap (λ (s : Split). s.part) e) (ap (λ (s : Split). s.counter) e) (ap (λ (s : Split). s.flag) e)
+    (ap (λ (s : Split). s.texts) e) in
+    λ i. record {
+      section = (e i).section;
+      phase = (e i).phase;
+      fields = (e i).fields;
+      numbers = (e i).numbers;
+      taken = (e i).taken;
+      heads = (e i).heads;
+      message = message i;
+    }
 
 -- A ticket tells one possible place.
 pub one_told : LowerLaws → SmallPlacesWerePossible → TicketsTellOnePlace

@@ -1,15 +1,11 @@
 -- What octets that every layer can continue from say of each token among them.
 use Rattle.std.proofs.Common.{◌≡◌, ℕ, ◌<◌, ◌≤◌, ◌⊎◌, nat_eq, if◌then◌else◌, List, [], ◌∷◌, ◌++◌, length, map, refl, ap, sym, subst, ◌∙◌, inl, inr, arith, append-nil, append_assoc, length-append}
 use Rattle.iim_places.proofs.Words.{flat_map-append, filter-append, eqb_tells, IsAlive, Dataset, SpellsTag, SpellsStream, head_of, count_octets, of_record, Begun, InTag, InData, IsBegun, Reads, Head, AreSections, SectionsLive, data_of, Limits, last_more, front_alive, head_alive, ObjectLanguage, place_after, head_token, tokens_of, AreSized, place_after_datasets, Octet, End, MessageLivesWith, StoryLivesIn, object_of, MayContinue, CanContinue, CanContinueAt, ObjectLives, place_at, AreWithin, object_so_far, section, message_tokens, AllCanContinue, compare, LowerLaws}
+use Rattle.iim_places.proofs.{Fronts.begun_none, Fronts.no_longer, Lasts.not_all, Lasts.nine_ends, Limits.leaves_room, Limits.within_front}
+use Rattle.iim_places.proofs.{Living.alive_front, Living.message_front, Living.story_front, ObjectOctets.object_of_more, Objects.records_alive}
+use Rattle.iim_places.proofs.Places.{HeadLeads, subfile_leads, end_leads, lives_after, lives_at, is_one, at_number, at_other}
 use Rattle.iim_dataset.specs.Steps.{same_front}
 use Rattle.iim_fields.specs.Format.Causes.{joined}
-use Rattle.iim_places.proofs.Fronts.{begun_none, no_longer}
-use Rattle.iim_places.proofs.Lasts.{not_all, nine_ends}
-use Rattle.iim_places.proofs.Limits.{leaves_room, within_front}
-use Rattle.iim_places.proofs.Living.{alive_front, message_front, story_front}
-use Rattle.iim_places.proofs.ObjectOctets.{object_of_more}
-use Rattle.iim_places.proofs.Objects.{records_alive}
-use Rattle.iim_places.proofs.Places.{HeadLeads, subfile_leads, end_leads, lives_after, lives_at, is_one, at_number, at_other}
 
 -- ---- lists
 

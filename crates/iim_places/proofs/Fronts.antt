@@ -8,13 +8,15 @@ empty_front [] ys e = refl
 empty_front (x ∷ xs) ys e = absurd cc
 
 -- a tag is no longer tag
-pub no_longer : NoTagBeginsAnother → (h k : Head) (tag x more : List ℕ) → SpellsTag count_octets h tag → 0 < length more → SpellsTag count_octets k ((tag ++ x) ++ more) → ⊥
+pub no_longer : NoTagBeginsAnother → (h k : Head) (tag x more : List ℕ) → SpellsTag count_octets h tag → 0 < length more
+    → SpellsTag count_octets k ((tag ++ x) ++ more) → ⊥
 no_longer one_tag h k tag x more s long t =
     let same = one_tag count_octets h k tag ((tag ++ x) ++ more) (x ++ more) [] s t (sym (append_assoc tag x more) ∙ sym (append-nil ((tag ++ x) ++ more))) in
     omega (arith, simp length-append at (ap length same.2))
 
 -- no whole dataset begins a begun one
-pub begun_none : NoTagBeginsAnother → (c : Begun) (y : List ℕ) → IsBegun count_octets c y → (d : Dataset) (x w : List ℕ) → SpellsDataset count_octets d x → y ≡ x ++ w → ⊥
+pub begun_none : NoTagBeginsAnother → (c : Begun) (y : List ℕ) → IsBegun count_octets c y → (d : Dataset) (x w : List ℕ) → SpellsDataset count_octets d x
+    → y ≡ x ++ w → ⊥
 begun_none one (InTag held) y b d x w s e =
     let held_is : held ≡ s.tag ++ (d.octets ++ w) = sym b.0 ∙ e ∙ ap (λ l. l ++ w) s.parts ∙ append_assoc s.tag d.octets w in
     no_longer one (head_of d) b.1 s.tag (d.octets ++ w) b.4.0 s.is_tag b.4.1 (subst (SpellsTag count_octets b.1) (sym b.4.2 ∙ ap (λ l. l ++ b.4.0) held_is) b.3)

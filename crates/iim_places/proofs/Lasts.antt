@@ -1,8 +1,7 @@
 -- The last record of whole datasets.
 use Rattle.std.proofs.Common.{◌≡◌, ◌⊎◌, List, [], ◌∷◌, ◌++◌, refl, sym, subst, inl, inr, arith, append_assoc}
 use Rattle.iim_places.proofs.Words.{Dataset, Head, AreSections, SectionsLive, SectionsLiveAt, section_after, EnvelopesEndWithTheLastRecord, NoSectionsBeginOthers, last_more, front_alive}
-use Rattle.iim_places.proofs.Frames.{no_sections}
-use Rattle.iim_places.proofs.Fronts.{empty_front}
+use Rattle.iim_places.proofs.{Frames.no_sections, Fronts.empty_front}
 
 abbrev pub SplitLast : List Dataset → Type 0
 SplitLast ds = (ds ≡ []) ⊎ ((front : List Dataset) × (d : Dataset) × (ds ≡ front ++ d ∷ []))

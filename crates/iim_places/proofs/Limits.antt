@@ -18,10 +18,25 @@ kept_length_append ds es = ap length (kept_append ds es) ∙ length-append (kept
 
 -- what datasets have together the first of them have
 pub within_front : (limits : Limits) (ds es : List Dataset) → AreWithin limits (ds ++ es) → AreWithin limits ds
-within_front limits ds es within = grind (arith, within, kept_octets_append ds es, kept_length_append ds es, filter-append (λ (d : Dataset). nat_eq d.rec 8) ds es, length-append (of_record 8 ds) (of_record 8 es))
+within_front limits ds es within = grind (
+  arith,
+  within,
+  kept_octets_append ds es,
+  kept_length_append ds es,
+  filter-append (λ (d : Dataset). nat_eq d.rec 8) ds es,
+  length-append (of_record 8 ds) (of_record 8 es),
+)
 
 -- what all datasets have leaves room for each
 pub leaves_room : (limits : Limits) (ds : List Dataset) (d : Dataset) (more : List Dataset) → AreWithin limits (ds ++ d ∷ more) → HaveRoom limits ds (head_of d)
 leaves_room limits ds d more within =
     let octets = length-append d.octets (joined (kept more)) in
-    grind (arith, within, octets, kept_octets_append ds (d ∷ more), kept_length_append ds (d ∷ more), filter-append (λ (x : Dataset). nat_eq x.rec 8) ds (d ∷ more), length-append (of_record 8 ds) (of_record 8 (d ∷ more)))
+    grind (
+      arith,
+      within,
+      octets,
+      kept_octets_append ds (d ∷ more),
+      kept_length_append ds (d ∷ more),
+      filter-append (λ (x : Dataset). nat_eq x.rec 8) ds (d ∷ more),
+      length-append (of_record 8 ds) (of_record 8 (d ∷ more)),
+    )

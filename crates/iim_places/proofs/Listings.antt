@@ -1,9 +1,7 @@
 -- Envelopes one after another.
 use Rattle.std.proofs.Common.{◌≡◌, ◌≢◌, ◌≤◌, ◌<◌, ◌⊎◌, ◌^◌, ℕ, List, [], ◌∷◌, ◌++◌, length, take, refl, ap, sym, subst, ◌∙◌, inl, inr, arith, append_assoc, length-append}
 use Rattle.iim_places.proofs.Words.{AllByRecursion, all_append, cases_lt, append-nil, nil_from_length, length-take-le, append_cancel_left, take-append_seam, Limits, OpenOctetsAreBounded, StreamsHaveOneAnswer, Answer, Answers, AdmittedOctetsHaveOneValue, NoAdmittedOctetsBeginOthers, refusal_at, IsEnvelopeWithin, Finished, Refused, Truncated, IsTruncatedAt, raised, IsRefused}
-use Rattle.iim_places.proofs.Following.{longer_front}
-use Rattle.iim_places.proofs.Frames.{framed_of, no_envelope_is_empty}
-use Rattle.iim_places.proofs.Fronts.{empty_front}
+use Rattle.iim_places.proofs.{Following.longer_front, Frames.framed_of, Frames.no_envelope_is_empty, Fronts.empty_front}
 use Rattle.iim_places.specs.Format.Streams.{joined, Listed, IsListed, InputEnding, Whole, RefusedBy, TooMany, EndsBy, Divides, IsListing}
 use Rattle.iim_places.specs.Laws.{InputsHaveOneListing, ListingsAreLongest}
 
@@ -13,7 +11,8 @@ pub joined_more : (es : List Listed) (e : Listed) → joined (es ++ e ∷ []) �
 joined_more [] e = append-nil e.octets
 joined_more (f ∷ es) e = ap (λ (l : List ℕ). f.octets ++ l) (joined_more es e) ∙ sym (append_assoc f.octets (joined es) e.octets)
 
-pub admitted_more : (limits : Limits) (es : List Listed) (e : Listed) → AllByRecursion (IsListed limits) es → IsListed limits e → AllByRecursion (IsListed limits) (es ++ e ∷ [])
+pub admitted_more : (limits : Limits) (es : List Listed) (e : Listed) → AllByRecursion (IsListed limits) es → IsListed limits e
+    → AllByRecursion (IsListed limits) (es ++ e ∷ [])
 admitted_more limits es e all one = all_append (IsListed limits) es (e ∷ []) all (one, tt)
 
 -- the ending that an answer makes

@@ -1,18 +1,15 @@
 -- A refusal tells the lowest cause of its layer exactly where tests find it first.
 use Rattle.std.proofs.Common.{◌≡◌, ◌≢◌, ℕ, ◌+◌, ◌<◌, ◌≤◌, ◌⊎◌, ◌↔◌, Bool, true, false, ◌&&◌, ◌||◌, nat_eq, if◌then◌else◌, List, [], ◌∷◌, map, ◌++◌, length, replicate, Option, Some, None, refl, ap, sym, ◌∙◌, inl, inr, arith, length-append, append-nil}
 use Rattle.iim_places.proofs.Words.{option_or, option_map, eqb-true, le-ltb, same_Some, map-append, filter-append, length-replicate, zeros_are, or_cases, all_front, all_back, Head, IsOctet, Octets, IsProperPrefix, number, Dataset, SpellsTag, SpellsCount, head_of, of_record, count_octets, Dies, InTag, InData, Begun, Reads, BeginsNoTag, SectionsLive, SectionsLiveAt, first_fault, value_fault, data_of, Limits, tells_number, FieldFault, cause_at, max_subfiles, SizeCause, Octet, MessageLanguage, text_so_far, HasCause, Token, MessageCause, object_of, AtOctet, AtHead, AtValue, IsNoCount, Names, TellsTheLowest, rule_of, AreWithin, AllCanContinue, IsUnfinished, IsOpen, RefusesByTests, RefusesNext, Completes, layer_of, layer_of_message, of_field, size_on, too_many_on, LowerLaws, message_on, DiesAtHead, DiesAtValue, IsRefusedHead, IsRefusedValue, subfile_fault, TokenFault, Layer, eq-eqb, limits_fault, nat_tests, StoryLanguage, MessageLivesWith, StoryLivesIn, tag_cause, begun_record, begun_number, HaveRoom, octets_append, place_after_datasets, ObjectToken, head_token, value_token, numbers_of, place_at}
-use Rattle.iim_fields.specs.Format.Causes.{number_of_cause}
-use Rattle.iim_fields.specs.Laws.{IsFaultIfAny}
-use Rattle.iim_fields.proofs.Dies.{head_no_fault, value_no_fault}
+use Rattle.iim_places.proofs.Answering.{not_held, message_dead, refuses_by, IsRefusedAt, tag_fault, tests_of}
+use Rattle.iim_places.proofs.{Following.alive_of, Following.message_of, Following.story_of, Following.with_data, Living.alive_front}
+use Rattle.iim_places.proofs.{Places.subfile_leads, Places.end_leads, Places.number_leads, SameRecords.stated_after_all, SameRecords.stated_at}
+use Rattle.iim_places.proofs.StoryDies.{in_text, lone_return, control}
+use Rattle.iim_fields.specs.{Format.Causes.number_of_cause, Laws.IsFaultIfAny}
 use Rattle.iim_fields.specs.Format.Causes.Token.{AtHead as HeadToken, AtValue as ValueToken}
+use Rattle.iim_fields.proofs.Dies.{head_no_fault, value_no_fault}
 use Rattle.iim_fields.specs.declared.fault.FieldCause.{FieldCause}
 use Rattle.iim_places.specs.declared.refusal.Cause.{Cause}
-use Rattle.iim_places.proofs.Answering.{not_held, message_dead, refuses_by, IsRefusedAt, tag_fault, tests_of}
-use Rattle.iim_places.proofs.Following.{alive_of, message_of, story_of, with_data}
-use Rattle.iim_places.proofs.Places.{subfile_leads, end_leads, number_leads}
-use Rattle.iim_places.proofs.SameRecords.{stated_after_all, stated_at}
-use Rattle.iim_places.proofs.StoryDies.{in_text, lone_return, control}
-use Rattle.iim_places.proofs.Living.{alive_front}
 use Rattle.iim_fields.specs.Format.Causes as records
 use Rattle.iim_object.specs.Laws as objects
 use Rattle.iim_object.specs.Format.Causes as objects_format

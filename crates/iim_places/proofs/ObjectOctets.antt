@@ -1,8 +1,8 @@
 -- The octets of the object: with one dataset more, and with its end.
 use Rattle.std.proofs.Common.{◌≡◌, ℕ, Bool, true, false, nat_eq, if◌then◌else◌, List, [], ◌++◌, ap, ◌∙◌, append-nil, ◌<◌, ◌≤◌, cond, ◌∷◌, length, refl, arith, map, sym, subst}
 use Rattle.iim_places.proofs.Words.{ne_eqb, IsAlive, Dataset, of_record, InData, Head, object_of, object_so_far, flat_map-append, filter-append, max_subfiles, End, Octet, with_end, MessageLanguage, MessageLivesWith, IsOctet, Octets, all_front}
-use Rattle.iim_fields.specs.Format.Causes.{joined}
 use Rattle.iim_places.proofs.Places.{one_more}
+use Rattle.iim_fields.specs.Format.Causes.{joined}
 use Rattle.wire_story.proofs.SoFar.{front_of}
 use Rattle.wire_message.proofs.MessageOctets.{message_octets}
 
@@ -12,7 +12,8 @@ no_object ds h taken other = rw (ne_eqb h.rec 8 other) (append-nil (object_of ds
 
 pub object_of_more : (ds : List Dataset) (d : Dataset) → object_of (ds ++ d ∷ []) ≡ object_of ds ++ cond (nat_eq d.rec 8) d.octets []
 object_of_more ds d =
-    ap joined (filter-append (λ (x : Dataset). nat_eq x.rec 8) ds (d ∷ [])) ∙ flat_map-append (λ (x : Dataset). x.octets) (of_record 8 ds) (of_record 8 (d ∷ []))
+    ap joined (filter-append (λ (x : Dataset). nat_eq x.rec 8) ds (d ∷ []))
+    ∙ flat_map-append (λ (x : Dataset). x.octets) (of_record 8 ds) (of_record 8 (d ∷ []))
     ∙ ap (λ xs. object_of ds ++ xs) (grind (arith, append-nil d.octets))
 
 pub few_more : (ds : List Dataset) (d : Dataset) → length (of_record 8 ds) ≤ max_subfiles → (d.rec ≡ 8 → length (of_record 8 ds) < max_subfiles)

@@ -1,32 +1,24 @@
 -- Octets that lead to one place read on and continue alike, and the same octet is refused, for the same fault.
 use Rattle.std.proofs.Common.{◌≡◌, ℕ, nat_eq, if◌then◌else◌, Bool, true, false, List, [], ◌∷◌, ◌++◌, length, Some, refl, ap, sym, subst, ◌∙◌, inl, inr, arith, append-nil, ◌&&◌, ◌||◌, not, nat_lt, None, map, append_assoc, ◌<◌, length-append}
 use Rattle.iim_places.proofs.Words.{append_cancel_left, Dataset, count_octets, of_record, Begun, InTag, InData, IsBegun, Reads, Head, section_after, AreSections, Limits, HaveSizes, Sizes, text_so_far, Value, object_of, AreAlike, PlacesContinueAlike, AllCanContinue, object_so_far, IsTextOf, IsEnvelopeWithin, IsPlaceOf, heads_of, place_of, LowerLaws, ne_eqb, option_or, option_map, number, head_of, head_fault, room_fault, occurs, data_of, place_after_datasets, cause_at, number_cause, NumberRead, ObjectToken, head_token, value_token, max_subfiles, End, PlacesRefuseAlike, of_field, size_on, too_many_on, DiesAtHead, DiesAtValue, CanContinueAt, IsRefusedValue, fault_at_head, fault_at_value, place_at, TokenFault, Layer, Octet, with_end, MessageLanguage, MessageLivesWith, MessageDiesAt, message_tokens, LivingOctetsAreOpen, section, AreOpenOrWhole, same_Some, NotEnded, ConfirmedAs, IsAlive, MayContinue, compare, eqb_tells, IsOctet, Octets, SpellsStream, all_back, octets_append, last_more, Meets, IsGoodDataset, good_elsewhere}
-use Rattle.wire_message.specs.States.Reading.{LeadsTo}
-use Rattle.iim_places.specs.Format.Tickets.{Place}
 use Rattle.iim_places.proofs.Answering.{goes_envelope, leads_to, one_reading, reads_envelope, IsRefusedAt, IsRefusedWith, refuses_by, tests_of, lives_as}
 use Rattle.iim_places.proofs.Following.{alive_of, message_of, story_of, within_of, with_data, object_lives_after, follows, longer_front, same_data, front_goes, so_far_both, brought, more_object, closed_object}
-use Rattle.iim_places.proofs.PlainSizes.{ending_after}
-use Rattle.iim_places.proofs.Lasts.{last_sections, sections_last, not_all}
+use Rattle.iim_places.proofs.{PlainSizes.ending_after, Lasts.last_sections, Lasts.sections_last, Lasts.not_all, ObjectOctets.few_more, ObjectOctets.no_object}
 use Rattle.iim_places.proofs.SamePlace.{SameObject, SameWhole, object_lives_after_as, SameBegun, SameData, SameMessage, opened, same_begun, same_message, value_as, object_at}
-use Rattle.iim_places.proofs.SameRecords.{SameFields, same_records, same_more}
+use Rattle.iim_places.proofs.{SameRecords.SameFields, SameRecords.same_records, SameRecords.same_more, Taking.good_at, AfterEnd.ended_at, Living.alive_front}
 use Rattle.iim_places.proofs.Twins.{Twins, enveloped, value_of, at_as, after_as, numbers_on, room_as, same_tail, twins_on, may_as, alive_at_as, flip, bounded_after, heads_same, AreBounded, SameTail, alive_on, eights, present_on, sevens}
+use Rattle.iim_places.proofs.{Fronts.begun_none, SizeRows.by_ten, SizeRows.eight_has, Fitting.each_octets}
+use Rattle.wire_message.specs.States.Reading.{LeadsTo}
+use Rattle.iim_places.specs.{Format.Tickets.Place, Laws.RefusalsTellTheLowestCause}
 use Rattle.iim_dataset.specs.Format.Datasets.{of_record as of_fields}
 use Rattle.iim_fields.specs.Format.Causes.{joined}
-use Rattle.iim_places.specs.Laws.{RefusalsTellTheLowestCause}
-use Rattle.iim_places.proofs.ObjectOctets.{few_more, no_object}
-use Rattle.iim_places.proofs.Taking.{good_at}
 use Rattle.wire_message.specs.declared.place.Place.{Place as Message}
-use Rattle.iim_places.proofs.AfterEnd.{ended_at}
-use Rattle.iim_places.proofs.Living.{alive_front}
 use Rattle.wire_story.specs.Format.Texts as story
 use Rattle.wire_message.specs.declared.place.Place.TheVariants as at_message
 use Rattle.iim_object.specs.Format.Objects as objects
 use Rattle.iim_places.specs.declared.refusal.Layer.TheVariants as layers
-use Rattle.iim_places.proofs.Fronts.{begun_none}
 use Rattle.iim_tables.specs.Format.Rows.{table, row_of}
 use Rattle.iim_fields.proofs.Dies.{good_value}
-use Rattle.iim_places.proofs.SizeRows.{by_ten, eight_has}
-use Rattle.iim_places.proofs.Fitting.{each_octets}
 use Rattle.iim_dataset.proofs.Spelled.{with_data as spelled_data, stream_more, whole_read}
 
 -- ---- what has been read
@@ -111,7 +103,8 @@ same_itself c = grind arith
 section_on : (ds es xs : List Dataset) (c : Begun) → section_after ds ≡ section_after es → section (ds ++ xs) c ≡ section (es ++ xs) c
 section_on ds es xs c same = grind (arith, present_on ds es xs same)
 
-stream_both : (ds es : List Dataset) (x y : List ℕ) → SpellsStream count_octets ds x → SpellsStream count_octets es y → SpellsStream count_octets (ds ++ es) (x ++ y)
+stream_both : (ds es : List Dataset) (x y : List ℕ) → SpellsStream count_octets ds x → SpellsStream count_octets es y
+    → SpellsStream count_octets (ds ++ es) (x ++ y)
 stream_both [] es x y s t = rw s t
 stream_both (d ∷ ds) es x y (first, rest, spelled, later, parts) t =
     (first, rest ++ y, spelled, stream_both ds es rest y later t, ap (λ (l : List ℕ). l ++ y) parts ∙ append_assoc first rest y)
@@ -333,7 +326,8 @@ envelope_as laws {limits} {p} {q} {v = v} is read =
 
 -- ---- the text
 
-text_of : LowerLaws → (p : List ℕ) (ds : List Dataset) (c : Begun) → Reads count_octets p ds c → (text : List ℕ) → IsTextOf p text → text ≡ text_so_far (object_so_far ds c)
+text_of : LowerLaws → (p : List ℕ) (ds : List Dataset) (c : Begun) → Reads count_octets p ds c → (text : List ℕ) → IsTextOf p text
+    → text ≡ text_so_far (object_so_far ds c)
 text_of laws p ds c reads text (whole, begun, other, is) =
     let same = one_reading laws p whole ds begun c other reads in
     is ∙ (λ i. text_so_far (object_so_far (same.whole_is i) (same.begun_is i)))
@@ -358,7 +352,8 @@ continue_alike laws limits p q place is are opens goes more =
           let before = text_so_far (object_so_far is.whole is.begun) in
           let (more_text, is_text, spoken) = adds before (is.whole, is.begun, is.reads, refl) in
           let same : more_text ≡ read.on.added =
-          append_cancel_left before more_text read.on.added (text_of laws (p ++ more) lives.whole lives.begun lives.reads (before ++ more_text) is_text ∙ read.on.here) in
+          append_cancel_left before more_text read.on.added (text_of laws (p ++ more) lives.whole lives.begun lives.reads (before ++ more_text) is_text
+          ∙ read.on.here) in
           let parts = text_of laws q are.whole are.begun are.reads text told in
           (more_text, (read.whole, read.begun, read.reads, (λ i. parts i ++ same i) ∙ sym read.on.there), spoken);
     }
@@ -370,7 +365,8 @@ cause_as p q same (NumberRead set n) =
     let more = numbers_on (record { set = set; number = n } ∷ []) same.numbers in λ i. number_cause (more.mode i) (more.announced i) (more.maximum i)
 cause_as p q same token = grind (arith, same.numbers, same.octets)
 
-head_fault_as : (limits : Limits) (ds es : List Dataset) (h : Head) → section_after ds ≡ section_after es → Twins ds es → fault_at_head limits ds h ≡ fault_at_head limits es h
+head_fault_as : (limits : Limits) (ds es : List Dataset) (h : Head) → section_after ds ≡ section_after es → Twins ds es
+    → fault_at_head limits ds h ≡ fault_at_head limits es h
 head_fault_as limits ds es h present twins =
     let seen : (n : ℕ) → occurs n (of_fields (section_after ds) ds) ≡ occurs n (of_fields (section_after es) es) =
     λ n. twins.seen.seen (section_after ds) n ∙ ap (λ (r : ℕ). occurs n (of_fields r es)) present in

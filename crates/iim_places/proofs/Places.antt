@@ -1,9 +1,8 @@
 -- Where heads and values lead the object.
 use Rattle.std.proofs.Common.{◌≡◌, ℕ, ◌+◌, ◌<◌, ◌⊎◌, true, false, if◌then◌else◌, nat_eq, List, [], ◌∷◌, ◌++◌, length, refl, ap, sym, subst, ◌∙◌, inl, inr, rules, arith, length-append}
 use Rattle.iim_places.proofs.Words.{AllByRecursion, filter-append, or_cases, eqb-true, ne_eqb, number, Dataset, head_of, of_record, Head, all_append, all_front, all_back, all_map, SectionsLive, SectionsLiveAt, tells_number, max_subfiles, MayFollow, place_after, head_token, value_token, AreObjectRecords, AreSized, place_after_datasets, DatasetsLiveWithTheirTokens, place_at, ObjectLives, LowerLaws, IsAlive, Limits, CanContinueAt, DiesAtHead, Layer}
+use Rattle.iim_places.proofs.{Objects.records_alive, Living.alive_front}
 use Rattle.iim_places.specs.declared.refusal.Layer.TheVariants as layers
-use Rattle.iim_places.proofs.Objects.{records_alive}
-use Rattle.iim_places.proofs.Living.{alive_front}
 
 -- ---- the records of datasets that are alive
 
@@ -19,7 +18,8 @@ all_ones ds r =
     (all_append _ r.r8 r.r9 (all_map _ _ r.r8 (λ x h. inr (inr (inl h.0))) r.object.each) (all_map _ _ r.r9 (λ x h. inr (inr (inr h.0))) r.confirmation.each))))
 
 pub is_one : (ds : List Dataset) (d : Dataset) → SectionsLive (ds ++ d ∷ []) → IsOne d.rec
-is_one ds d alive = let r = records_alive (ds ++ d ∷ []) alive in (all_back (λ (x : Dataset). IsOne x.rec) ds (d ∷ []) (all_front (λ (x : Dataset). IsOne x.rec) (ds ++ d ∷ []) r.0 (all_ones ((ds ++ d ∷ []) ++ r.0) r.1))).0
+is_one ds d alive = let r = records_alive (ds ++ d ∷ []) alive in (all_back (λ (x : Dataset). IsOne x.rec) ds (d ∷ [])
+    (all_front (λ (x : Dataset). IsOne x.rec) (ds ++ d ∷ []) r.0 (all_ones ((ds ++ d ∷ []) ++ r.0) r.1))).0
 
 -- ---- the place at a head
 
@@ -37,7 +37,8 @@ at_other ds h less = rw (ne_eqb h.rec 8 (λ e. omega (arith, e, less)), ne_eqb h
 
 -- what a head leads to
 abbrev pub HeadLeads : List Dataset → Head → Type 0
-HeadLeads ds h = MayFollow (place_after_datasets ds) (head_token h.rec h.count) × (place_after (place_after_datasets ds) (head_token h.rec h.count) ≡ place_at ds h)
+HeadLeads ds h = MayFollow (place_after_datasets ds) (head_token h.rec h.count)
+    × (place_after (place_after_datasets ds) (head_token h.rec h.count) ≡ place_at ds h)
 
 pub subfile_leads : LowerLaws → (ds : List Dataset) (h : Head) → SectionsLiveAt ds h → h.rec ≡ 8 → length (of_record 8 ds) < max_subfiles → HeadLeads ds h
 subfile_leads laws ds h (d, is, alive) eight few =
@@ -64,7 +65,8 @@ number_leads laws ds d alive tells =
     ]
 
 -- a value that tells no number leads nowhere else than its head
-pub silent_leads : LowerLaws → (ds : List Dataset) (d : Dataset) → SectionsLive (ds ++ d ∷ []) → tells_number d.rec ≡ false → (d.rec ≡ 8 → length (of_record 8 ds) < max_subfiles)
+pub silent_leads : LowerLaws → (ds : List Dataset) (d : Dataset) → SectionsLive (ds ++ d ∷ []) → tells_number d.rec ≡ false
+    → (d.rec ≡ 8 → length (of_record 8 ds) < max_subfiles)
     → place_at ds (head_of d) ≡ place_after_datasets (ds ++ d ∷ [])
 silent_leads laws ds d alive none few = elim (is_one ds d alive) [
   | inl less ↦ at_other ds (head_of d) less ∙ sym (laws.others ds d less)

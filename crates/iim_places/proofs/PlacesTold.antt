@@ -1,15 +1,12 @@
 -- The place that the parts of a ticket tell, and whether an envelope can be there.
 use Rattle.std.proofs.Common.{◌≡◌, ℕ, ◌+◌, ◌-◌, ◌≤◌, cond, if◌then◌else◌, Bool, List, [], ◌∷◌, length, refl, ap, sym, ◌∙◌, subst, arith, ◌++◌, codes, rules, IsTrue, get_or}
 use Rattle.iim_places.proofs.Words.{AllByRecursion, all_map, is_kept, Dataset, kept, kept_octets, IsWithin, Limits, LeadsToSaved, MessagePlace, LeadsByLayers, plain, PlacesArePossibleByLayers, RecordsLive, are_ended, begun_subfiles, one_of_some, record_datasets, Numbers, number_list, TicketsOfPlacesAreSplit, split_of, TicketsHaveOneSplit, IsSmall, IsSmallPhase, Split, IsSmallPlace, greatest_size_before, AreHeadsWithin, begun_count, begun_fields, widest, SmallPlacesWerePossible, IsTicketAt, IsLimitFault, IsRestoreFault, AreKept, IsMessageOf, numbers_told, told_datasets, IsSizeIn, HasForm, SplitsTicket, TicketsTellOnePlace, PossiblePlacesAreTaken, IsVersion, ticket_in, Form, Version, Impossible, OutOfMemory, split_octets, HeaderFull, TooManyFields, DataBegun}
+use Rattle.iim_places.proofs.{Fitting.small_size, Fitting.spelled, Plain.kept_fields}
 use Rattle.iim_fields.specs.Format.Causes.{joined}
-use Rattle.iim_places.specs.States.Readers.{AreAt, LeadsNowhereIn}
-use Rattle.iim_places.specs.States.Restored.{fields_told, octets_told}
-use Rattle.iim_places.specs.Restoring.{LeadsNowhere, AreWithinWith}
-use Rattle.iim_places.specs.Format.Tickets.{Place}
+use Rattle.iim_places.specs.{States.Readers.AreAt, States.Readers.LeadsNowhereIn, States.Restored.fields_told, States.Restored.octets_told}
+use Rattle.iim_places.specs.{Restoring.LeadsNowhere, Restoring.AreWithinWith, Format.Tickets.Place}
 use Rattle.iim_places.specs.declared.ticket.possible.Readers.{Readers}
 use Rattle.iim_places.specs.declared.ticket.fault.TicketFault.{TicketFault}
-use Rattle.iim_places.proofs.Fitting.{small_size, spelled}
-use Rattle.iim_places.proofs.Plain.{kept_fields}
 
 pub told_same : (place : Place) (numbers : Numbers) (some : Bool) → place.numbers ≡ number_list numbers
     → cond some 1 0 ≡ one_of_some (place.heads - begun_subfiles place.section place.phase)

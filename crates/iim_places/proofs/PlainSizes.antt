@@ -1,12 +1,10 @@
 -- What an object's numbers and lengths tell: the object layer lives alike with others that tell the same.
 use Rattle.std.proofs.Common.{◌≡◌, ℕ, ◌<◌, ◌≤◌, ◌↔◌, nat_eq, cond, Bool, true, false, List, [], ◌∷◌, ◌++◌, length, map, sum, Some, IfSome, refl, ap, sym, subst, ◌∙◌, arith, append-nil, if◌then◌else◌, ◌-◌, Option}
 use Rattle.iim_places.proofs.Words.{AllByRecursion, unwrap_or, IsOctet, Dataset, of_record, some_of, kept, is_kept, SubfileBegun, ObjectLanguage, number_tokens, ending_tokens, place_after_datasets, numbers_of, Stated, InRow, number_at, object_of, ObjectLives, Numbers, plain_end, ending_of, SectionsLive, section_after, number, mode_known, IsAlive, Ending, NotEnded, Ended, ConfirmedAs, HasBoth, AreStated, LowerLaws, max_subfiles, IsPossible, HaveSizes, Sizes, nil_from_length, Head, SectionsLiveAt, place_at, lengths_of}
-use Rattle.iim_dataset.proofs.Lists.{some_there}
-use Rattle.iim_object.specs.Format.Objects.{Agree, sizes_at}
-use Rattle.iim_object.specs.Laws.{NoClash, HasDuties, Fit, MeetsAnnounced}
-use Rattle.iim_places.proofs.SamePlace.{SameObject}
+use Rattle.iim_places.proofs.{SamePlace.SameObject, Tickets.total_of, Tickets.count_of, Tickets.heads_by}
 use Rattle.iim_places.proofs.SameRecords.{IsStated, SameNumbers, nines, stated_after_all, stated_at}
-use Rattle.iim_places.proofs.Tickets.{total_of, count_of, heads_by}
+use Rattle.iim_dataset.proofs.Lists.{some_there}
+use Rattle.iim_object.specs.{Format.Objects.Agree, Format.Objects.sizes_at, Laws.NoClash, Laws.HasDuties, Laws.Fit, Laws.MeetsAnnounced}
 use Rattle.iim_object.specs.Format.Objects as objects
 
 -- ---- the numbers

@@ -1,22 +1,16 @@
 -- Readers of a possible place stand where octets lead there.
 use Rattle.std.proofs.Common.{◌≡◌, ℕ, ◌+◌, ◌-◌, ◌<◌, ◌≤◌, nat_eq, if◌then◌else◌, Bool, true, false, List, [], ◌++◌, length, Option, Some, None, ap, sym, subst, ◌∙◌, arith}
 use Rattle.iim_places.proofs.Words.{AllByRecursion, Dataset, of_record, count_octets, Begun, InTag, Reads, IsKeptAs, ne_eqb, numbers_told, between, Head, DatasetPlace, SectionsLive, is_kept, kept, section_after, Limits, head_alive, place_after_datasets, NotEnded, ObjectEnded, Confirmed, place_after, max_subfiles, numbers_of, IsPossible, stated_numbers, State, text_so_far, LeadsToSaved, saved, MessagePlace, object_of, RecordsLive, begun_of_object, section, object_after, one_of_some, are_ended, begun_subfiles, LowerLaws, Numbers, number_list, plain, Phase, TagBegun, AllEnded, phase_of, place_at, CanContinue, CanContinueAt}
+use Rattle.iim_places.proofs.{AfterEnd.ended_after, ByLayers.nine_ended, ByLayers.led_at, ByLayers.ended_place, ByLayers.fewer, SameRecords.SameRecords}
+use Rattle.iim_places.proofs.{SamePlace.has_begun, SamePlace.none_present, Twins.Continues, PlainSizes.possible_at, AtPlaces.live_alive}
 use Rattle.iim_fields.specs.States.Standing as records
 use Rattle.iim_object.specs.Format.Objects as objects
 use Rattle.iim_object.specs.States.Reading as reading
 use Rattle.iim_object.specs.States.Reading.{IsAt}
 use Rattle.wire_message.specs.States.Reading as wire
-use Rattle.iim_places.proofs.AfterEnd.{ended_after}
 use Rattle.wire_message.specs.declared.place.Place.{Place as Message}
 use Rattle.wire_message.specs.declared.saved.MessagePart.TheVariants as part
-use Rattle.iim_places.specs.States.Readers.{RecordsStand, MessageStands, has_come, tag_place}
-use Rattle.iim_places.specs.Format.Tickets.{Place}
-use Rattle.iim_places.proofs.ByLayers.{nine_ended, led_at, ended_place, fewer}
-use Rattle.iim_places.proofs.SamePlace.{has_begun, none_present}
-use Rattle.iim_places.proofs.SameRecords.{SameRecords}
-use Rattle.iim_places.proofs.Twins.{Continues}
-use Rattle.iim_places.proofs.PlainSizes.{possible_at}
-use Rattle.iim_places.proofs.AtPlaces.{live_alive}
+use Rattle.iim_places.specs.{States.Readers.RecordsStand, States.Readers.MessageStands, States.Readers.has_come, States.Readers.tag_place, Format.Tickets.Place}
 
 -- ---- the records
 
@@ -25,8 +19,10 @@ pub record Like (es ds : List Dataset) : Type 0 where
   pub kept_are : kept es ≡ kept ds
   pub same : SameRecords es ds
 
-pub like : LowerLaws → (fields : List Dataset) (numbers : Numbers) (some : ℕ) (ended : Bool) (ds : List Dataset) → AllByRecursion (λ (d : Dataset). is_kept d.rec ≡ true) fields
-    → number_list numbers ≡ stated_numbers (numbers_of (of_record 7 ds)) → SectionsLive (plain fields numbers (one_of_some some) [] ended) → SectionsLive ds → length (of_record 8 ds) ≤ max_subfiles → fields ≡ kept ds
+pub like : LowerLaws → (fields : List Dataset) (numbers : Numbers) (some : ℕ) (ended : Bool) (ds : List Dataset)
+    → AllByRecursion (λ (d : Dataset). is_kept d.rec ≡ true) fields
+    → number_list numbers ≡ stated_numbers (numbers_of (of_record 7 ds)) → SectionsLive (plain fields numbers (one_of_some some) [] ended) → SectionsLive ds
+    → length (of_record 8 ds) ≤ max_subfiles → fields ≡ kept ds
     → some ≡ length (of_record 8 ds) → nat_eq (section_after ds) 9 ≡ ended → Like (plain fields numbers (one_of_some some) [] ended) ds
 like laws fields numbers some ended ds keeps same alive there few fields_are some_are ended_is =
     let c : Continues ds (plain fields numbers (one_of_some some) [] ended) =
@@ -36,14 +32,16 @@ like laws fields numbers some ended ds keeps same alive there few fields_are som
 -- ---- the message
 
 -- where octets lead to the place after EOT, they are a whole message
-pub ended_reader : LowerLaws → (reader : Option Message) (place : Place) (o text : List ℕ) → MessageStands reader place → LeadsToSaved o text place.message → place.message.part ≡ part.AfterEnd → wire.IsWhole reader
+pub ended_reader : LowerLaws → (reader : Option Message) (place : Place) (o text : List ℕ) → MessageStands reader place → LeadsToSaved o text place.message
+    → place.message.part ≡ part.AfterEnd → wire.IsWhole reader
 ended_reader laws reader place o text stands leads last =
     let (at, is, here) = stands o text leads in
     let one = (laws.one_place o text text at leads.0 here leads.1).1 in
     let ended = ended_after at (ap (λ (m : Message). (saved m).part) one ∙ ap (λ (m : MessagePlace). m.part) leads.2 ∙ last) in
     grind (arith, is, ended)
 
-pub text_led : LowerLaws → (reader : Option Message) (place : Place) (o text : List ℕ) → MessageStands reader place → LeadsToSaved o text place.message → wire.StandsAt reader o (text_so_far o)
+pub text_led : LowerLaws → (reader : Option Message) (place : Place) (o text : List ℕ) → MessageStands reader place → LeadsToSaved o text place.message
+    → wire.StandsAt reader o (text_so_far o)
 text_led laws reader place o text stands leads =
     rw (laws.texts o text leads.0 leads.1) at (stands o text leads)
 
@@ -54,31 +52,40 @@ abbrev pub TagPhase : Bool → List ℕ → Phase
 TagPhase b held = if b then AllEnded else TagBegun held
 
 pub base_tag : (b : Bool) (section heads : ℕ) (held : List ℕ) (fields : List Dataset) (numbers : Numbers)
-    → plain fields numbers (one_of_some (heads - begun_subfiles section (TagPhase b held))) [] (are_ended (TagPhase b held)) ≡ plain fields numbers (one_of_some heads) [] b
+    → plain fields numbers (one_of_some (heads - begun_subfiles section (TagPhase b held))) [] (are_ended (TagPhase b held)) ≡ plain fields numbers
+    (one_of_some heads) [] b
 base_tag b section heads held fields numbers = grind arith
 
 pub live_tag : (b : Bool) (section : ℕ) (held : List ℕ) (ds : List Dataset) → RecordsLive section (TagPhase b held) ds → SectionsLive ds
 live_tag b section held ds live = live_alive section (TagPhase b held) ds live
 
-pub stand_tag : (b : Bool) (fields : records.FieldsPlace) (section : ℕ) (held : List ℕ) (ds : List Dataset) → RecordsStand fields section (TagPhase b held) ds → records.StandsAfter fields ds
+pub stand_tag : (b : Bool) (fields : records.FieldsPlace) (section : ℕ) (held : List ℕ) (ds : List Dataset) → RecordsStand fields section (TagPhase b held) ds
+    → records.StandsAfter fields ds
 stand_tag b fields section held ds stand = grind arith
 
-pub present_tag : (b : Bool) (section : ℕ) (held : List ℕ) (ds : List Dataset) → nat_eq (section_after ds) 9 ≡ b → RecordsLive section (TagPhase b held) ds → section_after ds ≡ section
+pub present_tag : (b : Bool) (section : ℕ) (held : List ℕ) (ds : List Dataset) → nat_eq (section_after ds) 9 ≡ b → RecordsLive section (TagPhase b held) ds
+    → section_after ds ≡ section
 present_tag b section held ds ended live = grind arith
 
 pub object_tag : (b : Bool) (reader : Option State) (numbers : List (Option ℕ)) (section taken heads : ℕ) (held : List ℕ) (p q : objects.Place)
-    → ((p : objects.Place) → IsAt numbers taken (begun_of_object section (TagPhase b held)) heads p → IsPossible (object_after section (TagPhase b held) taken p) → reading.StandsAt reader (object_after section (TagPhase b held) taken p))
-    → IsAt numbers taken None heads p → (if b then place_after (place_after p ObjectEnded) (Confirmed taken) else p) ≡ q → IsPossible q → reading.StandsAt reader q
+    → ((p : objects.Place) → IsAt numbers taken (begun_of_object section (TagPhase b held)) heads p
+    → IsPossible (object_after section (TagPhase b held) taken p) → reading.StandsAt reader (object_after section (TagPhase b held) taken p))
+    → IsAt numbers taken None heads p → (if b then place_after (place_after p ObjectEnded) (Confirmed taken) else p) ≡ q → IsPossible q
+    → reading.StandsAt reader q
 object_tag b reader numbers section taken heads held p q stands at is possible = grind arith
 
 pub ending_tag : LowerLaws → (limits : Limits) (ds : List Dataset) → CanContinue limits ds → (b : Bool) → nat_eq (section_after ds) 9 ≡ b
-    → (if b then place_after (place_after (record (place_after_datasets ds) { ending = NotEnded }) ObjectEnded) (Confirmed (length (object_of ds))) else record (place_after_datasets ds) { ending = NotEnded }) ≡ place_after_datasets ds
+    → (if b then place_after (place_after (record (place_after_datasets ds) { ending = NotEnded }) ObjectEnded) (Confirmed (length (object_of ds))) else
+    record (place_after_datasets ds) { ending = NotEnded }) ≡ place_after_datasets ds
 ending_tag laws limits ds goes true is = ended_place laws ds true is goes.records goes.within.subfiles goes.object
 ending_tag laws limits ds goes false is = ended_place laws ds false is goes.records goes.within.subfiles goes.object
 
-pub object_data : LowerLaws → (limits : Limits) (reader : Option State) (ds : List Dataset) (h : Head) (xs : List ℕ) → CanContinueAt limits ds h → nat_eq (section_after ds) 9 ≡ false → length xs < h.count
-    → ((p : objects.Place) → IsAt (stated_numbers (numbers_of (of_record 7 ds))) (length (object_of ds ++ (if nat_eq h.rec 8 then xs else []))) (if nat_eq h.rec 8 then Some (h.count, h.count - length xs) else None)
-    (length (of_record 8 ds) + (if nat_eq h.rec 8 then 1 else 0)) p → IsPossible (if nat_eq h.rec 9 then place_after p ObjectEnded else p) → reading.StandsAt reader (if nat_eq h.rec 9 then place_after p ObjectEnded else p))
+pub object_data : LowerLaws → (limits : Limits) (reader : Option State) (ds : List Dataset) (h : Head) (xs : List ℕ) → CanContinueAt limits ds h
+    → nat_eq (section_after ds) 9 ≡ false → length xs < h.count
+    → ((p : objects.Place) → IsAt (stated_numbers (numbers_of (of_record 7 ds))) (length (object_of ds ++ (if nat_eq h.rec 8 then xs else [])))
+    (if nat_eq h.rec 8 then Some (h.count, h.count - length xs) else None)
+    (length (of_record 8 ds) + (if nat_eq h.rec 8 then 1 else 0)) p → IsPossible (if nat_eq h.rec 9 then place_after p ObjectEnded else p)
+    → reading.StandsAt reader (if nat_eq h.rec 9 then place_after p ObjectEnded else p))
     → reading.StandsAt reader (place_at ds h)
 object_data laws limits reader ds h xs goes open' less stands =
     let none = nine_ended laws ds (head_alive ds h goes.records) open' in
@@ -88,18 +95,22 @@ object_data laws limits reader ds h xs goes open' less stands =
 
 -- ---- the reader of tags
 
-keeps_tag : (b : Bool) (place : DatasetPlace) (section : ℕ) (held : List ℕ) → b ≡ false → place ≡ tag_place section (TagPhase b held) → IsKeptAs place (InTag held)
+keeps_tag : (b : Bool) (place : DatasetPlace) (section : ℕ) (held : List ℕ) → b ≡ false → place ≡ tag_place section (TagPhase b held)
+    → IsKeptAs place (InTag held)
 keeps_tag b place section held e is = grind arith
 
-pub keeps : (place : DatasetPlace) (p : List ℕ) (ds : List Dataset) (b : Begun) → Reads count_octets p ds b → nat_eq (section_after ds) 9 ≡ false → place ≡ tag_place (section ds b) (phase_of ds b) → IsKeptAs place b
+pub keeps : (place : DatasetPlace) (p : List ℕ) (ds : List Dataset) (b : Begun) → Reads count_octets p ds b → nat_eq (section_after ds) 9 ≡ false
+    → place ≡ tag_place (section ds b) (phase_of ds b) → IsKeptAs place b
 keeps place p ds b reads open' is = grind (arith, keeps_tag)
 
 -- ---- whether an octet has come
 
-come_tag : (b : Bool) (ds : List Dataset) (held : List ℕ) → b ≡ false → SectionsLive ds → has_come (section_after ds) (TagPhase b held) ≡ has_begun ds (InTag held)
+come_tag : (b : Bool) (ds : List Dataset) (held : List ℕ) → b ≡ false → SectionsLive ds
+    → has_come (section_after ds) (TagPhase b held) ≡ has_begun ds (InTag held)
 come_tag b ds held e alive = grind (arith, none_present, ne_eqb)
 
-pub come : (p : List ℕ) (ds : List Dataset) (b : Begun) → Reads count_octets p ds b → nat_eq (section_after ds) 9 ≡ false → SectionsLive ds → has_come (section ds b) (phase_of ds b) ≡ has_begun ds b
+pub come : (p : List ℕ) (ds : List Dataset) (b : Begun) → Reads count_octets p ds b → nat_eq (section_after ds) 9 ≡ false → SectionsLive ds
+    → has_come (section ds b) (phase_of ds b) ≡ has_begun ds b
 come p ds b reads open' alive = grind (arith, come_tag)
 
 pub between_tag : (b : Bool) (place : DatasetPlace) (section : ℕ) → b ≡ true → place ≡ tag_place section (TagPhase b []) → place ≡ between

@@ -1,7 +1,8 @@
 -- Octets of one place: what stands on the one stands on the other.
 use Rattle.std.proofs.Common.{◌≡◌, ℕ, ◌+◌, Bool, true, false, if◌then◌else◌, ◌==◌, nat_eq, List, [], ◌∷◌, ◌++◌, length, sum, Option, refl, sym, subst, ◌∙◌, arith, length-append}
 use Rattle.iim_places.proofs.Words.{Octets, Dataset, head_of, of_record, count_octets, Begun, InTag, InData, Reads, IsKeptAs, Head, ne_eqb, DatasetPlace, sum_append, HasChecked, HasTaken, kept, section_after, SectionsLive, SectionsLiveAt, ValuesDieWithTheirFault, Limits, RecordPlace, last_more, SubfileBegun, numbers_of, place_after_datasets, place_ended, State, stated_numbers, text_so_far, LeadsToSaved, MessagePlace, object_of, LowerLaws, place_at, ObjectLives, object_so_far, section, AllCanContinue, IsOpen, are_some, phase_of, heads_of}
-use Rattle.iim_places.proofs.Plain.{last_none}
+use Rattle.iim_places.proofs.{Plain.last_none, Following.alive_of, Lasts.last_sections, Tickets.count_of, Tickets.total_of, Answering.open_at}
+use Rattle.iim_places.proofs.SameRecords.{SameRecords, SameFields, SameNumbers, IsStated, same_more, same_numbers, none_other}
 use Rattle.iim_fields.specs.States.Standing as records
 use Rattle.iim_fields.specs.declared.order.Order.{Order}
 use Rattle.iim_object.specs.Format.Objects as objects
@@ -9,11 +10,6 @@ use Rattle.iim_object.specs.States.Reading as reading
 use Rattle.wire_message.specs.States.Reading as wire
 use Rattle.wire_message.specs.States.Reading.{LeadsTo}
 use Rattle.wire_message.specs.declared.place.Place.{Place as Message}
-use Rattle.iim_places.proofs.Following.{alive_of}
-use Rattle.iim_places.proofs.Lasts.{last_sections}
-use Rattle.iim_places.proofs.Tickets.{count_of, total_of}
-use Rattle.iim_places.proofs.SameRecords.{SameRecords, SameFields, SameNumbers, IsStated, same_more, same_numbers, none_other}
-use Rattle.iim_places.proofs.Answering.{open_at}
 
 -- ---- what is begun
 
@@ -33,7 +29,8 @@ abbrev pub HeldAlike : List Dataset → Begun → Begun → Type 0
 HeldAlike ds (InTag x) (InTag y) = nat_eq (section_after ds) 9 ≡ true → x ≡ y
 HeldAlike ds b c = Unit {0}
 
-pub same_begun : (p q : List ℕ) (ds es : List Dataset) (c d : Begun) → Reads count_octets p ds c → Reads count_octets q es d → section ds c ≡ section es d → phase_of ds c ≡ phase_of es d → HeldAlike ds c d → SameBegun c d
+pub same_begun : (p q : List ℕ) (ds es : List Dataset) (c d : Begun) → Reads count_octets p ds c → Reads count_octets q es d → section ds c ≡ section es d
+    → phase_of ds c ≡ phase_of es d → HeldAlike ds c d → SameBegun c d
 same_begun p q ds es c d r s sec e held = grind arith
 
 -- ---- the records
@@ -41,14 +38,17 @@ same_begun p q ds es c d r s sec e held = grind arith
 same_tells : (o : Order) (ds es : List Dataset) → records.IsOrderOf o ds → section_after ds ≡ section_after es → SameRecords ds es → records.IsOrderOf o es
 same_tells o ds es t is s = grind arith
 
-checked_as : (check : Option RecordPlace) (ds es : List Dataset) → HasChecked check ds → SectionsLive es → section_after ds ≡ section_after es → SameRecords ds es → HasChecked check es
+checked_as : (check : Option RecordPlace) (ds es : List Dataset) → HasChecked check ds → SectionsLive es → section_after ds ≡ section_after es
+    → SameRecords ds es → HasChecked check es
 checked_as check ds es at alive present same = grind arith
 
 -- the record layer lives with a value that lived after datasets of the same records
-pub value_as : ValuesDieWithTheirFault → (ds es : List Dataset) (d : Dataset) → Octets d.octets → SectionsLive (ds ++ d ∷ []) → SectionsLiveAt es (head_of d) → SectionsLive (es ++ d ∷ [])
+pub value_as : ValuesDieWithTheirFault → (ds es : List Dataset) (d : Dataset) → Octets d.octets → SectionsLive (ds ++ d ∷ []) → SectionsLiveAt es (head_of d)
+    → SectionsLive (es ++ d ∷ [])
 value_as law ds es d octets alive at = (law es d at octets).0 ((law ds d (d, refl, alive) octets).1 alive)
 
-taken_as : ValuesDieWithTheirFault → (check : Option RecordPlace) (ds es : List Dataset) (h : Head) → HasTaken check ds h → SectionsLiveAt es h → SameRecords ds es → HasTaken check es h
+taken_as : ValuesDieWithTheirFault → (check : Option RecordPlace) (ds es : List Dataset) (h : Head) → HasTaken check ds h → SectionsLiveAt es h
+    → SameRecords ds es → HasTaken check es h
 taken_as law check ds es h at alive same =
     let present : (d : Dataset) → section_after (ds ++ d ∷ []) ≡ section_after (es ++ d ∷ []) = λ d. last_more 0 ds d ∙ sym (last_more 0 es d) in
     record {
@@ -59,10 +59,12 @@ taken_as law check ds es h at alive same =
           checked_as check (ds ++ d ∷ []) (es ++ d ∷ []) was lives (present d) (same_more ds es d d refl same);
     }
 
-pub fields_after : (fields : records.FieldsPlace) (ds es : List Dataset) → records.StandsAfter fields ds → SectionsLive es → section_after ds ≡ section_after es → kept ds ≡ kept es → SameRecords ds es → records.StandsAfter fields es
+pub fields_after : (fields : records.FieldsPlace) (ds es : List Dataset) → records.StandsAfter fields ds → SectionsLive es
+    → section_after ds ≡ section_after es → kept ds ≡ kept es → SameRecords ds es → records.StandsAfter fields es
 fields_after fields ds es at alive present keeps same = grind arith
 
-pub fields_in : ValuesDieWithTheirFault → (fields : records.FieldsPlace) (ds es : List Dataset) (h : Head) (taken : List ℕ) → records.StandsIn fields ds h taken → SectionsLiveAt es h → kept ds ≡ kept es → SameRecords ds es
+pub fields_in : ValuesDieWithTheirFault → (fields : records.FieldsPlace) (ds es : List Dataset) (h : Head) (taken : List ℕ)
+    → records.StandsIn fields ds h taken → SectionsLiveAt es h → kept ds ≡ kept es → SameRecords ds es
     → records.StandsIn fields es h taken
 fields_in law fields ds es h taken at alive keeps same = grind (arith, taken_as)
 
@@ -74,7 +76,8 @@ pub record SameObject (p q : objects.Place) : Type 0 where
   pub heads : length p.lengths ≡ length q.lengths
   pub octets : sum p.lengths ≡ sum q.lengths
 
-pub object_as : (reader : Option State) (p q : objects.Place) → reading.StandsAt reader p → SameObject p q → IsStated q → ObjectLives q → reading.StandsAt reader q
+pub object_as : (reader : Option State) (p q : objects.Place) → reading.StandsAt reader p → SameObject p q → IsStated q → ObjectLives q
+    → reading.StandsAt reader q
 object_as reader p q at same is lives = grind arith
 
 -- the datasets have the same fields, and objects of the same length
@@ -97,7 +100,8 @@ object_at_as ds es h same = object_at ds es h (object_lives_after_as ds es same)
 
 -- ---- the message
 
-pub message_as : LowerLaws → (reader : Option Message) (o r t v : List ℕ) (m : Message) → wire.StandsAt reader o (text_so_far o) → LeadsTo o t m → LeadsTo r v m → wire.StandsAt reader r (text_so_far r)
+pub message_as : LowerLaws → (reader : Option Message) (o r t v : List ℕ) (m : Message) → wire.StandsAt reader o (text_so_far o) → LeadsTo o t m
+    → LeadsTo r v m → wire.StandsAt reader r (text_so_far r)
 message_as laws reader o r t v m at here there = grind arith
 
 -- Both have led the message to one place.
@@ -139,7 +143,8 @@ pub record SameAll (ds es : List Dataset) (c d : Begun) : Type 0 where
   pub heads : heads_of ds c ≡ heads_of es d
   pub message : SameMessage (object_so_far ds c) (object_so_far es d)
 
-pub total_as : (b : Bool) (o r xs ys : List ℕ) → length xs ≡ length ys → length (o ++ (if b then xs else [])) ≡ length (r ++ (if b then ys else [])) → length o ≡ length r
+pub total_as : (b : Bool) (o r xs ys : List ℕ) → length xs ≡ length ys → length (o ++ (if b then xs else [])) ≡ length (r ++ (if b then ys else []))
+    → length o ≡ length r
 total_as b o r xs ys many e = grind (arith, length-append)
 
 pub count_as : (x y one : ℕ) → x + one ≡ y + one → x ≡ y
@@ -164,5 +169,6 @@ opened laws limits p ds c r is =
 pub held_open : (ds : List Dataset) (c d : Begun) → nat_eq (section_after ds) 9 ≡ false → HeldAlike ds c d
 held_open ds c d none = grind arith
 
-pub has_as : (ds es : List Dataset) (c d : Begun) → SameBegun c d → SectionsLive ds → SectionsLive es → section ds c ≡ section es d → has_begun ds c ≡ has_begun es d
+pub has_as : (ds es : List Dataset) (c d : Begun) → SameBegun c d → SectionsLive ds → SectionsLive es → section ds c ≡ section es d
+    → has_begun ds c ≡ has_begun es d
 has_as ds es c d same a b sec = grind (arith, none_present)

@@ -1,13 +1,11 @@
 -- Datasets of one place have the same numbers in each record.
 use Rattle.std.proofs.Common.{◌≡◌, ℕ, ◌<◌, ◌≤◌, Bool, true, false, cond, nat_eq, List, [], ◌∷◌, ◌++◌, length, is_some, None, refl, ap, sym, subst, ◌∙◌, inl, ◌&&◌, inr, arith}
 use Rattle.iim_places.proofs.Words.{AllByRecursion, eqb-true, ne_eqb, filter-append, list_any-append, number, Dataset, head_alive, tells_number, value_token, head_of, of_record, Head, all_front, records, IsGoodDataset, occurs, SectionsLive, SectionsLiveAt, section_after, kept, is_kept, by_record, max_subfiles, Stated, InRow, AreStated, number_at, numbers_of, ObjectToken, NotEnded, HasBoth, MayFollow, place_after, head_token, place_after_datasets, stated_numbers, one_of_some, place_at, LowerLaws, all_map}
-use Rattle.iim_object.specs.Format.Objects.{Place}
-use Rattle.iim_places.proofs.SizeRows.{HasTen, Unstated, by_number, by_ten, eight_has, nine_has}
+use Rattle.iim_places.proofs.{SizeRows.HasTen, SizeRows.Unstated, SizeRows.by_number, SizeRows.by_ten, SizeRows.eight_has, SizeRows.nine_has, Plain.filter_none}
 use Rattle.iim_places.proofs.Places.{one_more, is_one, at_other, at_number, subfile_leads, end_leads, HeadLeads, number_leads, silent_leads}
-use Rattle.iim_places.proofs.Bounds.{each_in, by_last}
+use Rattle.iim_places.proofs.{Bounds.each_in, Bounds.by_last, Taking.each_good}
+use Rattle.iim_object.specs.Format.Objects.{Place}
 pub use Rattle.iim_places.proofs.Bounds.{nines}
-use Rattle.iim_places.proofs.Plain.{filter_none}
-use Rattle.iim_places.proofs.Taking.{each_good}
 
 -- The datasets have the same numbers in each record.
 pub record SameRecords (ds es : List Dataset) : Type 0 where
@@ -66,7 +64,8 @@ stated_after_all laws =
     (λ xs d alive is few.
     let more = one_more xs d in stated_step laws xs d alive (λ eight. grind (arith, few, more, eight)) (is (omega (arith, few, more))))
 
-pub stated_at : LowerLaws → (ds : List Dataset) (h : Head) → SectionsLiveAt ds h → length (of_record 8 ds) ≤ max_subfiles → (h.rec ≡ 8 → length (of_record 8 ds) < max_subfiles) → IsStated (place_at ds h)
+pub stated_at : LowerLaws → (ds : List Dataset) (h : Head) → SectionsLiveAt ds h → length (of_record 8 ds) ≤ max_subfiles
+    → (h.rec ≡ 8 → length (of_record 8 ds) < max_subfiles) → IsStated (place_at ds h)
 stated_at laws ds h at few room = stated_head laws ds h at room (stated_after_all laws ds (head_alive ds h at) few)
 
 -- a number occurs where it is stated
@@ -138,7 +137,8 @@ SameIn ds es r = (n : ℕ) → occurs n (of_record r ds) ≡ occurs n (of_record
 same_kept : (ds es : List Dataset) (r : ℕ) → is_kept r ≡ true → kept ds ≡ kept es → SameIn ds es r
 same_kept ds es r is same n = grind (arith, of_kept)
 
-pub same_records : LowerLaws → (ds es : List Dataset) → SectionsLive ds → SectionsLive es → length (of_record 8 ds) ≤ max_subfiles → length (of_record 8 es) ≤ max_subfiles → SameFields ds es
+pub same_records : LowerLaws → (ds es : List Dataset) → SectionsLive ds → SectionsLive es → length (of_record 8 ds) ≤ max_subfiles
+    → length (of_record 8 es) ≤ max_subfiles → SameFields ds es
     → SameRecords ds es
 same_records laws ds es a b few less same =
     let tens = tens_after ds a in

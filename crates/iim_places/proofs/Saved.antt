@@ -1,12 +1,10 @@
 -- What a ticket is restored to stands where the saved unpacker stood; and octets have a place.
 use Rattle.std.proofs.Common.{◌≡◌, ℕ, ◌<◌, ◌^◌, List, [], get_or, ap, refl, sym, subst, ◌∙◌, inr, arith, append-nil}
 use Rattle.iim_places.proofs.Words.{Dataset, Begun, Limits, saved, Value, OctetsHaveOnePlace, TicketsTellOnePlace, LowerLaws, object_so_far, IsOpen, AreOpenOrWhole, widest, IsPossibleIn, IsTicketAt, IsEnvelopeWithin, IsPlaceOf, present_version, place_of, ticket_in, ticket_of, MayContinue, AllCanContinue}
+use Rattle.iim_places.proofs.{Answering.lives_as, Answering.one_reading, Following.message_of, Following.story_of, Tickets.same_place}
 use Rattle.wire_message.specs.States.Reading.{LeadsTo}
 use Rattle.wire_message.specs.declared.place.Place.{Place as Message}
 use Rattle.iim_places.specs.Format.Tickets.{Place}
-use Rattle.iim_places.proofs.Answering.{lives_as, one_reading}
-use Rattle.iim_places.proofs.Following.{message_of, story_of}
-use Rattle.iim_places.proofs.Tickets.{same_place}
 
 -- ---- the place of octets
 
@@ -24,12 +22,14 @@ one_place laws start begins limits octets comes =
       record { whole = ds; begun = b; reads = lives.reads; text = text; message = saved at; leads = (at, led, refl); is_place = refl },
       λ other is.
           let same = one_reading laws octets is.whole ds is.begun b is.reads lives.reads in
-          is.is_place ∙ same_place laws.one_place is.whole ds is.begun b is.message (saved at) is.text text same.whole_is same.begun_is is.leads (at, led, refl),
+          is.is_place ∙ same_place laws.one_place is.whole ds is.begun b is.message (saved at) is.text text same.whole_is same.begun_is is.leads
+          (at, led, refl),
     )
 
 -- ---- under wider limits
 
-goes_wider : (limits : Limits) (ds : List Dataset) (b : Begun) → limits.octets < 2 ^ 32 → limits.fields < 2 ^ 32 → MayContinue limits ds b → MayContinue widest ds b
+goes_wider : (limits : Limits) (ds : List Dataset) (b : Begun) → limits.octets < 2 ^ 32 → limits.fields < 2 ^ 32 → MayContinue limits ds b
+    → MayContinue widest ds b
 goes_wider limits ds b less few goes = grind (arith, less, few, goes)
 
 pub open_wider : (limits : Limits) (octets : List ℕ) → limits.octets < 2 ^ 32 → limits.fields < 2 ^ 32 → IsOpen limits octets → IsOpen widest octets
@@ -38,13 +38,15 @@ open_wider limits octets less few opens =
     let goes : AllCanContinue widest opens.whole opens.begun = assumption sizes in
     record { whole = opens.whole; begun = opens.begun; reads = opens.reads; leads_on = goes; unfinished = opens.unfinished }
 
-pub whole_wider : (limits : Limits) (octets : List ℕ) (v : Value) → limits.octets < 2 ^ 32 → limits.fields < 2 ^ 32 → IsEnvelopeWithin limits octets v → IsEnvelopeWithin widest octets v
+pub whole_wider : (limits : Limits) (octets : List ℕ) (v : Value) → limits.octets < 2 ^ 32 → limits.fields < 2 ^ 32 → IsEnvelopeWithin limits octets v
+    → IsEnvelopeWithin widest octets v
 whole_wider limits octets v less few whole = record { admits = whole.admits; within = grind (arith, less, few, whole.within) }
 
 -- ---- the restored unpacker
 
 -- the place of octets is the one that their ticket is restored to
-pub at_restored : TicketsTellOnePlace → (p ticket : List ℕ) (here there : Place) → IsPlaceOf p here → AreOpenOrWhole widest p → ticket ≡ ticket_of here → IsTicketAt ticket there → IsPlaceOf p there
+pub at_restored : TicketsTellOnePlace → (p ticket : List ℕ) (here there : Place) → IsPlaceOf p here → AreOpenOrWhole widest p → ticket ≡ ticket_of here
+    → IsTicketAt ticket there → IsPlaceOf p there
 at_restored one p ticket here there is comes left right =
     let at : right.version ≡ present_version = ap (λ (xs : List ℕ). get_or xs 4 0) (sym right.spelled ∙ left) in
     let possible : IsPossibleIn present_version there = subst (λ (v : ℕ). IsPossibleIn v there) at right.possible in

@@ -1,26 +1,18 @@
 -- Places that were possible by smaller sizes, and by the sizes that there are.
 use Rattle.std.proofs.Common.{◌≡◌, ◌&&◌, nat_lt, ℕ, ◌-◌, ◌≤◌, nat_eq, if◌then◌else◌, Bool, true, false, List, [], ◌∷◌, ◌++◌, length, map, sum, refl, ap, sym, subst, ◌∙◌, inl, inr, arith, ◌^◌, ◌<◌, append-nil, length-append, ◌⊎◌, ◌||◌}
 use Rattle.iim_places.proofs.Words.{IsLongField, AllByRecursion, eqb-true, Dataset, SpellsDataset, SpellsStream, count_octets, head_of, of_record, IsAlive, Begun, InTag, InData, IsBegun, Reads, Head, all_front, all_back, section_after, tells_number, SubfileBegun, ObjectEnded, Confirmed, number_tokens, numbers_of, Stated, TokensWithin, LanguageWithin, LowerLaws, object_of, AreWithin, object_so_far, section, Possible, IsSmall, IsSmallPhase, IsSmallPlace, greatest_size_before, widest, Scale, FitsRow, SectionsLiveIn, HaveRoomIn, IsOpenIn, PossibleAt, place_in, first_scale, IsPlaceOf, phase_of, MayContinue, unwrap_or, lt-ltb, IsOctet, SpellsTag, canonical_tag, canonical_dataset, canonical_stream, all_append, all_map, HasSpellings, AreSections, place_after_datasets, number_dataset, ending_tokens, within_append, begun_within, SmallPlacesWerePossible, Numbers, number_list, plain_numbers, plain, within, greatest_size, within_most_and, Meets, IsGoodDataset, SectionsIn, PresentScaleSaysNothingMore, present_scale, AreKept, LeadsByLayers, are_ended, nat_tests, map-append, IsGoodRecord, occurs, occurrences, occurrences_cons, mandatory, AreRecords, records, good_elsewhere, place_at, BeginsTag, IsWholeIn, LeadsToSaved, MessagePlace, AllCanContinue}
-use Rattle.iim_places.specs.Format.Tickets.{Place}
-use Rattle.iim_places.proofs.Answering.{reads_envelope, coming}
-use Rattle.iim_places.proofs.Bounds.{told_in, part_of_whole, object_fits, sized, low}
+use Rattle.iim_places.proofs.{Answering.reads_envelope, Answering.coming, Bounds.told_in, Bounds.part_of_whole, Bounds.object_fits, Bounds.sized, Bounds.low}
 use Rattle.iim_places.proofs.Fitting.{each_fits, reads_of, begins_tag, so_far_fits, lives_in, four_at, low_count}
-use Rattle.iim_places.proofs.SamePlace.{at_tests}
-use Rattle.iim_places.proofs.SmallTags.{wider_tag, small_tag}
+use Rattle.iim_places.proofs.{SamePlace.at_tests, SmallTags.wider_tag, SmallTags.small_tag, Tickets.so_far_by, Tickets.total_of, Tickets.stated_by}
 use Rattle.iim_places.proofs.ByLayers.{layers_open, possible_in, leads_by_layers, Opens, ended_heads, plain_of}
-use Rattle.iim_places.proofs.Tickets.{so_far_by, total_of, stated_by}
+use Rattle.iim_places.proofs.{Following.within_of, Following.alive_of, Plain.numbers_each, Plain.parts_each, Plain.end_each, Plain.present_ended}
+use Rattle.iim_places.proofs.{SizeRows.by_ten, SizeRows.eight_has, Taking.each_good, AfterEnd.WholeMessage, AfterEnd.ended_after, AfterEnd.ended_at}
+use Rattle.iim_places.proofs.{Twins.enveloped, Twins.value_of, ObjectOctets.lives_whole, Lasts.sections_last}
+use Rattle.iim_places.specs.Format.Tickets.{Place}
 use Rattle.iim_fields.specs.Format.Causes.{joined}
 use Rattle.iim_object.specs.Laws.{PlacesLiveWithin}
-use Rattle.iim_places.proofs.Following.{within_of, alive_of}
-use Rattle.iim_places.proofs.Plain.{numbers_each, parts_each, end_each, present_ended}
 use Rattle.iim_tables.specs.Format.Rows.{table, row_of}
-use Rattle.iim_places.proofs.SizeRows.{by_ten, eight_has}
-use Rattle.iim_places.proofs.Taking.{each_good}
 use Rattle.iim_object.specs.Format.Objects as objects
-use Rattle.iim_places.proofs.AfterEnd.{WholeMessage, ended_after, ended_at}
-use Rattle.iim_places.proofs.Twins.{enveloped, value_of}
-use Rattle.iim_places.proofs.ObjectOctets.{lives_whole}
-use Rattle.iim_places.proofs.Lasts.{sections_last}
 
 -- ---- spellings with shorter counts
 
@@ -68,7 +60,8 @@ stated_low s r told [] all = tt
 stated_low s r told (d ∷ ds) all = grind (arith, stated_low s r told ds all.1, all.0, eqb-true)
 
 -- the confirmed size is the last token
-confirmed_low : (most : ℕ) (ps : List Stated) (ls : List ℕ) (n : ℕ) → TokensWithin most (number_tokens ps ++ (map SubfileBegun ls ++ (ObjectEnded ∷ Confirmed n ∷ []))) → n ≤ most
+confirmed_low : (most : ℕ) (ps : List Stated) (ls : List ℕ) (n : ℕ)
+    → TokensWithin most (number_tokens ps ++ (map SubfileBegun ls ++ (ObjectEnded ∷ Confirmed n ∷ []))) → n ≤ most
 confirmed_low most [] [] n all = all.0
 confirmed_low most [] (l ∷ ls) n all = confirmed_low most [] ls n all
 confirmed_low most (p ∷ ps) ls n all = confirmed_low most ps ls n all.1
@@ -79,7 +72,8 @@ total_low most p (rest, (lang, within)) =
     let all = confirmed_low most lang.stated lang.lengths lang.confirmed (rw lang.tokens_are at within) in
     omega (arith, all, (part_of_whole p (rest, lang)).1, lang.agree.as_confirmed)
 
-small_phase : (octets : List ℕ) (ds : List Dataset) (b : Begun) → Reads 4 octets ds b → SectionsLiveIn first_scale ds b → sum (place_in ds b).lengths ≤ greatest_size_before
+small_phase : (octets : List ℕ) (ds : List Dataset) (b : Begun) → Reads 4 octets ds b → SectionsLiveIn first_scale ds b
+    → sum (place_in ds b).lengths ≤ greatest_size_before
     → IsSmallPhase (section ds b) (length (object_so_far ds b)) (phase_of ds b)
 small_phase octets ds (InTag held) reads alive low = grind (arith, begins_tag 4 octets ds held reads)
 small_phase octets ds (InData h taken) reads (d, head, alive) low =
@@ -191,7 +185,8 @@ few_stream : (ds : List Dataset) → AllByRecursion HasSpellings ds → AllByRec
 few_stream [] all few = refl
 few_stream (d ∷ ds) all few =
     let tag = few_tag (head_of d) all.0.rec all.0.set few.0.0 in
-    let first : SpellsDataset 4 d (canonical_dataset d) = grind (arith, tag, all.0) in (canonical_dataset d, canonical_stream ds, first, few_stream ds all.1 few.1, refl)
+    let first : SpellsDataset 4 d (canonical_dataset d) = grind
+    (arith, tag, all.0) in (canonical_dataset d, canonical_stream ds, first, few_stream ds all.1 few.1, refl)
 
 -- ---- plain datasets are short
 
@@ -306,7 +301,8 @@ possible_by laws law s place l p k =
     }
 
 -- how many octets the subfiles have with a begun one
-sum_in : (ds : List Dataset) (b : Begun) (rest : List ℕ) → IsBegun count_octets b rest → length (object_so_far ds b) ≤ greatest_size_before → IsSmallPhase (section ds b) (length (object_so_far ds b)) (phase_of ds b) → sum (place_in ds b).lengths ≤ greatest_size_before
+sum_in : (ds : List Dataset) (b : Begun) (rest : List ℕ) → IsBegun count_octets b rest → length (object_so_far ds b) ≤ greatest_size_before
+    → IsSmallPhase (section ds b) (length (object_so_far ds b)) (phase_of ds b) → sum (place_in ds b).lengths ≤ greatest_size_before
 sum_in ds (InTag held) rest is low small = omega (arith, total_of (of_record 8 ds), low)
 sum_in ds (InData h got) rest is low small =
     grind (arith, so_far_by (nat_eq h.rec 8) (nat_eq h.rec 9) ds got h.count (h.count - length got) (omega (arith, is.2)))

@@ -1,31 +1,44 @@
 -- Tags whose counts have fewer octets.
 use Rattle.std.proofs.Common.{◌≡◌, ℕ, ◌<◌, ◌≤◌, List, [], ◌∷◌, ◌++◌, length, get_or, refl, ap, sym, ◌∙◌, inr, arith, append_assoc, length-append}
-use Rattle.iim_places.proofs.Following.{longer_front}
-use Rattle.iim_places.proofs.Words.{cases_lt, SpellsCount, SpellsTag, count_octets, BeginsTag, Head}
+use Rattle.iim_places.proofs.{Following.longer_front, Words.cases_lt, Words.SpellsCount, Words.SpellsTag, Words.count_octets, Words.BeginsTag, Words.Head}
 
 -- a count of fewer octets is one of more
 wider_count : (limit most n : ℕ) (xs : List ℕ) → limit ≤ most → SpellsCount limit n xs → SpellsCount most n xs
 wider_count limit most n xs le spelled = grind arith
 
 pub wider_tag : (limit most : ℕ) (h : Head) (tag : List ℕ) → limit ≤ most → SpellsTag limit h tag → SpellsTag most h tag
-wider_tag limit most h tag le s = record { rec = s.rec; set = s.set; count = s.count; is_count = wider_count limit most h.count s.count le s.is_count; parts = s.parts }
+wider_tag limit most h tag le s = record {
+  rec = s.rec;
+  set = s.set;
+  count = s.count;
+  is_count = wider_count limit most h.count s.count le s.is_count;
+  parts = s.parts;
+}
 
 -- the fourth and fifth octets of a tag
-fourth : (held more count : List ℕ) (r s : ℕ) → 4 < length held → held ++ more ≡ 28 ∷ r ∷ s ∷ count → (get_or held 3 0 ≡ get_or count 0 0) × (get_or held 4 0 ≡ get_or count 1 0)
+fourth : (held more count : List ℕ) (r s : ℕ) → 4 < length held → held ++ more ≡ 28 ∷ r ∷ s ∷ count
+    → (get_or held 3 0 ≡ get_or count 0 0) × (get_or held 4 0 ≡ get_or count 1 0)
 fourth (a ∷ b ∷ c ∷ d ∷ f ∷ held) more count r s long e =
     let rest : d ∷ f ∷ (held ++ more) ≡ count = cc in
     (ap (λ (xs : List ℕ). get_or xs 0 0) rest, ap (λ (xs : List ℕ). get_or xs 1 0) rest)
 fourth held more count r s long e = absurd (omega (arith, long))
 
 -- four octets of a tag whose count is extended begin one whose count has one octet
-short_begins : (limit r s low : ℕ) (held more rest : List ℕ) → 1 ≤ limit → r < 256 → s < 256 → length held < 5 → held ++ more ≡ 28 ∷ r ∷ s ∷ 128 ∷ low ∷ rest → BeginsTag limit held
+short_begins : (limit r s low : ℕ) (held more rest : List ℕ) → 1 ≤ limit → r < 256 → s < 256 → length held < 5 → held ++ more ≡ 28 ∷ r ∷ s ∷ 128 ∷ low ∷ rest
+    → BeginsTag limit held
 short_begins limit r s low held more rest one small less short e =
     let (m, is) = longer_front held more (28 ∷ r ∷ s ∷ 128 ∷ []) (low ∷ rest) e (omega (arith, short)) in
     let parts = sym (append_assoc held m (1 ∷ 0 ∷ [])) ∙ ap (λ (xs : List ℕ). xs ++ 1 ∷ 0 ∷ []) (sym is) in record {
       head = record { rec = r; set = s; count = 0 };
       more = m ++ 1 ∷ 0 ∷ [];
       some_more = omega (arith, length-append m (1 ∷ 0 ∷ []));
-      whole = record { rec = small; set = less; count = 128 ∷ 1 ∷ 0 ∷ []; is_count = inr (refl, refl, omega arith, one, (omega arith, tt), refl); parts = parts };
+      whole = record {
+        rec = small;
+        set = less;
+        count = 128 ∷ 1 ∷ 0 ∷ [];
+        is_count = inr (refl, refl, omega arith, one, (omega arith, tt), refl);
+        parts = parts;
+      };
     }
 
 -- Held octets of a tag begin one of at most four count octets where the fifth does not say more.

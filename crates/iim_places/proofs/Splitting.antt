@@ -5,9 +5,8 @@ use Rattle.std.proofs.lemmas.Grind.{common_steps}
 use Rattle.std.specs.Int.{w64, from_be_bytes, to_be_bytes}
 use Rattle.std.proofs.lemmas.Nat.{from_be_bytes-to_be_bytes_8}
 use Rattle.iim_dataset.specs.Steps.{same_front}
-use Rattle.iim_places.specs.Format.Tickets.{number_octets}
+use Rattle.iim_places.specs.{Format.Tickets.number_octets, Restoring.BeginsWithNone, Restoring.BeginsWithFewer, Restoring.FieldsBefore, Restoring.IsFour}
 use Rattle.iim_places.specs.TicketParts.{HoldsFields, first_same, rest_same, one_four, one_field, some_octets, same_fields}
-use Rattle.iim_places.specs.Restoring.{BeginsWithNone, BeginsWithFewer, FieldsBefore, IsFour}
 
 -- octets that two spellings begin have one reading
 abbrev pub HasOne : {X : Type 0} → (X → Type 0) → (X → List ℕ) → Type 0

@@ -1,9 +1,9 @@
 -- With which octets the story of an object dies.
 use Rattle.std.proofs.Common.{◌≡◌, ℕ, zero, suc, ◌+◌, ◌<◌, ◌⊎◌, Bool, true, false, List, [], ◌∷◌, ◌++◌, length, replicate, refl, ap, ◌∙◌, inl, inr, arith, append-nil, append_assoc}
 use Rattle.iim_places.proofs.Words.{list_any, position_or_len, after_first, cases_Bool, ne_eqb, nat_tests, list_any-append, list_all-append, drop-append-add, IsOctet, IsTextSoFar, Holds, is_line_octet, LowerLaws, after_stx, text_so_far, StoryDiesWith, IsInText}
+use Rattle.iim_places.proofs.Living.{after_found, after_none, before_found, before_later, before_all, place_later, is_etx, is_stx}
 use Rattle.wire_story.specs.States.Reading.{IsLoneReturn}
 use Rattle.wire_story.proofs.SoFar.{so_far_two}
-use Rattle.iim_places.proofs.Living.{after_found, after_none, before_found, before_later, before_all, place_later, is_etx, is_stx}
 
 -- ---- the text has begun, and has not ended
 

@@ -1,9 +1,8 @@
 -- What takes whole datasets one after another: takes joined, and datasets that can continue.
 use Rattle.std.proofs.Common.{◌≡◌, ℕ, ◌≤◌, ◌≢◌, Bool, true, false, Option, Result, Ok, Err, OnOk, IfOk, IfErr, is_ok, List, [], ◌∷◌, ◌++◌, refl, subst, ◌∙◌, rules, arith, append_assoc}
 use Rattle.iim_places.proofs.Words.{AllByRecursion, Dataset, head_of, Head, all_front, all_back, TakesHead, HasChecked, HasTaken, IsChecking, IsValueFault, SectionsLive, AreSections, records, IsGoodDataset, data_of, number_told, RecordPlace, FieldFault, Limits, front_alive, mode_dataset, widest, CanContinueWithin, TookDatasets}
+use Rattle.iim_places.proofs.{Bounds.each_in, Limits.kept_octets_append, Limits.kept_length_append}
 use Rattle.iim_fields.specs.States.Standing.{FieldsPlace, IsBetween, IsOf, StandsAfter, StandsIn, limits_of}
-use Rattle.iim_places.proofs.Bounds.{each_in}
-use Rattle.iim_places.proofs.Limits.{kept_octets_append, kept_length_append}
 
 -- What no datasets can continue with, none can continue with where others follow.
 pub no_more : (limits : Limits) (ds es fs : List Dataset) → (CanContinueWithin limits (ds ++ es) → ⊥) → CanContinueWithin limits (ds ++ (es ++ fs)) → ⊥
@@ -33,7 +32,8 @@ no_wide_mode limits ds n wide goes =
 -- in a check of records: a value that was taken after its head, or not
 pub value_took : (a b c : Option RecordPlace) (d : Dataset) (r : Result (Option ℕ) FieldFault)
     → ((ds : List Dataset) → HasChecked a ds → HasTaken b ds (head_of d)) → d.rec ≢ 8
-    → OnOk r (TakesHead c) → IfOk r (λ number. (ds : List Dataset) (h : Head) → IsChecking b ds h → HasChecked c (ds ++ data_of h d.octets ∷ []) × (number ≡ number_told (data_of h d.octets)))
+    → OnOk r (TakesHead c) → IfOk r (λ number. (ds : List Dataset) (h : Head) → IsChecking b ds h
+    → HasChecked c (ds ++ data_of h d.octets ∷ []) × (number ≡ number_told (data_of h d.octets)))
     → IfErr r (λ fault. (ds : List Dataset) (h : Head) → IsChecking b ds h → IsValueFault ds (data_of h d.octets) fault)
     → TookDatasets TakesHead HasChecked (λ (_ : Option RecordPlace). widest) a (d ∷ []) c (is_ok r)
 value_took a b c d (Ok number) taken other takes stands fault = (takes, refl, λ ds s. (stands ds (head_of d) ((taken ds s).checking other)).0)
@@ -43,7 +43,8 @@ value_took a b c d (Err e) taken other takes stands fault = λ ds s goes. (fault
 pub closed_took : (a b c : FieldsPlace) (d : Dataset) (taken : List ℕ) (r : Result (Option ℕ) FieldFault)
     → ((ds : List Dataset) → StandsAfter a ds → StandsIn b ds (head_of d) taken) → IsOf (head_of d) taken d
     → OnOk r (IsBetween c) → limits_of c ≡ limits_of a
-    → IfOk r (λ number. (ds : List Dataset) (h : Head) (xs : List ℕ) → StandsIn b ds h xs → (e : Dataset) → IsOf h xs e → StandsAfter c (ds ++ e ∷ []) × (number ≡ number_told e))
+    → IfOk r (λ number. (ds : List Dataset) (h : Head) (xs : List ℕ) → StandsIn b ds h xs → (e : Dataset) → IsOf h xs e
+    → StandsAfter c (ds ++ e ∷ []) × (number ≡ number_told e))
     → IfErr r (λ fault. (ds : List Dataset) (h : Head) (xs : List ℕ) → StandsIn b ds h xs → IsValueFault ds (data_of h xs) fault)
     → TookDatasets IsBetween StandsAfter limits_of a (d ∷ []) c (is_ok r)
 closed_took a b c d taken (Ok number) stands is between same closes fault = (between, same, λ ds s. (closes ds (head_of d) taken (stands ds s) d is).0)

@@ -1,12 +1,12 @@
 -- The ticket that an unpacker spells is that of the octets on which it stands.
 use Rattle.std.proofs.Common.{◌≡◌, ℕ, ◌+◌, ◌-◌, Bool, if◌then◌else◌, List, [], ◌∷◌, ◌++◌, length, sum, Option, refl, ap, sym, ◌∙◌, arith, append-nil, length-append}
 use Rattle.iim_places.proofs.Words.{same_Some, length-map, Dataset, of_record, Begun, LowerLaws, sum_cons, sum_append, SubfileBegun, lengths_of, numbers_of, place_after_datasets, place_ended, OctetsLeadToOnePlace, saved, LeadsToSaved, MessagePlace, object_of, object_so_far, place_of, ticket_of, OctetsHaveOneTicket}
+use Rattle.iim_places.proofs.Answering.{one_reading}
 use Rattle.iim_fields.specs.Format.Causes.{joined}
 use Rattle.iim_object.specs.Format.Objects as objects
 use Rattle.wire_message.specs.States.Reading as wire
 use Rattle.wire_message.specs.States.Reading.{IsAt}
 use Rattle.wire_message.specs.declared.place.Place.{Place as Message}
-use Rattle.iim_places.proofs.Answering.{one_reading}
 
 -- ---- lengths
 

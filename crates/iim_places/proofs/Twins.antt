@@ -1,21 +1,16 @@
 -- Datasets that tell the same, and what follows them. Plain datasets continue as those do for which they stand.
 use Rattle.std.proofs.Common.{◌≡◌, ℕ, ◌≤◌, ◌||◌, nat_eq, cond, Bool, true, false, List, [], ◌∷◌, ◌++◌, length, Option, Some, None, refl, ap, sym, subst, ◌∙◌, inl, inr, arith, append-nil, append_assoc, ◌<◌, length-append}
 use Rattle.iim_places.proofs.Words.{front_alive, last_more, eqb-true, AllByRecursion, unwrap_or, eq-eqb, filter-append, list_any-append, Octets, greatest_size, Dataset, of_record, all_append, all_back, all_front, Meets, SectionsLive, kept, is_kept, section_after, last_record, IsGoodDataset, IsGoodRecord, occurs, occurrences, repeats, mandatory, subfile_datasets, numbers_of, Stated, InRow, number_at, stated_numbers, numbers_told, LowerLaws, Numbers, number_list, plain_numbers, filled, plain_end, plain, good_elsewhere, part_meets, none_counts, occurrences_append, some_counts, last_of_joined, max_subfiles, one_of_some, all_map, AreSections, option_or, SpellsStream, count_octets, Head, sum_append, SectionsLiveAt, Limits, ending_of, place_after_datasets, lengths_of, HaveSizes, AreWithin, place_at, ObjectLives, HaveRoom, CanContinue, MayContinue, ConfirmedAs, number, Begun, InTag, InData, Sizes, Header, IsMessage, IsEnvelopeWithin, IsText, object_of, map-append, Value}
-use Rattle.iim_tables.specs.Format.Rows.{table, row_of}
-use Rattle.iim_object.specs.Laws.{NumberDatasetsAreGood}
 use Rattle.iim_places.proofs.SameRecords.{same_stated, same_numbers, stated_after_all, tens_after, SameRecords, tens_seen, SameNumbers, stated_at, AreTens, nines, seen_on}
 use Rattle.iim_places.proofs.PlainSizes.{row_at, all_kept, numbers_in, end_length, bounded_at, possible_after, possible_at, possible_like, sizes_of}
 use Rattle.iim_places.proofs.Plain.{last_none, none_by, run_by, numbers_each, AreOf, one_stated, are_told, four_told, filled_count, none_in_fields, parts_each, end_each, at_both, numbers_join}
-use Rattle.iim_places.proofs.Fitting.{fit_in_rows}
-use Rattle.iim_places.proofs.Limits.{kept_append}
-use Rattle.iim_places.proofs.SamePlace.{SameObject, object_at, at_tests}
+use Rattle.iim_places.proofs.{Fitting.fit_in_rows, Limits.kept_append, SamePlace.SameObject, SamePlace.object_at, SamePlace.at_tests, Tickets.count_of}
+use Rattle.iim_places.proofs.{Lasts.last_sections, Bounds.by_last, Bounds.last_counted}
+use Rattle.iim_tables.specs.Format.Rows.{table, row_of}
+use Rattle.iim_object.specs.Laws.{NumberDatasetsAreGood}
 pub use Rattle.iim_places.proofs.PlainSizes.{AreBounded}
-use Rattle.iim_places.proofs.Tickets.{count_of}
-use Rattle.iim_places.proofs.Lasts.{last_sections}
-use Rattle.iim_places.proofs.Bounds.{by_last, last_counted}
 use Rattle.iim_dataset.proofs.Lists.{nothing_of_two}
-use Rattle.iim_fields.proofs.Dies.{from_alive}
-use Rattle.iim_fields.proofs.Follows.{alive_follows, fresh_next, is_coming}
+use Rattle.iim_fields.proofs.{Dies.from_alive, Follows.alive_follows, Follows.fresh_next, Follows.is_coming}
 
 -- what occurs once at most occurs no oftener than in other datasets where it is seen as well
 pub fewer_by : (n : ℕ) (xs ys : List Dataset) → occurs n xs ≡ occurs n ys → occurrences n ys ≤ 1 → occurrences n ys ≤ occurrences n xs
@@ -155,7 +150,8 @@ sevens_once n numbers = grind arith
 end_once : (n : ℕ) (ended : Bool) (object : List ℕ) → occurrences n (plain_end ended object) ≤ 1
 end_once n ended object = grind arith
 
-replace_sevens : NumberDatasetsAreGood → (es : List Dataset) → AllByRecursion InRow (numbers_of es) → MayReplace 7 es (plain_numbers (numbers_in (numbers_of es)))
+replace_sevens : NumberDatasetsAreGood → (es : List Dataset) → AllByRecursion InRow (numbers_of es)
+    → MayReplace 7 es (plain_numbers (numbers_in (numbers_of es)))
 replace_sevens rows es all = record { each = good; seen = seen; once = λ n no'. sevens_once n (numbers_in ps) }
   where
     ps : List Stated

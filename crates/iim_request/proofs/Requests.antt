@@ -3,19 +3,15 @@ use Rattle.std.proofs.Common.{◌≡◌, ◌⊎◌, inl, inr, Bool, true, false,
 use Rattle.std.specs.Prelude.{find, option_and_then, cond}
 use Rattle.std.specs.Box.{box_value}
 use Rattle.std.specs.List.{list_any}
-use Rattle.clap.specs.Facts.{explicit_source}
-use Rattle.clap.specs.Faults.{check_fault, defaults_fault, entered_fault, settle_fault, walk_fault}
-use Rattle.clap.specs.Kinds.{Kinds, or_else, check_kinds}
-use Rattle.clap.specs.Matches.{first_value, one_text, subcommand_name_of}
+use Rattle.clap.specs.{Facts.explicit_source, Faults.check_fault, Faults.defaults_fault, Faults.entered_fault, Faults.settle_fault, Faults.walk_fault}
+use Rattle.clap.specs.{Kinds.Kinds, Kinds.or_else, Kinds.check_kinds, Matches.first_value, Matches.one_text, Matches.subcommand_name_of, Takes.is_given}
 use Rattle.clap.specs.Simple.{App, Shape, argument_words, built, entered, label_of, names_of, rows_at, subcommand_rows, subcommand_rows_of}
-use Rattle.clap.specs.Takes.{is_given}
 use Rattle.clap.specs.Walk.{Row, Text, answers_to, finished, first_of, nothing_held, rows_of, settled, walk, walk_from}
 use Rattle.clap.specs.Words.{fault_of, is_simple, is_simple_and_free, subcommand_of}
 use Rattle.clap.specs.declared.parser.matches.ArgMatches.{ArgMatches}
 use Rattle.clap.specs.declared.parser.matches.ArgMatches.TheViews.{out-ArgMatches, out-SubCommand}
 use Rattle.clap.specs.declared.parser.matches.Found.{Found}
-use Rattle.clap.proofs.OnLiterals.{clap_on_literals}
-use Rattle.clap.proofs.WalkLemmas.{first_value-rows, one_text-rows}
+use Rattle.clap.proofs.{OnLiterals.clap_on_literals, WalkLemmas.first_value-rows, WalkLemmas.one_text-rows}
 use Rattle.jiff.specs.Words.{parse_timestamp, Error as InstantError}
 use Rattle.std.specs.Borrow.{Bor}
 use Rattle.iim_request.specs.declared.request.Verb.{Verb}
@@ -101,7 +97,8 @@ verb_of name (inr (inr (inr (inr (inr none))))) = absurd none
 
 named_verb : (words : List Text) (found : Text × List Row) → subcommand_of program words ≡ Some found → (verb : Verb) × (found.0 ≡ verb_name verb)
 named_verb words found e =
-    verb_of found.0 (entered_in (built program).subs (walk (built program).top.rules (names_of (built program)) nothing_held (argument_words program words)).stopped found e)
+    verb_of found.0 (entered_in (built program).subs
+    (walk (built program).top.rules (names_of (built program)) nothing_held (argument_words program words)).stopped found e)
 
 -- a command that was found, of a verb, with its rows
 abbrev pub FoundVerb : Option (Text × List Row) → Type 0
@@ -114,10 +111,11 @@ met words (Some p) e some = let (verb, named) = named_verb words p e in (verb, p
 -- ---- what a parse found
 
 name_in_rows : (m : ArgMatches) → subcommand_name_of m ≡ option_map (λ p. p.0) (subcommand_rows_of m)
-name_in_rows m = elim (out-ArgMatches m).subcommand as (λ o. option_map (λ b. (out-SubCommand (box_value b)).name.now) o ≡ option_map (λ p. p.0) (subcommand_rows o)) [
-  | None ↦ refl
-  | Some b ↦ refl
-]
+name_in_rows m = elim (out-ArgMatches m).subcommand as (λ o. option_map (λ b. (out-SubCommand (box_value b)).name.now) o ≡ option_map (λ p. p.0)
+    (subcommand_rows o)) [
+      | None ↦ refl
+      | Some b ↦ refl
+    ]
 
 -- a parse of words without a fault found the command of a verb, and its rows
 found_verb : (words : List Text) (m : ArgMatches) → fault_of program words ≡ [] → subcommand_rows_of m ≡ subcommand_of program words

@@ -2,11 +2,10 @@
 use Rattle.std.proofs.Common.{◌≡◌, ◌≢◌, ℕ, ◌⊎◌, inl, inr, List, length, refl, subst, [], ◌∷◌}
 use Rattle.std.specs.Prelude.{Ok, Err}
 use Rattle.iim_fields.specs.declared.limits.Limits.{Limits}
-use Rattle.iim_places.specs.Format.Admitted.{Value}
+use Rattle.iim_places.specs.{Format.Admitted.Value, Format.Streams.Answer, Format.Streams.Answers, Format.Streams.Finished, Laws.StreamsHaveOneAnswer}
 use Rattle.iim_unpack.specs.States.Unpacking as parts
 use Rattle.iim_dataset.specs.Format.Octets.{Rose}
 use Rattle.iim_unpack.specs.Format.Pieces as pieces
-use Rattle.iim_places.specs.Format.Streams.{Answer, Answers, Finished}
 use Rattle.iim_places.specs.declared.refusal.Cause.{Cause}
 use Rattle.iim_places.specs.declared.refusal.Cause.TheVariants as causes
 use Rattle.wire_message.specs.declared.fault.MessageCause.TheVariants as messages
@@ -14,13 +13,11 @@ use Rattle.iim_places.specs.declared.refusal.Refusal.{Refusal}
 use Rattle.iim_unpack.specs.declared.unpacker.Unpacked.{Unpacked}
 use Rattle.iim_round_trip.specs.Format.RoundTrip.{packed_value, GivesBack, BeginsPacked, IsTurnedDown}
 use Rattle.iim_round_trip.specs.Laws.{packed_answer, PackedStreamsHaveTheirAnswer}
+use Rattle.iim_round_trip.specs.Format.Stories.{ComesBack, IsStoryIn, IsStoryAnswer, untold}
 use Rattle.iim_round_trip.specs.declared.unpacking.UnpackFault.TheVariants.{Refused, OutOfMemory}
-use Rattle.wire_story.specs.States.Reading.{Collected, collect}
-use Rattle.wire_story.specs.Format.Texts.{StoryEvent, events_of_lines, IsText}
+use Rattle.wire_story.specs.{States.Reading.Collected, States.Reading.collect, Format.Texts.StoryEvent, Format.Texts.events_of_lines, Format.Texts.IsText}
 use Rattle.wire_story.specs.Laws.{TextsAreDeliveredAsLines, TextsAreCollectedAsLines}
 use Rattle.iim_unpack.specs.Format.Pieces.{IsUnpacked}
-use Rattle.iim_places.specs.Laws.{StreamsHaveOneAnswer}
-use Rattle.iim_round_trip.specs.Format.Stories.{ComesBack, IsStoryIn, IsStoryAnswer, untold}
 use Rattle.iim_round_trip.specs.declared.unpacking.Story.{Story}
 use Rattle.iim_round_trip.specs.declared.unpacking.UnpackFault.{UnpackFault}
 
@@ -36,7 +33,8 @@ counts (causes.Message messages.Sink) old new h = (λ e. h, λ other. absurd (ot
 counts _ old new h = (λ e. absurd cc, λ other. h)
 
 -- What is said of the limits of an unpacker is said of those that it was made with.
-pub given : {S : Type 0} (goes : S → List StoryEvent → S → Type 0) (found limits : Limits) (stream : List ℕ) (a b : S) (got : Unpacked) (used : ℕ) → found ≡ limits
+pub given : {S : Type 0} (goes : S → List StoryEvent → S → Type 0) (found limits : Limits) (stream : List ℕ) (a b : S) (got : Unpacked) (used : ℕ)
+    → found ≡ limits
     → PackedStreamsHaveTheirAnswer → ((answer : Answer) → Answers found stream answer → pieces.IsAnswer (Ok (got, used)) answer)
     → IsUnpacked goes found stream a b got used → GivesBack goes limits stream a b got used
 given goes found limits stream a b got used same law only unpacked p =

@@ -1,12 +1,11 @@
 -- What is packed is admitted, and found, and unpacked.
 use Rattle.std.proofs.Common.{◌≡◌, ℕ, ◌⊎◌, inl, inr, List, [], ◌∷◌, ◌++◌, refl, sym, append-nil, length, take, arith, ap, length-append}
 use Rattle.iim_pack.specs.Laws.{datasets_of, PackedOctetsCarryTheValue, PackedSubfilesAreFew}
-use Rattle.iim_places.specs.Format.Admitted.{Value, Admits}
+use Rattle.iim_places.specs.{Format.Admitted.Value, Format.Admitted.Admits, Format.Streams.Answers}
 use Rattle.iim_places.specs.Laws.{AdmittedOctetsHaveOneValue, NoAdmittedOctetsBeginOthers, StreamsHaveOneAnswer}
 use Rattle.iim_round_trip.specs.Format.RoundTrip.{packed_value}
 use Rattle.iim_round_trip.specs.Laws.{PackedOctetsAreAdmitted, PackedEnvelopesAreFound, PackedOctetsAreWithin, PackedStreamsHaveTheirAnswer, packed_answer}
 use Rattle.std.proofs.Math.Seq.{take-append_seam}
-use Rattle.iim_places.specs.Format.Streams.{Answers}
 
 pub admitted : PackedOctetsCarryTheValue → PackedOctetsAreAdmitted
 admitted carry fields head lines trailer plan octets p =

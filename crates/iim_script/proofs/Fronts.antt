@@ -9,13 +9,15 @@ use Rattle.iim_script.specs.Steps.{number_after, NextMustBe, Refuses}
 use Rattle.iim_script.proofs.Next.{lines_more, count_more, next_once, no_next}
 
 field_more : (limits : Limits) (before : List Dataset) (lines : List (List ℕ)) (ds : List Dataset) (line : List ℕ) (d : Dataset)
-    → AreFieldLines limits before lines ds → TellsField line d → add_fault limits (before ++ ds) d ≡ None → AreFieldLines limits before (lines ++ line ∷ []) (ds ++ d ∷ [])
+    → AreFieldLines limits before lines ds → TellsField line d → add_fault limits (before ++ ds) d ≡ None
+    → AreFieldLines limits before (lines ++ line ∷ []) (ds ++ d ∷ [])
 field_more limits before [] [] line d h t free = (t, rw append-nil at free, tt)
 field_more limits before (l ∷ lines) (x ∷ ds) line d (told, taken, h) t free =
     (told, taken, field_more limits (before ++ x ∷ []) lines ds line d h t (rw (← append_assoc before (x ∷ []) ds) at free))
 field_more limits before lines ds line d h t free = absurd h
 
-stands_on : (limits : Limits) (script rest line after : List ℕ) (stage next : Stage) (count more : ℕ) (s : Stands limits script stage rest count) → NextLine rest line after
+stands_on : (limits : Limits) (script rest line after : List ℕ) (stage next : Stage) (count more : ℕ) (s : Stands limits script stage rest count)
+    → NextLine rest line after
     → more ≡ count + 1 → HaveCome limits (s.lines ++ line ∷ []) next → Stands limits script next after more
 stands_on limits script rest line after stage next count more s n e come = record {
   lines = s.lines ++ line ∷ [];

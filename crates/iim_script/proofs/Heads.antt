@@ -2,8 +2,7 @@
 use Rattle.iim_script.proofs.Words.{◌≡◌, ℕ, ◌-◌, ◌==◌, List, [], ◌∷◌, ◌++◌, length, take, drop, get_or, refl, ap, sym, ◌∙◌, subst, Option, Some, None, IfSome, IfNone, position_or_len, eqb-true, false≢true, take_rest, take-append-drop, is_alphanumeric, is_letter, is_digit, Header, IsHeader, HasNo, AreWords, TellsLast, TellsHead, head_words}
 use Rattle.std.proofs.Common.{append-nil, codes, IsSome}
 use Rattle.wire_message.specs.Format.Messages.{header_of}
-use Rattle.iim_script.proofs.Cuts.{cut_once, has_no_octet, has_no_before, lacks, first_passes}
-use Rattle.iim_script.proofs.Texts.{last_once}
+use Rattle.iim_script.proofs.{Cuts.cut_once, Cuts.has_no_octet, Cuts.has_no_before, Cuts.lacks, Cuts.first_passes, Texts.last_once}
 
 -- what follows the first word is nothing, or begins with SP
 pub space_after : (xs : List ℕ) → get_or (drop (position_or_len (λ x. x == 32) xs) xs) 0 32 ≡ 32

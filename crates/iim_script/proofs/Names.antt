@@ -7,7 +7,8 @@ use Rattle.iim_script.proofs.Cuts.{cut_once, has_no_octet, lacks, first_passes}
 abbrev pub no_digit : ℕ → Bool
 no_digit b = not (is_digit b)
 
-front_more : (x : ℕ) (xs : List ℕ) (n : ℕ) (is : Bool) → is_digit x ≡ is → list_all is_digit (take n xs) ≡ true → list_all is_digit (take (cond (not (not is)) (suc n) 0) (x ∷ xs)) ≡ true
+front_more : (x : ℕ) (xs : List ℕ) (n : ℕ) (is : Bool) → is_digit x ≡ is → list_all is_digit (take n xs) ≡ true
+    → list_all is_digit (take (cond (not (not is)) (suc n) 0) (x ∷ xs)) ≡ true
 front_more x xs n true e h = and_from (is_digit x) (list_all is_digit (take n xs)) e h
 front_more x xs n false e h = refl
 
@@ -19,7 +20,8 @@ pub no_digit_after : (xs : List ℕ) → is_digit (get_or (drop (position_or_len
 no_digit_after xs = not-true (is_digit (get_or (drop (position_or_len no_digit xs) xs) 0 0)) (first_passes no_digit 0 xs refl)
 
 -- digits, and then no digit, are split in one way
-pub digits_once : (ds es us vs : List ℕ) → list_all is_digit ds ≡ true → list_all is_digit us ≡ true → is_digit (get_or es 0 0) ≡ false → is_digit (get_or vs 0 0) ≡ false
+pub digits_once : (ds es us vs : List ℕ) → list_all is_digit ds ≡ true → list_all is_digit us ≡ true → is_digit (get_or es 0 0) ≡ false
+    → is_digit (get_or vs 0 0) ≡ false
     → ds ++ es ≡ us ++ vs → (ds ≡ us) × (es ≡ vs)
 digits_once [] es [] vs h k n m e = (refl, e)
 digits_once [] es (u ∷ us) vs h k n m e = absurd (false≢true (sym (rw e at n) ∙ (and_parts (is_digit u) (list_all is_digit us) k).0))

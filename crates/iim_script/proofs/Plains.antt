@@ -10,10 +10,8 @@ use Rattle.std.proofs.lemmas.List.Folds.{list_all-append}
 use Rattle.std.proofs.lemmas.List.Splits.{slice_split-cons_yes, slice_split-cons_no, join_with_byte-slice_split}
 use Rattle.wire_story.specs.Steps.{lines_in, is_low}
 use Rattle.wire_story.proofs.Collected.{some_line, packed_len}
-use Rattle.iim_script.specs.Format.Scripts.{PrintsStory}
-use Rattle.iim_script.proofs.Cuts.{lacks, ended}
-use Rattle.iim_script.proofs.Next.{no_feed}
-use Rattle.iim_script.specs.Steps.{is_plain}
+use Rattle.iim_script.specs.{Format.Scripts.PrintsStory, Steps.is_plain}
+use Rattle.iim_script.proofs.{Cuts.lacks, Cuts.ended, Next.no_feed}
 
 -- ---- octets
 
@@ -51,7 +49,8 @@ lines_each (x ∷ xs) h =
     let parts = and_parts (is_plain x) (list_all is_plain xs) h in
     elim (cases_Bool (x == 10)) [
       | inl e ↦ subst Each (sym (slice_split-cons_yes (λ b. b == 10) x xs e)) (refl, lines_each xs parts.1)
-      | inr e ↦ subst Each (sym (slice_split-cons_no (λ b. b == 10) x xs e)) (first_each x (lines_in xs) (some_line xs) (line_octet x parts.0 e) (lines_each xs parts.1))
+      | inr e ↦ subst Each (sym (slice_split-cons_no (λ b. b == 10) x xs e))
+          (first_each x (lines_in xs) (some_line xs) (line_octet x parts.0 e) (lines_each xs parts.1))
     ]
 
 -- ---- their text
@@ -141,7 +140,8 @@ tells_plain story text feeds len cut plain counted e =
 
 -- ---- octets block by block
 
-pub plain_more : (xs : List ℕ) (at n : ℕ) → IsTrue (list_all is_plain (take at xs)) → IsTrue (list_all is_plain (take n (drop at xs))) → IsTrue (list_all is_plain (take (at + n) xs))
+pub plain_more : (xs : List ℕ) (at n : ℕ) → IsTrue (list_all is_plain (take at xs)) → IsTrue (list_all is_plain (take n (drop at xs)))
+    → IsTrue (list_all is_plain (take (at + n) xs))
 plain_more xs at n h more = rw (take-add, list_all-append, h, more) refl
 
 pub plain_all : (xs : List ℕ) (at : ℕ) → IsTrue (list_all is_plain (take at xs)) → IsTrue (list_all is_plain (drop at xs)) → IsTrue (list_all is_plain xs)

@@ -5,10 +5,10 @@ use Rattle.std.proofs.lemmas.Bool.{leb-true, le-leb}
 use Rattle.std.proofs.lemmas.Fmt.{decimal_nonempty, digits_decimal, digits_value-decimal, length-decimal-le}
 use Rattle.std.proofs.lemmas.Str.Parse.{IsDigitsTest, IsNumeralModel, numerals_by_fold}
 use Rattle.iim_dataset.specs.Format.Octets.{Octets}
+use Rattle.iim_dataset.specs.Format.Datasets.{hex_digit, escape, is_plain, padding, dataset_name}
 use Rattle.wire_message.specs.Format.Messages.{Are}
 use Rattle.wire_message.specs.Format.Messages as message
 use Rattle.iim_script.specs.Format.Scripts.{BeginsWith, decimal_from, after_space}
-use Rattle.iim_dataset.specs.Format.Datasets.{hex_digit, escape, is_plain, padding, dataset_name}
 use Rattle.iim_script.proofs.Cuts.{has_no_append, lacks, ended}
 
 -- ---- octets

@@ -49,6 +49,8 @@ shown_one : (done : List Dataset) (d : Dataset) → flat_map field_line (done ++
 shown_one done d = flat_map-append field_line done (d ∷ []) ∙ ap (λ (l : List ℕ). flat_map field_line done ++ l) (append-nil (field_line d))
 
 -- one line more
-pub line_more : (old front new : List ℕ) (done : List Dataset) (d : Dataset) → front ≡ old ++ flat_map field_line done → new ≡ front ++ field_line d → new ≡ old ++ flat_map field_line (done ++ d ∷ [])
+pub line_more : (old front new : List ℕ) (done : List Dataset) (d : Dataset) → front ≡ old ++ flat_map field_line done → new ≡ front ++ field_line d
+    → new ≡ old ++ flat_map field_line (done ++ d ∷ [])
 line_more old front new done d so_far more =
-    more ∙ (ap (λ (l : List ℕ). l ++ field_line d) so_far ∙ (append_assoc old (flat_map field_line done) (field_line d) ∙ ap (λ (l : List ℕ). old ++ l) (sym (shown_one done d))))
+    more ∙ (ap (λ (l : List ℕ). l ++ field_line d) so_far
+    ∙ (append_assoc old (flat_map field_line done) (field_line d) ∙ ap (λ (l : List ℕ). old ++ l) (sym (shown_one done d))))

@@ -3,13 +3,10 @@ use Rattle.iim_script.proofs.Words.{◌≡◌, ℕ, List, ◌∷◌, ◌++◌, g
 use Rattle.std.proofs.Common.{append-nil}
 use Rattle.iim_dataset.proofs.Spelled.{dataset_is}
 use Rattle.wire_message.specs.Format.Messages.{IsTrailer}
-use Rattle.iim_script.proofs.Texts.{last_once}
-use Rattle.iim_script.proofs.Names.{names_once}
-use Rattle.iim_script.proofs.Heads.{words_of_header, last_ends, head_once}
-use Rattle.iim_script.proofs.Fronts.{field_digit, tells_no_head}
+use Rattle.iim_script.proofs.{Texts.last_once, Names.names_once, Heads.words_of_header, Heads.last_ends, Heads.head_once}
+use Rattle.iim_script.proofs.{Fronts.field_digit, Fronts.tells_no_head, Next.next_once, Next.no_next, Next.lines_append}
 use Rattle.iim_fields.specs.declared.fault.FieldCause.{FieldCause}
 use Rattle.iim_script.specs.Format.Causes.{EndsTooSoon, IsWrong}
-use Rattle.iim_script.proofs.Next.{next_once, no_next, lines_append}
 
 -- ---- what a line tells is one thing
 
@@ -57,7 +54,8 @@ Leads limits (InStory ds head trailer done) line next = IsLine line × (next ≡
 no_text_trailer : (line trailer : List ℕ) → line ≡ text_word → TellsTrailer line trailer → ⊥
 no_text_trailer line trailer e t = text_no_trailer trailer (rw e at t)
 
-leads_once : (limits : Limits) (place : Place) (line : List ℕ) (next other : Place) → Leads limits place line next → Leads limits place line other → next ≡ other
+leads_once : (limits : Limits) (place : Place) (line : List ℕ) (next other : Place) → Leads limits place line next → Leads limits place line other
+    → next ≡ other
 leads_once limits (At (InFields ds)) line next other (inl (d, t, a, e)) (inl (c, u, b, f)) = cc (field_once line d c t u)
 leads_once limits (At (InFields ds)) line next other (inl (d, t, a, e)) (inr (head, u, f)) = absurd (field_no_head line d head t u)
 leads_once limits (At (InFields ds)) line next other (inr (head, t, e)) (inl (d, u, a, f)) = absurd (field_no_head line d head u t)
@@ -111,7 +109,8 @@ pub record Run (limits : Limits) (octets : List ℕ) (place : Place) (rest : Lis
   pub count_is : count ≡ length lines
 
 -- Two runs that no line leads on from are one.
-pub runs_once : (limits : Limits) (octets : List ℕ) (place other : Place) (rest left : List ℕ) (n m : ℕ) → Run limits octets place rest n → Run limits octets other left m
+pub runs_once : (limits : Limits) (octets : List ℕ) (place other : Place) (rest left : List ℕ) (n m : ℕ) → Run limits octets place rest n
+    → Run limits octets other left m
     → (Onward limits place rest → ⊥) → (Onward limits other left → ⊥) → (place ≡ other) × (rest ≡ left) × (n ≡ m)
 runs_once limits octets place other rest left n m r k f g =
     let one = walk_once limits start r.lines k.lines octets place other rest left r.lined r.path k.lined k.path f g in
@@ -144,11 +143,13 @@ come_path limits lines (AfterTrailer ds head trailer) (fields, message, line, ar
     (path_on limits start (fields ++ message ∷ []) (line ∷ []) (At (AfterMessage ds head)) (At (AfterTrailer ds head trailer))
     (head_path limits fields message ds head are t) (At (AfterTrailer ds head trailer), inl (trailer, u, is, refl), refl))
 
-pub stands_run : (limits : Limits) (octets : List ℕ) (stage : Stage) (rest : List ℕ) (count : ℕ) → Stands limits octets stage rest count → Run limits octets (At stage) rest count
+pub stands_run : (limits : Limits) (octets : List ℕ) (stage : Stage) (rest : List ℕ) (count : ℕ) → Stands limits octets stage rest count
+    → Run limits octets (At stage) rest count
 stands_run limits octets stage rest count s =
     record { lines = s.lines; lined = s.lined; path = come_path limits s.lines stage s.come; count_is = s.count_is }
 
-text_path : (limits : Limits) (trailers : List (List ℕ)) (ds : List Dataset) (head : Header) (trailer : List ℕ) → AreTrailer trailers trailer → finish_fault ds ≡ None
+text_path : (limits : Limits) (trailers : List (List ℕ)) (ds : List Dataset) (head : Header) (trailer : List ℕ) → AreTrailer trailers trailer
+    → finish_fault ds ≡ None
     → Path limits (At (AfterMessage ds head)) (trailers ++ text_word ∷ []) (InStory ds head trailer [])
 text_path limits [] ds head trailer is whole = (InStory ds head [] [], inr (refl, whole, refl), rw is refl)
 text_path limits (line ∷ []) ds head trailer is whole =
@@ -200,7 +201,8 @@ wrong_once limits (AfterTrailer ds head trailer) line (Field a) ScriptLine w v =
 wrong_once limits (AfterTrailer ds head trailer) line (Field a) (Field b) w v = ap (λ (c : FieldCause). Field c) (too_soon_once ds line a b w v)
 wrong_once limits stage line a b w v = grind arith
 
-wrong_stuck : (limits : Limits) (stage : Stage) (line : List ℕ) (cause : ScriptCause) (next : Place) → IsWrong limits stage line cause → Leads limits (At stage) line next → ⊥
+wrong_stuck : (limits : Limits) (stage : Stage) (line : List ℕ) (cause : ScriptCause) (next : Place) → IsWrong limits stage line cause
+    → Leads limits (At stage) line next → ⊥
 wrong_stuck limits (InFields ds) line ScriptLine next w (inl y) = w.0 y.0 y.1
 wrong_stuck limits (InFields ds) line ScriptLine next w (inr y) = w.1 y.0 y.1
 wrong_stuck limits (InFields ds) line (Field why) next (d, f, t, e, p) (inl (c, u, h, is)) = let refused = rw (field_once line d c t u) at e in absurd cc
@@ -215,12 +217,14 @@ wrong_stuck limits (AfterTrailer ds head trailer) line ScriptLine next w y = w y
 wrong_stuck limits (AfterTrailer ds head trailer) line (Field why) next w y = absurd cc
 wrong_stuck limits stage line cause next w y = absurd w
 
-pub next_wrong_stuck : (limits : Limits) (stage : Stage) (rest : List ℕ) (cause : ScriptCause) → IsNextWrong limits stage rest cause → Onward limits (At stage) rest → ⊥
+pub next_wrong_stuck : (limits : Limits) (stage : Stage) (rest : List ℕ) (cause : ScriptCause) → IsNextWrong limits stage rest cause
+    → Onward limits (At stage) rest → ⊥
 next_wrong_stuck limits stage rest cause (inl (none, is)) (line, after, next, n, leads) = no_next rest line after none n
 next_wrong_stuck limits stage rest cause (inr (l, a, m, w)) (line, after, next, n, leads) =
     wrong_stuck limits stage line cause next (subst (λ (x : List ℕ). IsWrong limits stage x cause) (next_once rest l a line after m n).0 w) leads
 
-pub next_wrong_once : (limits : Limits) (stage : Stage) (rest : List ℕ) (a b : ScriptCause) → IsNextWrong limits stage rest a → IsNextWrong limits stage rest b → a ≡ b
+pub next_wrong_once : (limits : Limits) (stage : Stage) (rest : List ℕ) (a b : ScriptCause) → IsNextWrong limits stage rest a
+    → IsNextWrong limits stage rest b → a ≡ b
 next_wrong_once limits stage rest a b (inl (none, is)) (inl (nothing, js)) = is ∙ sym js
 next_wrong_once limits stage rest a b (inl (none, is)) (inr (l, after, n, w)) = absurd (no_next rest l after none n)
 next_wrong_once limits stage rest a b (inr (l, after, n, w)) (inl (none, is)) = absurd (no_next rest l after none n)

@@ -113,7 +113,8 @@ whole limits octets ds head trailer lines text_line s (some, inr (before, last, 
 none_stuck : (limits : Limits) (place : Place) (rest : List ℕ) → HasNo 10 rest → Onward limits place rest → ⊥
 none_stuck limits place rest none (line, after, next, n, leads) = no_next rest line after none n
 
-script_no_fails : (limits : Limits) (octets : List ℕ) (fields : List Dataset) (head : Header) (trailer : List ℕ) (lines : List (List ℕ)) (text_line number : ℕ) (cause : ScriptCause)
+script_no_fails : (limits : Limits) (octets : List ℕ) (fields : List Dataset) (head : Header) (trailer : List ℕ) (lines : List (List ℕ))
+    (text_line number : ℕ) (cause : ScriptCause)
     → IsScript limits octets fields head trailer lines text_line → Fails limits octets number cause → ⊥
 script_no_fails limits octets fields head trailer lines text_line number cause s f =
     let w = whole limits octets fields head trailer lines text_line s s.is_story in
@@ -123,7 +124,8 @@ script_no_fails limits octets fields head trailer lines text_line number cause s
     let ends : Ends limits place w.rest cause = rw (one.0, one.1) at f.ends in
     ends.2 (rw (last_there w.rest ends.0 w.none ends.1) (good_rest lines w.done w.rest w.lines_are s.texts))
 
-pub scripts_once : (limits : Limits) (octets : List ℕ) (fields others : List Dataset) (head other : Header) (trailer end : List ℕ) (lines more : List (List ℕ)) (n m : ℕ)
+pub scripts_once : (limits : Limits) (octets : List ℕ) (fields others : List Dataset) (head other : Header) (trailer end : List ℕ)
+    (lines more : List (List ℕ)) (n m : ℕ)
     → IsScript limits octets fields head trailer lines n → IsScript limits octets others other end more m
     → (fields ≡ others) × (head ≡ other) × (trailer ≡ end) × (lines ≡ more) × (n ≡ m)
 scripts_once limits octets fields others head other trailer end lines more n m s k =
@@ -151,7 +153,8 @@ kind limits octets number BadTextOctet f = inr (inr (f.0, story_fails limits oct
 kind limits octets number OutOfMemory f = inl refl
 kind limits octets number cause (few, stage, rest, count, stands, is, wrong) = inr (inr (few, front_fails stands is wrong))
 
-pub script_no_fault : (limits : Limits) (octets : List ℕ) (fields : List Dataset) (head : Header) (trailer : List ℕ) (lines : List (List ℕ)) (text_line number : ℕ) (cause : ScriptCause)
+pub script_no_fault : (limits : Limits) (octets : List ℕ) (fields : List Dataset) (head : Header) (trailer : List ℕ) (lines : List (List ℕ))
+    (text_line number : ℕ) (cause : ScriptCause)
     → IsScript limits octets fields head trailer lines text_line → IsScriptFault limits octets number cause → cause ≡ OutOfMemory
 script_no_fault limits octets fields head trailer lines text_line number cause s f =
     let why = kind limits octets number cause f in

@@ -6,20 +6,15 @@ use Rattle.std.proofs.lemmas.List.Folds.{list_any-append}
 use Rattle.std.proofs.Math.Bool.{or-true}
 use Rattle.std.proofs.lemmas.List.{length-map}
 use Rattle.iim_dataset.specs.Format.Datasets.{of_record}
-use Rattle.iim_dataset.proofs.Each.{all_map}
-use Rattle.iim_dataset.proofs.Lists.{all_there}
-use Rattle.iim_fields.specs.Format.Records.{IsEnvelope, IsWithin}
-use Rattle.iim_fields.specs.States.Standing.{absent}
-use Rattle.iim_fields.specs.Format.Causes.{joined, missing_fault}
+use Rattle.iim_dataset.proofs.{Each.all_map, Lists.all_there}
+use Rattle.iim_fields.specs.{Format.Records.IsEnvelope, Format.Records.IsWithin, States.Standing.absent, Format.Causes.joined, Format.Causes.missing_fault}
 use Rattle.iim_fields.specs.Laws.{DatasetsOfEnvelopesAreAdded}
 use Rattle.iim_tables.specs.Format.Records.{IsGoodDataset, mandatory, occurs}
 use Rattle.iim_fields.specs.declared.fault.FieldFault.{FieldFault}
 use Rattle.iim_script.proofs.Printing.{IsPrintable, field_words, field_told, fields_end, message_words, message_ends, head_told, trailer_words, trailer_ends, trailer_told}
+use Rattle.iim_script.proofs.{Cuts.ended, Plains.story_printed}
 use Rattle.std.specs.Prelude.{codes}
-use Rattle.iim_script.specs.Laws.{PrintedValuesAreScripts}
-use Rattle.iim_script.specs.Format.Scripts.{script_of}
-use Rattle.iim_script.proofs.Cuts.{ended}
-use Rattle.iim_script.proofs.Plains.{story_printed}
+use Rattle.iim_script.specs.{Laws.PrintedValuesAreScripts, Format.Scripts.script_of}
 
 -- ---- what holds of each dataset
 

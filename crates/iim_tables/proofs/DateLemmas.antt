@@ -41,7 +41,8 @@ pub record Front (a b : ℕ) (xs : List ℕ) : Type 0 where
 pub front : (a b : ℕ) (xs : List ℕ) → list_all is_digit (a ∷ b ∷ xs) ≡ true → Front a b xs
 front a b xs h = record { two = grind (arith, nat_tests); rest = grind arith }
 
-written : (y m d : ℕ) (a b e f g h i j : ℕ) → two_digits (y / 100) ≡ a ∷ b ∷ [] → two_digits (y % 100) ≡ e ∷ f ∷ [] → two_digits m ≡ g ∷ h ∷ [] → two_digits d ≡ i ∷ j ∷ []
+written : (y m d : ℕ) (a b e f g h i j : ℕ) → two_digits (y / 100) ≡ a ∷ b ∷ [] → two_digits (y % 100) ≡ e ∷ f ∷ [] → two_digits m ≡ g ∷ h ∷ []
+    → two_digits d ≡ i ∷ j ∷ []
     → a ∷ b ∷ e ∷ f ∷ g ∷ h ∷ i ∷ j ∷ [] ≡ date_text y m d
 written y m d a b e f g h i j p q r s = cc
 

@@ -4,11 +4,10 @@ use Rattle.std.proofs.lemmas.Bool.{le-leb, or_parts}
 use Rattle.std.proofs.lemmas.List.Sums.{sum_by-append, sum_by-cons}
 use Rattle.std.specs.List.{list_all}
 use Rattle.std.specs.Option.{option_map_or}
-use Rattle.iim_dataset.specs.Format.Octets.{IsOctet, Octets, greatest_size}
-use Rattle.iim_dataset.specs.Format.Datasets.{Dataset}
+use Rattle.iim_dataset.specs.{Format.Octets.IsOctet, Format.Octets.Octets, Format.Octets.greatest_size, Format.Datasets.Dataset}
 use Rattle.iim_tables.specs.Format.Rows.{row_of, table, is_admitted, Meets}
-use Rattle.iim_tables.specs.declared.shape.Row.{Row}
 use Rattle.iim_tables.specs.Format.Records.{occurrences, occurs, repeats, IsGoodDataset}
+use Rattle.iim_tables.specs.declared.shape.Row.{Row}
 
 -- octets meet a row that admits them
 pub meets_as : (rec set : ℕ) (row : Row) (xs : List ℕ) → row_of rec set ≡ Some row → is_admitted row xs ≡ true → Meets rec set xs

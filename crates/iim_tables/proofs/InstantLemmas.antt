@@ -10,8 +10,7 @@ use Rattle.jiff.specs.Words.{IsYmd, IsTimestampNanos, nanos_of_seconds, time_nan
 use Rattle.jiff_core.specs.Calendar.{days_from_civil}
 use Rattle.std.specs.Prelude.{slice_index}
 use Rattle.iim_dataset.specs.Format.Octets.{minus}
-use Rattle.jiff.proofs.Family.{civil_nanos-parts}
-use Rattle.jiff.proofs.SpanFacts.{signed_arith}
+use Rattle.jiff.proofs.{Family.civil_nanos-parts, SpanFacts.signed_arith}
 use Rattle.iim_tables.specs.Format.Dates.{pair_at, year_in, month_in, day_in, is_date, has_time_form, is_clock, is_time, clock_seconds, offset_seconds, instant_nanos, is_instant, instant_in, HasInstant}
 
 in_range : (hour minute : ℕ) → is_clock hour minute 0 ≡ true → (hour < 24) × (minute < 60)

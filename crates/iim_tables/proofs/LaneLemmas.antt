@@ -10,8 +10,7 @@ use Rattle.std.proofs.lemmas.List.Folds.{list_all-append}
 use Rattle.std.proofs.lemmas.Simd.{bytes_below, chunk-fits}
 use Rattle.iim_dataset.specs.Format.Octets.{is_digit}
 use Rattle.iim_dataset.proofs.Lanes.{lane, both_lanes, from_on, up_to, other_than, are_set, first_of}
-use Rattle.iim_tables.specs.Format.Kinds.{is_graphic, is_spaced, is_spaced_or_line_end}
-use Rattle.iim_tables.specs.Text.{is_text}
+use Rattle.iim_tables.specs.{Format.Kinds.is_graphic, Format.Kinds.is_spaced, Format.Kinds.is_spaced_or_line_end, Text.is_text}
 
 either_lane : (a b : Bool) → bit_or (lane a) (lane b) ≡ lane (a || b)
 either_lane true true = refl
@@ -44,7 +43,8 @@ digits_told (x ∷ xs) = λ i. both_lanes (nat_le 48 x) (nat_le x 57) i ∷ digi
 
 line_lane : (a b c d : Bool) → bit_or (bit_or (bit_and (lane a) (lane b)) (lane c)) (lane d) ≡ lane (((a && b) || c) || d)
 line_lane a b c d =
-    ap (λ (n : ℕ). bit_or (bit_or n (lane c)) (lane d)) (both_lanes a b) ∙ (ap (λ (n : ℕ). bit_or n (lane d)) (either_lane (a && b) c) ∙ either_lane ((a && b) || c) d)
+    ap (λ (n : ℕ). bit_or (bit_or n (lane c)) (lane d)) (both_lanes a b)
+    ∙ (ap (λ (n : ℕ). bit_or n (lane d)) (either_lane (a && b) c) ∙ either_lane ((a && b) || c) d)
 
 text_told : (least : ℕ) (lines : Bool) (xs : List ℕ) → text_lanes least lines (length xs) xs ≡ map (λ x. lane (is_text least lines x)) xs
 text_told least false [] = refl
@@ -58,9 +58,11 @@ module _ (xs : List ℕ) (n : ℕ) (room : n ≤ length xs) (le : n ≤ 64) wher
   pub digits_first : are_set n (digit_lanes n (take n xs)) ≡ list_all is_digit (take n xs)
   digits_first = first_of xs n room le is_digit digit_lanes digits_told
 
-  pub text_first : (least : ℕ) (asked lines : Bool) → asked ≡ lines → are_set n (text_lanes least lines n (take n xs)) ≡ list_all (is_text least asked) (take n xs)
+  pub text_first : (least : ℕ) (asked lines : Bool) → asked ≡ lines
+      → are_set n (text_lanes least lines n (take n xs)) ≡ list_all (is_text least asked) (take n xs)
   text_first least asked lines is =
-      first_of xs n room le (is_text least lines) (text_lanes least lines) (text_told least lines) ∙ sym (ap (λ (b : Bool). list_all (is_text least b) (take n xs)) is)
+      first_of xs n room le (is_text least lines) (text_lanes least lines) (text_told least lines)
+      ∙ sym (ap (λ (b : Bool). list_all (is_text least b) (take n xs)) is)
 
 -- ---- the classes of text by their names
 
@@ -114,7 +116,8 @@ fewer q xs n m le all =
     sym (ap (list_all q) (take-take n m xs le)) ∙ part.0
 
 -- more pass where n more do
-pub more_pass : (q : ℕ → Bool) (xs : List ℕ) (at n : ℕ) → list_all q (take at xs) ≡ true → list_all q (take n (take (length xs - at) (drop at xs))) ≡ true → list_all q (take (at + n) xs) ≡ true
+pub more_pass : (q : ℕ → Bool) (xs : List ℕ) (at n : ℕ) → list_all q (take at xs) ≡ true → list_all q (take n (take (length xs - at) (drop at xs))) ≡ true
+    → list_all q (take (at + n) xs) ≡ true
 more_pass q xs at n first more = rw (take-add at n xs, list_all-append, first) (rw take_rest at more)
 
 -- where the first m pass, all do exactly where the last n do, which reach back to those

@@ -35,7 +35,12 @@ number-zeros (suc n) = omega (arith, number-cons 0 (replicate n 0), zero-mul (25
 
 number-zeros_one : (n : ℕ) → number (replicate n 0 ++ (1 ∷ [])) ≡ 1
 number-zeros_one zero = refl
-number-zeros_one (suc n) = omega (arith, number-cons 0 (replicate n 0 ++ (1 ∷ [])), zero-mul (256 ^ length {A = ℕ} (replicate n 0 ++ (1 ∷ []))), number-zeros_one n)
+number-zeros_one (suc n) = omega (
+  arith,
+  number-cons 0 (replicate n 0 ++ (1 ∷ [])),
+  zero-mul (256 ^ length {A = ℕ} (replicate n 0 ++ (1 ∷ []))),
+  number-zeros_one n,
+)
 
 size_of : (least : ℕ) (xs : List ℕ) → within 1 size_octets (length xs) ≡ true → least ≤ number xs → number xs ≤ greatest_size → is_size_from least xs ≡ true
 size_of least xs h k g = grind (arith, nat_tests)
@@ -63,7 +68,8 @@ value_of kinds.Size n h =
     (replicate n 0, len, size_of 0 (replicate n 0) (rw len h) (omega arith) (omega (arith, number-zeros n)), octets_same 0 n (omega arith))
 value_of kinds.SizeFromOne zero h = absurd cc
 value_of kinds.SizeFromOne (suc n) h =
-    let len : length {A = ℕ} (replicate n 0 ++ (1 ∷ [])) ≡ suc n = omega (arith, length-append {A = ℕ} (replicate n 0) (1 ∷ []), length-replicate {A = ℕ} n 0) in (
+    let len : length {A = ℕ} (replicate n 0 ++ (1 ∷ [])) ≡ suc n = omega
+    (arith, length-append {A = ℕ} (replicate n 0) (1 ∷ []), length-replicate {A = ℕ} n 0) in (
       replicate n 0 ++ (1 ∷ []),
       len,
       size_of 1 (replicate n 0 ++ (1 ∷ [])) (rw len h) (omega (arith, number-zeros_one n)) (omega (arith, number-zeros_one n)),
@@ -94,7 +100,8 @@ found_first true q e rest r h later found = let same : e.row ≡ r = cc in rw sa
 found_first false q e rest r h later found = later found
 
 -- what a search finds passes each test that all pass
-found_passes : (p : Entry → Bool) (q : Row → Bool) (es : List Entry) (r : Row) → list_all (λ e. q e.row) es ≡ true → option_map (λ x. x.row) (find p es) ≡ Some r → q r ≡ true
+found_passes : (p : Entry → Bool) (q : Row → Bool) (es : List Entry) (r : Row) → list_all (λ e. q e.row) es ≡ true
+    → option_map (λ x. x.row) (find p es) ≡ Some r → q r ≡ true
 found_passes p q [] r h found = absurd cc
 found_passes p q (e ∷ es) r h found =
     let parts = and_parts (q e.row) (list_all (λ x. q x.row) es) h in

@@ -1,18 +1,16 @@
 -- What a run of octets, or the end, tells a message, and what the object's refusal of a head says of it.
 -- Where heads, data and ends of datasets lead the parts of an unpacker.
 use Rattle.iim_unpack.proofs.Words.{AllCanContinue, AreLed, Begun, Bool, CanContinueAt, CountsFor, DataOctet, Dataset, DatasetEvent, FieldsPlace, Head, InData, InTag, IsBetween, IsSome, Limits, List, LowerLaws, MayContinue, MessageCause, MessageRefuses, None, ObjectToken, Octets, Option, Parts, PartsRefuse, Some, StandsFor, StandsIn, State, TellsMessage, TellsParts, TextsStandBetweenStxAndEtx, Within, [], ap, append-nil, append_assoc, arith, begun_head, begun_head_of, cond, eqb-true, false, flat_map, handed_on, if◌then◌else◌, length, limits_of, map, message_on, nat_eq, ne_eqb, not_all, object_of, object_so_far, octets_of, refl, same_Some, section, subst, sym, tells_message_nothing, text_so_far, true, ℕ, ◌++◌, ◌==◌, ◌∙◌, ◌∷◌, ◌≡◌}
-use Rattle.wire_message.specs.Laws.{ReadersStandAtLivingOctets}
+use Rattle.wire_message.specs.{Laws.ReadersStandAtLivingOctets, Format.Causes.HasCause}
 use Rattle.wire_message.specs.Format.Messages.{MessageDiesAt, MessageLanguage, MessageLivesWith, StoryLivesIn}
+use Rattle.wire_message.specs.States.Reading.{CountsCause, GoesSomewhere, IsWhole, LeadsOn, StandsAt, TakesPiece, LeadsTo}
 use Rattle.wire_story.specs.Format.Texts.{End, Octet, with_end}
 use Rattle.iim_unpack.specs.Routes.{HaltsAt, PassesTo, end_is_last, goes_nowhere}
 use Rattle.std.proofs.lemmas.List.{nil_from_length}
-use Rattle.iim_object.specs.Format.Objects.{ObjectEnd, ObjectOctet}
-use Rattle.wire_message.specs.States.Reading.{CountsCause, GoesSomewhere, IsWhole, LeadsOn, StandsAt, TakesPiece, LeadsTo}
-use Rattle.wire_message.specs.Format.Causes.{HasCause}
+use Rattle.iim_object.specs.{Format.Objects.ObjectEnd, Format.Objects.ObjectOctet, States.Reading.RefusesHead}
 use Rattle.wire_message.specs.declared.place.Place.{Place}
 use Rattle.wire_message.specs.declared.fault.MessageCause.TheVariants.{Unfinished}
 use Rattle.wire_story.specs.Format.Texts as story
-use Rattle.iim_object.specs.States.Reading.{RefusesHead}
 use Rattle.iim_object.specs.declared.reading.fault.ObjectFault.{ObjectFault}
 use Rattle.iim_object.specs.declared.reading.fault.ObjectFault.TheVariants.{Size, Stopped}
 use Rattle.iim_unpack.specs.declared.parts.message.ToMessage.{ToMessage}
@@ -86,7 +84,8 @@ module _ {S : Type 0} (goes : S → List story.StoryEvent → S → Type 0) (fai
 
 -- ---- the reader of the message
 
-pub passes_on : TextsStandBetweenStxAndEtx → (old new : Option Place) (o piece more : List ℕ) → wire.LeadsOn old piece more new → wire.StandsAt old o (text_so_far o)
+pub passes_on : TextsStandBetweenStxAndEtx → (old new : Option Place) (o piece more : List ℕ) → wire.LeadsOn old piece more new
+    → wire.StandsAt old o (text_so_far o)
     → wire.StandsAt new (o ++ piece) (text_so_far (o ++ piece)) × (text_so_far o ++ more ≡ text_so_far (o ++ piece))
 passes_on texts old new o piece more goes at =
     let next = goes o (text_so_far o) at in
@@ -149,12 +148,14 @@ is_language reader o text whole at =
     record { object = o; head = head; text = text; trailer = wire.trailer_read reader; message = message; tokens_are = refl }
 
 all_by : ReadersStandAtLivingOctets → (limits : Limits) (ds : List Dataset) (begun : Begun) (reader : Option Place) (text : List ℕ)
-    → wire.StandsAt reader (object_so_far ds begun) text → (section ds begun ≡ 9 → wire.IsWhole reader) → MayContinue limits ds begun → AllCanContinue limits ds begun
+    → wire.StandsAt reader (object_so_far ds begun) text → (section ds begun ≡ 9 → wire.IsWhole reader) → MayContinue limits ds begun
+    → AllCanContinue limits ds begun
 all_by living limits ds begun reader text at whole sizes =
     let both = living (object_so_far ds begun) text at.0 at.2 in
     record {
       sizes = sizes;
-      message = lives_whole (object_so_far ds begun) (nat_eq (section ds begun) 9) both.0 (λ is. is_language reader (object_so_far ds begun) text (whole (eqb-true (section ds begun) 9 is)) at);
+      message = lives_whole (object_so_far ds begun) (nat_eq (section ds begun) 9) both.0
+          (λ is. is_language reader (object_so_far ds begun) text (whole (eqb-true (section ds begun) 9 is)) at);
       story = both.1;
     }
 
@@ -163,14 +164,16 @@ all_for living p ds (InTag held) at =
     all_by living (limits_of p.fields) ds (InTag held) p.message (text_so_far (object_of ds)) at.message at.ended
     (record { records = at.fields.alive; within = record { kept = at.fields.within; subfiles = at.few }; object = at.object.alive })
 all_for living p ds (InData h taken) at =
-    all_by living (limits_of p.fields) ds (InData h taken) p.message (text_so_far (object_so_far ds (InData h taken))) at.message at.ended (goes_within p ds h taken at)
+    all_by living (limits_of p.fields) ds (InData h taken) p.message (text_so_far (object_so_far ds (InData h taken))) at.message at.ended
+    (goes_within p ds h taken at)
 
 pub counts_for : (cause : MessageCause) (m n : ℕ) → wire.CountsCause m n cause → CountsFor (causes.Message cause) m n
 counts_for messages.BadOctet m n h = h
 counts_for other m n h = h
 
 -- the object, with octets more of a subfile
-object_more : (ds : List Dataset) (h : Head) (taken run : List ℕ) → h.rec ≡ 8 → object_so_far ds (InData h taken) ++ run ≡ object_so_far ds (InData h (taken ++ run))
+object_more : (ds : List Dataset) (h : Head) (taken run : List ℕ) → h.rec ≡ 8
+    → object_so_far ds (InData h taken) ++ run ≡ object_so_far ds (InData h (taken ++ run))
 object_more ds h taken run eight = rw eight (append_assoc (object_of ds) taken run)
 
 module _ {S : Type 0} {goes : S → List story.StoryEvent → S → Type 0} {failures : S → ℕ} (p : Parts) (k : Head) (begun : HasBegun p k) where

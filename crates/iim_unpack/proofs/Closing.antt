@@ -2,15 +2,14 @@
 -- A whole dataset leads the parts of an unpacker on; or a subfile is refused at an octet.
 use Rattle.iim_unpack.proofs.Words.{Admits, AreAfter, AreBetween, Bool, CountsFor, DataOctet, Dataset, DatasetEnd, DatasetEvent, FieldFault, FieldsPlace, HasFewSubfiles, Head, HeadRead, InData, InTag, IsBetween, IsObjectFault, IsRefusedValue, IsValueFault, List, LowerLaws, MessageCause, MessageRefuses, None, NumberRead, Octets, Option, Parts, PartsRefuse, SectionsLive, SectionsLiveAt, Some, Spells, StandsAfter, StandsIn, State, SubfileBegun, Takes, TellsMessage, TellsParts, TellsWhole, TokenFault, Within, [], ap, append-nil, append_assoc, are_octets, arith, begun_head, begun_head_of, cond, data_of, eqb-true, events_at, events_of, false, first_fault, flat_map, get_or, handed_on, head_of, if◌then◌else◌, inl, inr, is_kept, length, limits_of, map, message_on, nat_eq, ne_eqb, not_all, number, object_of, of_field, option_or, place_after_datasets, place_at, refl, section_of, subst, sym, tells_message_nothing, tells_number, text_so_far, true, true≢false, value_fault, value_token, ℕ, ◌++◌, ◌<◌, ◌∙◌, ◌∷◌, ◌≡◌}
 use Rattle.iim_unpack.specs.Routes.{LeadsParts, NotClosed, TookWhole, stopped_joined, tells_parts_joined}
+use Rattle.iim_unpack.specs.States.Unpacking.{has_ended}
 use Rattle.iim_fields.proofs.Sections.{last_more}
-use Rattle.iim_places.proofs.Places.{number_leads, silent_leads}
-use Rattle.iim_places.proofs.ObjectOctets.{few_more, object_of_more}
-use Rattle.iim_fields.specs.States.Standing.{IsOf, PassesSubfile}
-use Rattle.iim_fields.specs.Format.Records.{number_told}
+use Rattle.iim_places.proofs.{Places.number_leads, Places.silent_leads, ObjectOctets.few_more, ObjectOctets.object_of_more, Objects.records_alive}
+use Rattle.iim_fields.specs.{States.Standing.IsOf, States.Standing.PassesSubfile, Format.Records.number_told}
 use Rattle.iim_object.specs.States.Reading as objects
-use Rattle.iim_unpack.proofs.Faults.{field_value, object_value}
+use Rattle.iim_unpack.proofs.{Faults.field_value, Faults.object_value, Sequences.all_came, Sequences.end_told, Heading.begins_object, Heading.tells_parts_head}
 use Rattle.iim_unpack.proofs.Carrying.{HasBegun, after_all, all_for, in_one, stopped_object, tells_parts_object}
-use Rattle.iim_unpack.proofs.Sequences.{all_came, end_told}
+use Rattle.iim_unpack.proofs.Intakes.{Joined}
 use Rattle.wire_story.specs.Format.Texts as story
 use Rattle.std.specs.Prelude.{IsSome, is_none, is_some}
 use Rattle.std.proofs.lemmas.Bool.{eqb-false, or_cases}
@@ -23,10 +22,6 @@ use Rattle.iim_object.specs.Format.Objects as object_events
 use Rattle.iim_object.specs.Format.Objects.{place_ended}
 use Rattle.wire_message.specs.States.Reading as wire
 use Rattle.wire_message.specs.declared.place.Place.{Place}
-use Rattle.iim_unpack.specs.States.Unpacking.{has_ended}
-use Rattle.iim_places.proofs.Objects.{records_alive}
-use Rattle.iim_unpack.proofs.Heading.{begins_object, tells_parts_head}
-use Rattle.iim_unpack.proofs.Intakes.{Joined}
 
 -- ---- numbers
 
@@ -50,7 +45,8 @@ ClosesFields old new told = (ds : List Dataset) (h : Head) (taken : List ℕ) �
     → StandsAfter new (ds ++ d ∷ []) × (told ≡ number_told d)
 
 -- the dataset is that of the head
-is_of : (ds : List Dataset) (p : Parts) (h : Head) (taken : List ℕ) → Within p ds h taken → length taken ≡ h.count → IsOf h (if nat_eq h.rec 8 then [] else taken) (data_of h taken)
+is_of : (ds : List Dataset) (p : Parts) (h : Head) (taken : List ℕ) → Within p ds h taken → length taken ≡ h.count
+    → IsOf h (if nat_eq h.rec 8 then [] else taken) (data_of h taken)
 is_of ds p h taken at whole =
     record { head = λ i. record { rec = h.rec; set = h.set; count = whole i }; octets = at.octets; given = λ other. rw (ne_eqb h.rec 8 other) refl }
 
@@ -191,7 +187,8 @@ admits_where {xs = xs} s exactly is = record { count = s.count; octets = s.fit; 
 
 -- a record that is kept is not the object's, and tells no number
 keeps : (r : ℕ) → is_kept r ≡ true → (nat_eq r 8 ≡ false) × (nat_eq r 9 ≡ false) × (tells_number r ≡ false)
-keeps r kept = elim (or_cases (nat_eq r 1) (nat_eq r 2) kept) [ inl one ↦ rw (eqb-true r 1 one) (refl, refl, refl) | inr two ↦ rw (eqb-true r 2 two) (refl, refl, refl) ]
+keeps r kept = elim (or_cases (nat_eq r 1) (nat_eq r 2) kept)
+    [ inl one ↦ rw (eqb-true r 1 one) (refl, refl, refl) | inr two ↦ rw (eqb-true r 2 two) (refl, refl, refl) ]
 
 -- ---- the dataset
 

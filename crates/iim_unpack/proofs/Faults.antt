@@ -3,17 +3,13 @@ use Rattle.iim_unpack.proofs.Words.{Bool, Dataset, FieldFault, Head, HeadLeads, 
 use Rattle.std.proofs.Common.{nat_lt, ◌&&◌}
 use Rattle.std.proofs.lemmas.Bool.{le-ltb}
 use Rattle.iim_dataset.specs.Format.Octets as languages
-use Rattle.iim_tables.specs.Format.Rows.{row_of}
+use Rattle.iim_tables.specs.{Format.Rows.row_of, Format.Records.occurs}
 use Rattle.iim_tables.specs.declared.shape.Row.{Row}
-use Rattle.iim_fields.specs.Format.Records.{after}
-use Rattle.iim_tables.specs.Format.Records.{occurs}
+use Rattle.iim_fields.specs.{Format.Records.after, Laws.HeadsDieWithTheirFault, Laws.ValuesDieWithTheirFault}
 use Rattle.iim_fields.specs.Format.Causes.{fault_by_row, fault_on, head_fault, is_first, is_in_order, kept_octets, limits_fault, missing_fault, missing_of, record_fault, room_fault, row_fault, section_run}
-use Rattle.iim_fields.specs.Laws.{HeadsDieWithTheirFault, ValuesDieWithTheirFault}
 use Rattle.iim_fields.specs.declared.fault.FieldCause.TheVariants.{RecordOrder}
-use Rattle.iim_object.specs.Format.Objects.{MayFollow, Place, place_after}
-use Rattle.iim_object.specs.Format.Causes.{cause_at}
+use Rattle.iim_object.specs.{Format.Objects.MayFollow, Format.Objects.Place, Format.Objects.place_after, Format.Causes.cause_at, Laws.TokensFollow}
 use Rattle.iim_object.specs.States.Reading.{Refuses, StandsAt}
-use Rattle.iim_object.specs.Laws.{TokensFollow}
 use Rattle.iim_object.specs.declared.reading.fault.SizeCause.{SizeCause}
 use Rattle.iim_places.specs.Format.Causes.{layer_of, size_on, DiesAtHead, DiesAtValue, HaveRoom, number_fault, object_fault, subfile_fault}
 use Rattle.iim_places.specs.declared.refusal.Layer.{Layer}
@@ -65,14 +61,16 @@ dies_by limits ds h fault (Some other) rest by more alive none is dead =
     rw layer (λ goes. let bad : Some other ≡ None = none goes in cc)
 
 -- a head that the records or the limits refuse
-pub field_head : HeadsDieWithTheirFault → (limits : Limits) (ds : List Dataset) (h : Head) (f : FieldFault) → IsOctet h.set → SectionsLive ds → IsHeadFault limits ds h f
+pub field_head : HeadsDieWithTheirFault → (limits : Limits) (ds : List Dataset) (h : Head) (f : FieldFault) → IsOctet h.set → SectionsLive ds
+    → IsHeadFault limits ds h f
     → IsRefusedHead limits ds h (of_field f)
 field_head dies limits ds h f small alive is =
     let both = dies ds h alive in
     record {
       first = ap (λ (o : Option FieldFault). option_or (option_map of_field o) (option_or (subfile_fault ds h) (object_fault ds h))) is.first;
       dead = dies_by limits ds h f (record_fault ds h) (limits_fault limits ds h) (head_records (section_after ds) (λ n. occurs n (section_run ds)) h)
-          (room_limits limits (kept_octets ds) (length (kept ds)) h) (λ none. both.0 (none, small)) (λ at. (both.1 at).0) is.first (λ at room. is.dead at room.kept);
+          (room_limits limits (kept_octets ds) (length (kept ds)) h) (λ none. both.0 (none, small)) (λ at. (both.1 at).0) is.first
+          (λ at room. is.dead at room.kept);
     }
 
 records_of : (o : Option FieldFault) (f : FieldFault) → IsRecords o → o ≡ Some f → layer_of f.cause ≡ layers.Record
@@ -97,7 +95,8 @@ not_kept r is = grind arith
 objects : (r : ℕ) → IsObjects r → (nat_eq r 8 || nat_eq r 9) ≡ true
 objects r is = grind arith
 
-no_first : HeadsDieWithTheirFault → (limits : Limits) (ds : List Dataset) (h : Head) → SectionsLive ds → SectionsLiveAt ds h → IsObjects h.rec → first_fault limits ds h ≡ None
+no_first : HeadsDieWithTheirFault → (limits : Limits) (ds : List Dataset) (h : Head) → SectionsLive ds → SectionsLiveAt ds h → IsObjects h.rec
+    → first_fault limits ds h ≡ None
 no_first dies limits ds h alive at is =
     let none : record_fault ds h ≡ None = ((dies ds h alive).1 at).0 in
     let room : limits_fault limits ds h ≡ None = rw (not_kept h.rec is) refl in
@@ -107,7 +106,8 @@ pub have_room : (limits : Limits) (ds : List Dataset) (h : Head) → IsObjects h
 have_room limits ds h is few = record { kept = λ kept. absurd (let bad : true ≡ false = sym kept ∙ not_kept h.rec is in cc); subfiles = few }
 
 -- where `max_subfiles` subfiles have come, the head of another is one too many
-pub too_many_head : HeadsDieWithTheirFault → (limits : Limits) (ds : List Dataset) (h : Head) (fault : TokenFault) → SectionsLive ds → SectionsLiveAt ds h → h.rec ≡ 8
+pub too_many_head : HeadsDieWithTheirFault → (limits : Limits) (ds : List Dataset) (h : Head) (fault : TokenFault) → SectionsLive ds → SectionsLiveAt ds h
+    → h.rec ≡ 8
     → max_subfiles ≤ length (of_record 8 ds) → fault ≡ too_many_on h → IsRefusedHead limits ds h fault
 too_many_head dies limits ds h fault alive at eight many same =
     let none = no_first dies limits ds h alive at (inl eight) in
@@ -120,7 +120,8 @@ too_many_head dies limits ds h fault alive at eight many same =
     })
 
 -- the object layer dies with the token, after the tokens of the place
-dead_after : TokensFollow → (old : Option State) (p q : Place) (token : ObjectToken) (cause : SizeCause) → Refuses old token cause → StandsAt old p → MayFollow p token
+dead_after : TokensFollow → (old : Option State) (p q : Place) (token : ObjectToken) (cause : SizeCause) → Refuses old token cause → StandsAt old p
+    → MayFollow p token
     → place_after p token ≡ q → (ObjectLives q → ⊥) × (cause_at p token ≡ Some cause)
 dead_after follow old p q token cause refuses stands may leads =
     let both = refuses p stands may in (
@@ -129,7 +130,8 @@ dead_after follow old p q token cause refuses stands may leads =
     )
 
 -- the object refuses a head
-pub object_head : HeadsDieWithTheirFault → TokensFollow → (limits : Limits) (ds : List Dataset) (h : Head) (fault : TokenFault) (old : Option State) → SectionsLive ds → SectionsLiveAt ds h
+pub object_head : HeadsDieWithTheirFault → TokensFollow → (limits : Limits) (ds : List Dataset) (h : Head) (fault : TokenFault) (old : Option State)
+    → SectionsLive ds → SectionsLiveAt ds h
     → IsObjects h.rec → (h.rec ≡ 8 → length (of_record 8 ds) < max_subfiles) → HeadLeads ds h → StandsAt old (place_after_datasets ds)
     → IsObjectFault old (head_token h.rec h.count) h fault → IsRefusedHead limits ds h fault
 object_head dies follow limits ds h fault old alive at is few leads stands (cause, refuses, same) =
@@ -146,11 +148,13 @@ object_head dies follow limits ds h fault old alive at is few leads stands (caus
     no_subfile ds h is few = grind arith
 
 -- the object refuses the number of a value
-pub object_value : ValuesDieWithTheirFault → TokensFollow → (ds : List Dataset) (d : Dataset) (fault : TokenFault) (old : Option State) → Octets d.octets → SectionsLiveAt ds (head_of d)
+pub object_value : ValuesDieWithTheirFault → TokensFollow → (ds : List Dataset) (d : Dataset) (fault : TokenFault) (old : Option State) → Octets d.octets
+    → SectionsLiveAt ds (head_of d)
     → SectionsLive (ds ++ d ∷ []) → tells_number d.rec ≡ true → ValueLeads ds d → StandsAt old (place_at ds (head_of d))
     → IsObjectFault old (value_token d.rec d.set (number d.octets)) (head_of d) fault → IsRefusedValue ds d fault
 object_value dies follow ds d fault old octets at alive tells leads stands (cause, refuses, same) =
     let none : value_fault d ≡ None = (dies ds d at octets).1 alive in
-    let dead = dead_after follow old (place_at ds (head_of d)) (place_after_datasets (ds ++ d ∷ [])) (value_token d.rec d.set (number d.octets)) cause refuses stands leads.0 leads.1 in
+    let dead = dead_after follow old (place_at ds (head_of d)) (place_after_datasets (ds ++ d ∷ [])) (value_token d.rec d.set (number d.octets)) cause refuses
+    stands leads.0 leads.1 in
     let second : number_fault ds d ≡ Some (size_on (head_of d) cause) = rw (tells, dead.1) refl in
     subst (IsRefusedValue ds d) (sym same) (record { first = λ i. option_or (option_map of_field (none i)) (second i); dead = (alive, dead.0) })

@@ -4,36 +4,30 @@ use Rattle.iim_unpack.proofs.Words.{AllCanContinue, AreAfter, AreBetween, AreInO
 use Rattle.iim_dataset.specs.declared.head.HeadCause.{HeadCause}
 use Rattle.std.specs.Prelude.{IfErr, IfOk, OnOk, Result}
 use Rattle.iim_dataset.specs.States.Reading.{Completes, Reader, RefusesFor, RefusesOne, StillStands, TagDies, TakesPiece, tag_cause_of, TellsSink}
+use Rattle.iim_dataset.specs.{Format.Datasets.SpellsStream, Format.Datasets.CompletesData, Format.Datasets.Concerns, Laws.CompletesNow}
 use Rattle.iim_dataset.specs.declared.fault.Fault.{Fault}
 use Rattle.iim_dataset.specs.declared.place.DatasetPlace.{DatasetPlace as Place}
-use Rattle.iim_fields.specs.States.Standing.{room_of}
+use Rattle.iim_fields.specs.{States.Standing.room_of, Format.Records.AreSections, Format.Causes.kept as kept_of}
 use Rattle.wire_story.specs.Format.Texts as story
 use Rattle.iim_unpack.specs.Routes.{RefusesRoute, Routes, Refused, RefusesAt, front_in_order}
 use Rattle.iim_unpack.specs.Steps.{FailsAs, FailsFor, HasAdvanced, cause_of_tag, tag_fault}
 use Rattle.iim_unpack.specs.declared.parts.router.Router.{Router}
-use Rattle.iim_dataset.specs.Format.Datasets.{SpellsStream, CompletesData, Concerns}
-use Rattle.iim_dataset.specs.Laws.{CompletesNow}
-use Rattle.iim_fields.specs.Format.Records.{AreSections}
-use Rattle.iim_fields.specs.Format.Causes.{kept as kept_of}
 use Rattle.iim_object.specs.States.Reading as objects
 use Rattle.iim_object.specs.Format.Objects.{AreObjectRecords, HaveSizes}
 use Rattle.wire_message.specs.States.Reading as wire
 use Rattle.wire_story.specs.Format.Texts.{IsText}
 use Rattle.wire_message.specs.Format.Messages.{Header, IsMessage}
-use Rattle.iim_places.specs.Laws.{AdmittedOctetsHaveOneValue, RefusalsTellTheLowestCause}
-use Rattle.iim_places.specs.Format.Admitted.{Admits}
-use Rattle.iim_places.specs.Format.Causes.{tag_cause}
+use Rattle.iim_places.specs.{Laws.AdmittedOctetsHaveOneValue, Laws.RefusalsTellTheLowestCause, Format.Admitted.Admits, Format.Causes.tag_cause}
 use Rattle.iim_places.specs.Format.Open.{IsBadTagAt, RefusesByTests}
 use Rattle.iim_places.specs.declared.refusal.Layer.TheVariants as layers
-use Rattle.iim_places.proofs.Objects.{are_records}
+use Rattle.iim_places.proofs.{Objects.are_records, Lasts.last_sections, ObjectOctets.no_object}
 use Rattle.iim_unpack.proofs.Carrying.{all_for}
-use Rattle.iim_places.proofs.Lasts.{last_sections}
 use Rattle.iim_unpack.proofs.Sequences.{Reached, by_data, ended_by_record, handed_in_order, reached, text_of, unended_inside}
-use Rattle.iim_places.proofs.ObjectOctets.{no_object}
 
 module _ {S : Type 0} (goes : S → List story.StoryEvent → S → Type 0) (failures : S → ℕ) where
   pub fails_for : (cause : Option HeadCause) (old : Place) (octets : List ℕ) (k : ℕ) (new : Place) (a b : Router S)
-      → RefusesFor (Routes goes failures) (RefusesRoute goes failures) cause old octets k new a b → StillStands (λ (r : Router S). Takes r.parts.now) cause new b
+      → RefusesFor (Routes goes failures) (RefusesRoute goes failures) cause old octets k new a b
+      → StillStands (λ (r : Router S). Takes r.parts.now) cause new b
       → FailsFor goes failures cause b.refused (old, a.parts.now, a.sink.now) octets k (new, b.parts.now, b.sink.now)
   fails_for None old octets k new a b h open' = record { more = h.0.more; event = h.0.event; stopped = h.0.stopped.2; completes = h.0.completes }
   fails_for (Some cause) old octets k new a b h open' =
@@ -169,7 +163,16 @@ admits_by laws v p s w sizes =
     let by = laws.by_number w.ds r in
     let have = sizes w.ds r w.after.object in
     let have' : HaveSizes (of_record 7 w.ds) (of_record 8 w.ds) (of_record 9 w.ds) s = rw (by.sevens, by.eights, by.nines) have in
-    record { datasets = w.ds; spelled = w.stream; sections = w.sections; fields = refl; text = text_so_far (object_of w.ds); message = w.message; lines = w.lined; sizes = have' }
+    record {
+      datasets = w.ds;
+      spelled = w.stream;
+      sections = w.sections;
+      fields = refl;
+      text = text_so_far (object_of w.ds);
+      message = w.message;
+      lines = w.lined;
+      sizes = have';
+    }
 
 pub done_by : LowerLaws → (v : Unpacking) (p : List ℕ) (n : ℕ) (s : Sizes) → v.refused ≡ None → AreBetween true v.parts → v.reader.place ≡ between
     → v.octets ≡ n → IsLed v p → TellsSizes v s → IsDoneWith v p n
@@ -187,8 +190,10 @@ done_by laws v p n s taking ended place counts led sizes =
     }
 
 -- the value is handed over
-pub tells_value : LowerLaws → AdmittedOctetsHaveOneValue → (u : Unpacking) (p : List ℕ) (n : ℕ) (fields : List Dataset) (head : Header) (trailer : List ℕ) (sizes : Sizes) → IsDoneWith u p n
-    → wire.head_read u.parts.message ≡ Some head → trailer ≡ wire.trailer_read u.parts.message → TellsSizes u sizes → ((ds : List Dataset) → StandsAfter u.parts.fields ds → fields ≡ kept_of ds)
+pub tells_value : LowerLaws → AdmittedOctetsHaveOneValue
+    → (u : Unpacking) (p : List ℕ) (n : ℕ) (fields : List Dataset) (head : Header) (trailer : List ℕ) (sizes : Sizes) → IsDoneWith u p n
+    → wire.head_read u.parts.message ≡ Some head → trailer ≡ wire.trailer_read u.parts.message → TellsSizes u sizes
+    → ((ds : List Dataset) → StandsAfter u.parts.fields ds → fields ≡ kept_of ds)
     → (v : Value) → Admits p v → (fields ≡ v.fields) × (head ≡ v.head) × (trailer ≡ v.trailer) × (sizes ≡ v.sizes)
 tells_value laws one u p n fields head trailer sizes at head_is trailer_is sizes_are envelope v admits =
     let w = whole_parts laws u p at.ended at.place at.is_led in
@@ -318,18 +323,27 @@ refused_as laws {limits} {events} {text} {event} {fault} r ds b told =
     in_tag (HeadRead h) x y (is, on, open', why) = (is, record { sizes = on.sizes; message = on.message; story = on.story }, open', why)
     in_tag other x y (is, on, open', why) = absurd why
 
-end_text : (octets : List ℕ) (next : ℕ) (ds : List Dataset) (h : Head) (given text : List ℕ) → (h.rec ≡ 8 → ⊥) → text ≡ text_so_far (object_of ds) → CompletesData octets next ds h given → IsTextOf octets text
-end_text octets next ds h given text other is (inl (taken, reads, parts, count)) = (ds, InData h taken, reads, is ∙ ap text_so_far (sym (no_object ds h taken other)))
+end_text : (octets : List ℕ) (next : ℕ) (ds : List Dataset) (h : Head) (given text : List ℕ) → (h.rec ≡ 8 → ⊥) → text ≡ text_so_far (object_of ds)
+    → CompletesData octets next ds h given → IsTextOf octets text
+end_text octets next ds h given text other is (inl (taken, reads, parts, count)) = (
+  ds,
+  InData h taken,
+  reads,
+  is ∙ ap text_so_far (sym (no_object ds h taken other)),
+)
 end_text octets next ds h given text other is (inr (held, reads, tag, count, none)) = (ds, InTag held, reads, is)
 
 -- the events up to one that an octet completes
-completed_in_order : (octets : List ℕ) (next : ℕ) (events : List DatasetEvent) (event : DatasetEvent) → Completes octets next events event → AreInOrder (events ++ event ∷ [])
+completed_in_order : (octets : List ℕ) (next : ℕ) (events : List DatasetEvent) (event : DatasetEvent) → Completes octets next events event
+    → AreInOrder (events ++ event ∷ [])
 completed_in_order octets next events event c =
     front_in_order (events ++ event ∷ []) c.later
-    (subst AreInOrder (sym (append_assoc events (event ∷ []) c.later)) (handed_in_order (octets ++ next ∷ []) (events ++ event ∷ c.later) c.next_begun c.with_next))
+    (subst AreInOrder (sym (append_assoc events (event ∷ []) c.later))
+    (handed_in_order (octets ++ next ∷ []) (events ++ event ∷ c.later) c.next_begun c.with_next))
 
 -- the event that an octet completes is refused, and so is the octet after those before it
-token_refused : LowerLaws → (limits : Limits) (octets : List ℕ) (next : ℕ) (events : List DatasetEvent) (text : List ℕ) (event : DatasetEvent) (fault : TokenFault) → CompletesNow octets next events event
+token_refused : LowerLaws → (limits : Limits) (octets : List ℕ) (next : ℕ) (events : List DatasetEvent) (text : List ℕ) (event : DatasetEvent)
+    (fault : TokenFault) → CompletesNow octets next events event
     → Refused limits events text event fault → IsTextOf octets text × RefusesByTests limits octets next fault
 token_refused laws limits octets next events text (HeadRead h) fault c r =
     let (is_text, on, unended, why) = refused_as laws r c.whole (InTag c.held) c.told in (
@@ -356,7 +370,16 @@ token_refused laws limits octets next events text (DataOctet b) fault (same, c) 
 token_refused laws limits octets next events text DatasetEnd fault c r =
     let (is_text, on, unended, (other, why)) = refused_as laws r c.whole (InData c.head c.given) c.told in (
       end_text octets next c.whole c.head c.given text other (is_text ∙ ap text_so_far (no_object c.whole c.head c.given other)) c.completes,
-      inr (inr (inr (record { whole = c.whole; head = c.head; given = c.given; is_value = other; completes = c.completes; leads_on = on; unfinished = unended; refuses = why }))),
+      inr (inr (inr (record {
+        whole = c.whole;
+        head = c.head;
+        given = c.given;
+        is_value = other;
+        completes = c.completes;
+        leads_on = on;
+        unfinished = unended;
+        refuses = why;
+      }))),
     )
 
 -- octet k of a piece is refused, after octets on which the unpacker stands
@@ -422,7 +445,8 @@ truncated_by u p a at =
       whole = led.leads.hands.whole;
       begun = led.leads.begun;
       reads = led.leads.hands.reads;
-      refusal = ap (λ (n : ℕ). truncated_in n (named_by u.reader.place)) at.counts ∙ ap (truncated_in a) (named_as u.reader.place led.leads.begun led.leads.keeps);
+      refusal = ap (λ (n : ℕ). truncated_in n (named_by u.reader.place)) at.counts
+          ∙ ap (truncated_in a) (named_as u.reader.place led.leads.begun led.leads.keeps);
     }
 
 -- an unpacker of which no octet has come

@@ -10,8 +10,7 @@ use Rattle.wire_message.specs.declared.place.Place.{Place}
 use Rattle.iim_unpack.specs.Routes.{RefusesObject, RefusesSubfile}
 use Rattle.iim_places.specs.Format.Open.{IsUnfinished}
 use Rattle.iim_places.proofs.Places.{end_leads, subfile_leads}
-use Rattle.iim_unpack.proofs.Faults.{IsObjects, field_head, have_room, object_head, too_many_head}
-use Rattle.iim_unpack.proofs.Sequences.{ended_by_record}
+use Rattle.iim_unpack.proofs.{Faults.IsObjects, Faults.field_head, Faults.have_room, Faults.object_head, Faults.too_many_head, Sequences.ended_by_record}
 use Rattle.iim_unpack.proofs.Carrying.{after_all, all_for, counts_for, passes_on}
 
 -- the text stays what it was
@@ -47,7 +46,8 @@ leads_by : LowerLaws → (ds : List Dataset) (h : Head) → SectionsLiveAt ds h 
 leads_by laws ds h alive (inl eight) room = subfile_leads laws ds h alive eight (room eight)
 leads_by laws ds h alive (inr nine) room = end_leads laws ds h alive nine
 
-pub begins_other : (p : Parts) (ds : List Dataset) (h : Head) (checker : FieldsPlace) → (h.rec ≡ 8 → ⊥) → (h.rec ≡ 9 → ⊥) → AreAfter p ds → StandsIn checker ds h []
+pub begins_other : (p : Parts) (ds : List Dataset) (h : Head) (checker : FieldsPlace) → (h.rec ≡ 8 → ⊥) → (h.rec ≡ 9 → ⊥) → AreAfter p ds
+    → StandsIn checker ds h []
     → Within (record p { fields = checker }) ds h []
 begins_other p ds h checker other8 other9 at inside =
     let elsewhere : place_at ds h ≡ place_after_datasets ds = rw (ne_eqb h.rec 8 other8, ne_eqb h.rec 9 other9) refl in

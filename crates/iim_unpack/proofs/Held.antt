@@ -2,7 +2,7 @@
 -- The ticket that is spelled of an unpacker is that of its place, and how long it is.
 use Rattle.iim_unpack.proofs.Words.{Begun, Dataset, DatasetPlace, EventsTellTheDatasets, Head, HoldsFew, InData, InTag, Inside, IsDoneWith, IsKeptAs, IsLed, IsTicketOf, LeadsToSaved, List, MessagePlace, Option, Parts, Place, Reads, Some, Stands, StandsAfter, StandsFor, StandsIn, Stood, Tag, Unpacking, [], ap, arith, begun_head, begun_head_of, cases_Bool, count_octets, count_of, false, has_ended, if◌then◌else◌, inl, inr, is_kept, kept, length, limits_in, nat_eq, numbers_of, object_of, object_so_far, of_record, place_after_datasets, place_at, place_of, present_version, refl, section, section_after, stated_numbers, subst, sym, ℕ, ◌*◌, ◌+◌, ◌-◌, ◌<◌, ◌∙◌, ◌≡◌, ◌≤◌, ◌⊎◌}
 use Rattle.iim_fields.specs.Format.Causes.{joined}
-use Rattle.iim_places.proofs.Bounds.{is_one}
+use Rattle.iim_places.proofs.{Bounds.is_one, Tickets.heads_by, Tickets.message_at, Tickets.stated_by, Tickets.taken_by, Tickets.total_of}
 use Rattle.iim_places.proofs.TicketLengths.{AreShortIn, data_length, held_length, none_taken, numbers_length, rest_length, some_taken, tag_begun_length, texts_at, texts_short}
 use Rattle.iim_dataset.specs.declared.place.DatasetPlace.TheVariants as tags
 use Rattle.wire_message.specs.States.Reading as wire
@@ -10,10 +10,9 @@ use Rattle.wire_message.specs.States.Reading.{saved, IsPlace}
 use Rattle.wire_message.specs.declared.place.Place.{Place as Message}
 use Rattle.wire_message.specs.declared.place.Place.TheVariants as at
 use Rattle.iim_unpack.specs.States.Unpacking.{begun_entries, message_held, returns_held, tag_held}
+use Rattle.iim_unpack.specs.Steps.{IsSpelled, phase_in}
 use Rattle.iim_unpack.proofs.Sequences.{ended_by_record, led_of, reached, unended_inside}
 use Rattle.iim_places.specs.Format.Tickets.{heads_of, phase_octets, phase_of, ticket_of}
-use Rattle.iim_unpack.specs.Steps.{IsSpelled, phase_in}
-use Rattle.iim_places.proofs.Tickets.{heads_by, message_at, stated_by, taken_by, total_of}
 
 -- ---- the message
 
@@ -31,7 +30,8 @@ few_of_message reader octets text (place, is, leads) =
 
 -- ---- the tag
 
-few_of_tag : (place : DatasetPlace) (begun : Begun) (p : List ℕ) (ds : List Dataset) → IsKeptAs place begun → Reads count_octets p ds begun → tag_held place ≤ 12
+few_of_tag : (place : DatasetPlace) (begun : Begun) (p : List ℕ) (ds : List Dataset) → IsKeptAs place begun → Reads count_octets p ds begun
+    → tag_held place ≤ 12
 few_of_tag (tags.Tag held) (InTag octets) p ds keeps reads = let few = held_length p ds octets reads in omega (arith, few, ap length keeps)
 few_of_tag (tags.Tag held) (InData h taken) p ds keeps reads = absurd keeps
 few_of_tag (tags.Inside head left) begun p ds keeps reads = omega arith
@@ -61,7 +61,8 @@ few_entries parts ds h taken at' =
       | inr other ↦ let is = (rw other at one) in omega (arith, is, entries, at'.others.fields_in)
     ]
 
-few_in : (parts : Parts) (ds : List Dataset) (h : Head) (taken : List ℕ) → StandsIn parts.fields ds h (if nat_eq h.rec 8 then [] else taken) → length taken < h.count → FewFields parts
+few_in : (parts : Parts) (ds : List Dataset) (h : Head) (taken : List ℕ) → StandsIn parts.fields ds h (if nat_eq h.rec 8 then [] else taken)
+    → length taken < h.count → FewFields parts
 few_in parts ds h taken at' less =
     let octets = ap (λ (xs : List Dataset). length (joined xs)) at'.kept_are in
     let now = ap length at'.taken_are in
@@ -102,7 +103,8 @@ record Parted (place : DatasetPlace) (parts : Parts) (ticket : List ℕ) (s : Is
   pub text : List ℕ
   pub leads : LeadsToSaved (object_so_far whole begun) text s.message
 
-parted : (parts : Parts) (ticket : List ℕ) (whole : List Dataset) (begun : Begun) (place : DatasetPlace) (s : IsSpelled place parts ticket) → IsKeptAs place begun → StandsFor parts whole begun
+parted : (parts : Parts) (ticket : List ℕ) (whole : List Dataset) (begun : Begun) (place : DatasetPlace) (s : IsSpelled place parts ticket)
+    → IsKeptAs place begun → StandsFor parts whole begun
     → Parted place parts ticket s whole begun
 parted parts ticket ds (InTag held) (Tag octets) s keeps at = record {
   section = s.after ds at.fields;
@@ -176,7 +178,8 @@ placed tell u p ticket s led =
       spelled = s.spelled ∙ ap ticket_of same;
     }
 
-pub ticket_by : EventsTellTheDatasets → (u : Unpacking) (p ticket : List ℕ) (a : ℕ) → IsSpelled u.reader.place u.parts ticket → Stands u p a ⊎ IsDoneWith u p a → IsTicketOf p ticket
+pub ticket_by : EventsTellTheDatasets → (u : Unpacking) (p ticket : List ℕ) (a : ℕ) → IsSpelled u.reader.place u.parts ticket
+    → Stands u p a ⊎ IsDoneWith u p a → IsTicketOf p ticket
 ticket_by tell u p ticket a s stood =
     let by = placed tell u p ticket s (led_of stood) in
     record {
@@ -189,7 +192,8 @@ ticket_by tell u p ticket a s stood =
 
 -- with the kept datasets, what is begun is within the limits and some octets
 begun_length : (parts : Parts) (p : List ℕ) (ds : List Dataset) (b : Begun) → Reads count_octets p ds b → StandsFor parts ds b
-    → length (phase_octets present_version (phase_of ds b)) + (6 * length (kept ds) + length (joined (kept ds))) ≤ 26 + (parts.fields.limits.octets + 6 * parts.fields.limits.fields)
+    → length (phase_octets present_version (phase_of ds b)) + (6 * length (kept ds) + length (joined (kept ds))) ≤ 26
+    + (parts.fields.limits.octets + 6 * parts.fields.limits.fields)
 begun_length parts p ds (InTag held) reads stands =
     let phase = tag_begun_length (nat_eq (section_after ds) 9) held (held_length p ds held reads) in
     omega (arith, phase, stands.fields.within.octets_in, stands.fields.within.fields_in)
@@ -204,7 +208,8 @@ begun_length parts p ds (InData h taken) reads stands =
     ]
 
 -- Wherever the unpacker stands, its ticket is short.
-pub short_ticket : EventsTellTheDatasets → (u : Unpacking) (ticket : List ℕ) → IsSpelled u.reader.place u.parts ticket → Stood u → length ticket ≤ (limits_in u).octets + 6 * (limits_in u).fields + 256
+pub short_ticket : EventsTellTheDatasets → (u : Unpacking) (ticket : List ℕ) → IsSpelled u.reader.place u.parts ticket → Stood u
+    → length ticket ≤ (limits_in u).octets + 6 * (limits_in u).fields + 256
 short_ticket tell u ticket s (p, a, stood) =
     let by = placed tell u p ticket s (led_of stood) in
     let rest = rest_length (place_of by.whole by.begun by.message) (numbers_length _ _ _ _) (texts_short _ by.text by.message by.leads) in

@@ -5,26 +5,22 @@ use Rattle.std.proofs.Common.{length-take}
 use Rattle.std.proofs.lemmas.List.{drop-drop, drop-take}
 use Rattle.std.specs.Io.KnownBytes.{Consumes, IsAtEnd}
 use Rattle.iim_dataset.specs.States.Devices.{Device, HasGiven, MissedAfter, WithinInterruptionLimit}
+use Rattle.iim_dataset.specs.{Laws.GiftsJoin, Steps.consumes_consumes}
 use Rattle.std.specs.List.{slice_range}
-use Rattle.iim_unpack.specs.States.Blocks.{put_before}
+use Rattle.iim_unpack.specs.{States.Blocks.put_before, Steps.read_fault}
+use Rattle.iim_unpack.specs.States.Intakes.{Came, Faults, FedPiece, GivesNothing, IsRefusedOf, IsTruncatedIn, StandsOn, WasDone, WasEnded, WasGiven, WasMissed, WasRefused, WasTruncated}
 use Rattle.std.specs.Prelude.{IfNone, IfSome, IsTrue, ◌↔◌}
-use Rattle.iim_dataset.specs.Laws.{GiftsJoin}
 use Rattle.iim_dataset.specs.declared.device.IoFault.{IoFault}
 use Rattle.iim_dataset.specs.declared.device.IoFault.TheVariants as io
-use Rattle.iim_dataset.proofs.Lists.{nothing_of_two}
-use Rattle.iim_dataset.proofs.DeviceLaws.{broke_for_later}
-use Rattle.iim_dataset.specs.Steps.{consumes_consumes}
+use Rattle.iim_dataset.proofs.{Lists.nothing_of_two, DeviceLaws.broke_for_later}
 use Rattle.wire_story.specs.Format.Texts as story
-use Rattle.iim_unpack.specs.Steps.{read_fault}
-use Rattle.iim_unpack.specs.States.Intakes.{Came, Faults, FedPiece, GivesNothing, IsRefusedOf, IsTruncatedIn, StandsOn, WasDone, WasEnded, WasGiven, WasMissed, WasRefused, WasTruncated}
-use Rattle.iim_places.specs.Laws.{OpenOctetsAreBounded}
+use Rattle.iim_places.specs.{Laws.OpenOctetsAreBounded, Format.Admitted.Admits}
 use Rattle.iim_unpack.specs.declared.intake.Fed.{Fed}
 use Rattle.iim_unpack.specs.declared.intake.Fed.TheVariants as piece
 use Rattle.iim_unpack.specs.declared.intake.Intake.{Intake}
 use Rattle.iim_unpack.specs.declared.intake.IntakeFault.{IntakeFault}
 use Rattle.iim_unpack.specs.declared.intake.IntakeFault.TheVariants.{Interrupted, Read, Refused}
 use Rattle.iim_unpack.proofs.Feeding.{stood_stands}
-use Rattle.iim_places.specs.Format.Admitted.{Admits}
 
 -- after some of the octets of a block
 pub passes : (octets : List ℕ) (from to used : ℕ) (held : List ℕ) → slice_range octets from to ≡ held → from + used ≤ to
@@ -48,13 +44,16 @@ fits octets from to used held is order le =
     omega (arith, order, le, rw is at few)
 
 -- The whole block was used.
-pub line_used : (n : ℕ) (held new piece : List ℕ) (d : Device) → n ≡ length held → piece ≡ held → new ≡ drop n held → HasGiven (with_held held d) (with_held new d) piece
+pub line_used : (n : ℕ) (held new piece : List ℕ) (d : Device) → n ≡ length held → piece ≡ held → new ≡ drop n held
+    → HasGiven (with_held held d) (with_held new d) piece
 line_used n held new piece d all same is =
     subst (λ (ys : List ℕ). HasGiven (with_held held d) (with_held new d) ys) (take_all n held (omega (arith, all)) ∙ sym same) (line_passed n held new d is)
 
 -- Some of it was.
-pub line_front : (n : ℕ) (held new piece : List ℕ) (d : Device) → piece ≡ held → new ≡ drop n held → HasGiven (with_held held d) (with_held new d) (take n piece)
-line_front n held new piece d same is = subst (λ (ys : List ℕ). HasGiven (with_held held d) (with_held new d) (take n ys)) (sym same) (line_passed n held new d is)
+pub line_front : (n : ℕ) (held new piece : List ℕ) (d : Device) → piece ≡ held → new ≡ drop n held
+    → HasGiven (with_held held d) (with_held new d) (take n piece)
+line_front n held new piece d same is = subst (λ (ys : List ℕ). HasGiven (with_held held d) (with_held new d) (take n ys)) (sym same)
+    (line_passed n held new d is)
 
 abbrev pub Joined : {S : Type 0} → (S → List story.StoryEvent → S → Type 0) → Type 0
 Joined {S} goes = (a b c : S) (xs ys : List story.StoryEvent) → goes a xs b → goes b ys c → goes a (xs ++ ys) c
@@ -81,7 +80,8 @@ adds_more cut p x y m n one two text is =
 -- ---- octets on which the unpacker stands already, and then more
 
 -- what is so of the unpacker now, on all octets, from what is so on the piece
-on_all : (used more : List ℕ) (p : List ℕ) (n : ℕ) (P : List ℕ → ℕ → Type 0) → P ((p ++ used) ++ more) (raised (raised n (length used)) (length more)) → P (p ++ (used ++ more)) (raised n (length (used ++ more)))
+on_all : (used more : List ℕ) (p : List ℕ) (n : ℕ) (P : List ℕ → ℕ → Type 0) → P ((p ++ used) ++ more) (raised (raised n (length used)) (length more))
+    → P (p ++ (used ++ more)) (raised n (length (used ++ more)))
 on_all used more p n P is = rw (length-append used more, ← raised_twice n (length used) (length more), ← append_assoc p used more) is
 
 -- no octets more
@@ -139,7 +139,14 @@ module _ {S : Type 0} (goes : S → List story.StoryEvent → S → Type 0) (d :
     refused = refused;
     refuses = λ p n at.
         let is = refuses p n at in
-        record { k = is.k; within = is.within; fault = is.fault; refusal = is.refusal; adds = λ text t. (is.added, is.adds text t, is.delivers); refuses = is.refuses };
+        record {
+          k = is.k;
+          within = is.within;
+          fault = is.fault;
+          refusal = is.refusal;
+          adds = λ text t. (is.added, is.adds text t, is.delivers);
+          refuses = is.refuses;
+        };
   }
 
 -- ---- one piece, after a read
@@ -216,21 +223,25 @@ module _ {S : Type 0} (goes : S → List story.StoryEvent → S → Type 0) (fai
 pub somewhere : (u : Unpacking) → IsReady u → (u.refused ≡ None → Stood u) → (p : List ℕ) × (a : ℕ) × Stands u p a
 somewhere u ready stood = stood_stands u ready.1 (stood ready.0)
 
-pub told_truncated : (q : List ℕ) (k : ℕ) (answer : Option Refusal) (e : Refusal) → answer ≡ Some e → ((f : Refusal) × (answer ≡ Some f) × IsTruncatedAt q k f) → IsTruncatedAt q k e
+pub told_truncated : (q : List ℕ) (k : ℕ) (answer : Option Refusal) (e : Refusal) → answer ≡ Some e
+    → ((f : Refusal) × (answer ≡ Some f) × IsTruncatedAt q k f) → IsTruncatedAt q k e
 told_truncated q k answer e is (f, same, told) = subst (λ (x : Refusal). IsTruncatedAt q k x) (same_Some _ _ (sym same ∙ is)) told
 
 pub not_told : (answer : Option Refusal) (q : List ℕ) (k : ℕ) → answer ≡ None → ((f : Refusal) × (answer ≡ Some f) × IsTruncatedAt q k f) → ⊥
 not_told answer q k none (f, same, told) = let bad : None ≡ Some f = sym none ∙ same in cc
 
 -- what is missing at the end of the input, where the unpacker stands on some octets
-pub none_missing : (answer : Option Refusal) (u : Unpacking) → ((p : List ℕ) (n : ℕ) → Stands u p n → (e : Refusal) × (answer ≡ Some e) × IsTruncatedAt p n e) → IfNone answer ((p : List ℕ) (n : ℕ) → Stands u p n → p ≡ [])
+pub none_missing : (answer : Option Refusal) (u : Unpacking) → ((p : List ℕ) (n : ℕ) → Stands u p n → (e : Refusal) × (answer ≡ Some e) × IsTruncatedAt p n e)
+    → IfNone answer ((p : List ℕ) (n : ℕ) → Stands u p n → p ≡ [])
 none_missing None u told = λ p n at. absurd (not_told None p n refl (told p n at))
 none_missing (Some e) u told = tt
 
 pub some_missing : (answer : Option Refusal) (u : Unpacking) (fresh : Bool) → fresh ≡ false → ((p : List ℕ) (n : ℕ) → Stands u p n → IsTrue fresh ↔ (p ≡ []))
-    → ((p : List ℕ) (n : ℕ) → Stands u p n → (e : Refusal) × (answer ≡ Some e) × IsTruncatedAt p n e) → IfSome answer (λ e. (p : List ℕ) (n : ℕ) → Stands u p n → (p ≡ [] → ⊥) × IsTruncatedAt p n e)
+    → ((p : List ℕ) (n : ℕ) → Stands u p n → (e : Refusal) × (answer ≡ Some e) × IsTruncatedAt p n e)
+    → IfSome answer (λ e. (p : List ℕ) (n : ℕ) → Stands u p n → (p ≡ [] → ⊥) × IsTruncatedAt p n e)
 some_missing None u fresh stale begun told = tt
-some_missing (Some e) u fresh stale begun told = λ p n at. (λ none. true≢false (sym ((begun p n at).1 none) ∙ stale), told_truncated p n (Some e) e refl (told p n at))
+some_missing (Some e) u fresh stale begun told = λ p n at.
+    (λ none. true≢false (sym ((begun p n at).1 none) ∙ stale), told_truncated p n (Some e) e refl (told p n at))
 
 -- ---- what is given
 
@@ -335,7 +346,8 @@ module _ {S : Type 0} {goes : S → List story.StoryEvent → S → Type 0} wher
         },
       )
 
-refused_then : DeliveryMayBeCut → (limits : Limits) (p : List ℕ) (n : ℕ) (xs ys : List ℕ) (first more : List story.StoryEvent) (e : Refusal) → Delivers p xs first
+refused_then : DeliveryMayBeCut → (limits : Limits) (p : List ℕ) (n : ℕ) (xs ys : List ℕ) (first more : List story.StoryEvent) (e : Refusal)
+    → Delivers p xs first
     → IsRefusedOf limits (p ++ xs) (raised n (length xs)) ys more e → IsRefusedOf limits p n (xs ++ ys) (first ++ more) e
 refused_then cut limits p n xs ys first more e adds is =
     let front : take (length xs + is.k) (xs ++ ys) ≡ xs ++ take is.k ys = take-append-add xs ys is.k in
@@ -348,7 +360,8 @@ refused_then cut limits p n xs ys first more e adds is =
       refuses = rw (get_or-append-add xs ys is.k 0, front, ← append_assoc p xs (take is.k ys)) is.refuses;
     }
 
-truncated_then : DeliveryMayBeCut → (limits : Limits) (p : List ℕ) (n : ℕ) (xs ys : List ℕ) (first more : List story.StoryEvent) (e : Refusal) → Delivers p xs first
+truncated_then : DeliveryMayBeCut → (limits : Limits) (p : List ℕ) (n : ℕ) (xs ys : List ℕ) (first more : List story.StoryEvent) (e : Refusal)
+    → Delivers p xs first
     → IsTruncatedIn limits (p ++ xs) (raised n (length xs)) ys more e → IsTruncatedIn limits p n (xs ++ ys) (first ++ more) e
 truncated_then cut limits p n xs ys first more e adds is = record {
   is_open = subst (IsOpen limits) (append_assoc p xs ys) is.is_open;
@@ -390,7 +403,8 @@ module _ {S : Type 0} {goes : S → List story.StoryEvent → S → Type 0} {old
       refuses = λ p n at.
           let (there, adds) = one.stands p n at in
           subst (λ (l : Limits). IsRefusedOf l p n (one.octets ++ was.octets) (one.more ++ was.more) e) one.limits
-          (refused_then cut (limits_in v) p n one.octets was.octets one.more was.more e adds (was.refuses (p ++ one.octets) (raised n (length one.octets)) there));
+          (refused_then cut (limits_in v) p n one.octets was.octets one.more was.more e adds
+          (was.refuses (p ++ one.octets) (raised n (length one.octets)) there));
     }),
   )
   fed_and_faults (Refused e) one calm (is, inr was) = (
@@ -406,7 +420,8 @@ module _ {S : Type 0} {goes : S → List story.StoryEvent → S → Type 0} {old
       truncated = λ p n at.
           let (there, adds) = one.stands p n at in
           subst (λ (l : Limits). IsTruncatedIn l p n (one.octets ++ was.octets) (one.more ++ was.more) e) one.limits
-          (truncated_then cut (limits_in v) p n one.octets was.octets one.more was.more e adds (was.truncated (p ++ one.octets) (raised n (length one.octets)) there));
+          (truncated_then cut (limits_in v) p n one.octets was.octets one.more was.more e adds
+          (was.truncated (p ++ one.octets) (raised n (length one.octets)) there));
     }),
   )
   fed_and_faults Read one calm was = missed_then io.Failed one calm was

@@ -7,13 +7,11 @@ use Rattle.wire_story.specs.Format.Texts as story
 use Rattle.wire_story.specs.Laws.{TextsAreDeliveredAsLines}
 use Rattle.wire_message.specs.declared.place.Place.TheVariants.{AfterEnd}
 use Rattle.iim_places.specs.Format.Admitted.{Admits}
-use Rattle.iim_unpack.specs.Format.Pieces.{IsAnswer, IsUnpacked}
-use Rattle.iim_unpack.specs.Steps.{DoneIn}
+use Rattle.iim_unpack.specs.{Format.Pieces.IsAnswer, Format.Pieces.IsUnpacked, Steps.DoneIn}
 use Rattle.iim_places.specs.declared.refusal.Cause.TheVariants.{Message}
 use Rattle.wire_message.specs.declared.fault.MessageCause.TheVariants.{Sink}
 use Rattle.iim_places.proofs.Answering.{leads_to, no_text}
-use Rattle.iim_unpack.proofs.Feeding.{one_text}
-use Rattle.iim_unpack.proofs.Intakes.{Joined, adds_more, not_told, told_truncated}
+use Rattle.iim_unpack.proofs.{Feeding.one_text, Intakes.Joined, Intakes.adds_more, Intakes.not_told, Intakes.told_truncated}
 
 -- The limits are numbers of 32 bits.
 pub record AreLow (limits : Limits) : Type 0 where
@@ -36,7 +34,8 @@ module _ {S : Type 0} {goes : S → List story.StoryEvent → S → Type 0} (joi
 
   -- or it is done with a front of it
   on_done : {v : Unpacking} (more next : List story.StoryEvent) (used : ℕ) → limits_in v ≡ limits → used ≤ length piece
-      → IsDoneWith v (o ++ take used piece) (raised (length o) used) → Delivers [] o more → Delivers o (take used piece) next → DoneIn v (o ++ piece) (more ++ next)
+      → IsDoneWith v (o ++ take used piece) (raised (length o) used) → Delivers [] o more → Delivers o (take used piece) next
+      → DoneIn v (o ++ piece) (more ++ next)
   on_done {v} more next used same fits done before adds =
       let within : IsEnvelopeWithin limits (o ++ take used piece) done.value =
       subst (λ (l : Limits). IsEnvelopeWithin l (o ++ take used piece) done.value) same (record { admits = done.admits; within = done.within }) in
@@ -100,7 +99,8 @@ module _ {S : Type 0} {goes : S → List story.StoryEvent → S → Type 0} (joi
       let stream : List ℕ = o ++ (piece ++ rest) in
       let at = refused_there r in
       let front : take e.octet stream ≡ o ++ take r.k piece =
-      ap (λ (n : ℕ). take n stream) at ∙ take-append-add o (piece ++ rest) r.k ∙ ap (λ (x : List ℕ). o ++ x) (take-append-le r.k piece rest (omega (arith, within))) in
+      ap (λ (n : ℕ). take n stream) at ∙ take-append-add o (piece ++ rest) r.k
+      ∙ ap (λ (x : List ℕ). o ++ x) (take-append-le r.k piece rest (omega (arith, within))) in
       let octet : slice_index stream e.octet ≡ slice_index piece r.k =
       ap (slice_index stream) at ∙ get_or-append-add o (piece ++ rest) r.k 0 ∙ get_or_append_left piece rest 0 r.k within in
       let delivered : Delivers o (take r.k piece) next = λ text is. (r.added, r.adds text is, r.delivers) in
@@ -128,11 +128,14 @@ module _ {S : Type 0} {goes : S → List story.StoryEvent → S → Type 0} (joi
 -- ---- the end
 
 -- what is delivered of an envelope is its lines
-lines_of : LowerLaws → TextsAreDeliveredAsLines → (octets : List ℕ) (v : Value) (more : List story.StoryEvent) → Admits octets v → Delivers [] octets more → more ≡ story.events_of_lines v.lines
+lines_of : LowerLaws → TextsAreDeliveredAsLines → (octets : List ℕ) (v : Value) (more : List story.StoryEvent) → Admits octets v → Delivers [] octets more
+    → more ≡ story.events_of_lines v.lines
 lines_of laws delivered octets v more a adds =
     let (added, is, told) = adds [] no_text in
-    let text : a.text ≡ text_so_far (object_of a.datasets) = laws.texts (object_of a.datasets) a.text (AfterEnd v.head (record { items = v.trailer }) (length a.message.after)) (leads_to octets v a) in
-    let same : added ≡ text_so_far (object_of a.datasets) = one_text laws octets added (text_so_far (object_of a.datasets)) is (a.datasets, InTag [], reads_envelope octets v a, refl) in
+    let text : a.text ≡ text_so_far (object_of a.datasets) = laws.texts (object_of a.datasets) a.text
+    (AfterEnd v.head (record { items = v.trailer }) (length a.message.after)) (leads_to octets v a) in
+    let same : added ≡ text_so_far (object_of a.datasets) = one_text laws octets added (text_so_far (object_of a.datasets)) is
+    (a.datasets, InTag [], reads_envelope octets v a, refl) in
     told ∙ ap story.delivered (same ∙ sym text) ∙ delivered a.text v.lines a.lines
 
 -- what is known of an unpacker that is done with a front of the stream
@@ -160,14 +163,18 @@ is_unpacked goes laws delivered {limits} {v} a b {stream} {got} {used} same f va
 
 -- ---- pieces, one after another
 
-pub stream_step : (ps : List (Bor (List ℕ))) (k : ℕ) (d : Bor (List ℕ)) → k < length ps → stream_of (take (k + 1) ps) ≡ stream_of (take k ps) ++ (get_or ps k d).now
+pub stream_step : (ps : List (Bor (List ℕ))) (k : ℕ) (d : Bor (List ℕ)) → k < length ps
+    → stream_of (take (k + 1) ps) ≡ stream_of (take k ps) ++ (get_or ps k d).now
 stream_step ps k d less =
-    ap stream_of (take_more ps k d less) ∙ flat_map-append (λ (p : Bor (List ℕ)). p.now) (take k ps) (get_or ps k d ∷ []) ∙ ap (λ (x : List ℕ). stream_of (take k ps) ++ x) (append-nil (get_or ps k d).now)
+    ap stream_of (take_more ps k d less) ∙ flat_map-append (λ (p : Bor (List ℕ)). p.now) (take k ps) (get_or ps k d ∷ [])
+    ∙ ap (λ (x : List ℕ). stream_of (take k ps) ++ x) (append-nil (get_or ps k d).now)
 
-pub stream_rest : (ps : List (Bor (List ℕ))) (k : ℕ) (d : Bor (List ℕ)) → k < length ps → stream_of ps ≡ stream_of (take k ps) ++ ((get_or ps k d).now ++ stream_of (drop (k + 1) ps))
+pub stream_rest : (ps : List (Bor (List ℕ))) (k : ℕ) (d : Bor (List ℕ)) → k < length ps
+    → stream_of ps ≡ stream_of (take k ps) ++ ((get_or ps k d).now ++ stream_of (drop (k + 1) ps))
 stream_rest ps k d less =
     ap stream_of (sym (take-append-drop (k + 1) ps)) ∙ flat_map-append (λ (p : Bor (List ℕ)). p.now) (take (k + 1) ps) (drop (k + 1) ps)
-    ∙ ap (λ (x : List ℕ). x ++ stream_of (drop (k + 1) ps)) (stream_step ps k d less) ∙ append_assoc (stream_of (take k ps)) (get_or ps k d).now (stream_of (drop (k + 1) ps))
+    ∙ ap (λ (x : List ℕ). x ++ stream_of (drop (k + 1) ps)) (stream_step ps k d less)
+    ∙ append_assoc (stream_of (take k ps)) (get_or ps k d).now (stream_of (drop (k + 1) ps))
 
 pub still_taking : {S : Type 0} {goes : S → List story.StoryEvent → S → Type 0} {limits : Limits} {u : Unpacking} {a b : S} {o : List ℕ}
     → HasFedPieces goes limits u a b o → u.refused ≡ None

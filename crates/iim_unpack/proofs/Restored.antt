@@ -1,22 +1,14 @@
 -- Readers that were made for a possible place stand at all octets that lead there, and an unpacker that is made of them is sound.
 use Rattle.iim_unpack.proofs.Words.{AreAfter, AreBetween, Begun, CanContinue, CanContinueAt, Dataset, DatasetPlace, FieldsPlace, Head, InData, InTag, Inside, IsDoneWith, IsEnvelopeWithin, IsKeptAs, IsOpen, IsRestored, IsSome, IsUnpacking, LeadsToSaved, Limits, List, LowerLaws, MayContinue, MessagePlace, None, Octets, Parts, Place, PlaceLaws, Reads, SectionsLiveAt, Sizes, Split, Stands, StandsFor, Tag, Takes, TakesCalls, Unpacking, Value, Within, [], alive_of, ap, arith, between, count_octets, count_of, false, fields_after, fields_in, handed_on, has_ended, head_alive, heads_within, if◌then◌else◌, inl, inr, kept, length, limits_in, limits_of, nat_eq, ne_eqb, numbers_of, object_of, object_so_far, of_record, one_reading, opened, place_after_datasets, place_of, reads_envelope, refl, section_after, sections_last, some_read, stated_after_all, stated_numbers, subst, sym, text_so_far, ticket_at, to_come, true, true≢false, ℕ, ◌+◌, ◌<◌, ◌∙◌, ◌≡◌, ◌⊎◌}
 use Rattle.iim_fields.specs.States.Standing as records
-use Rattle.iim_object.specs.Format.Objects.{NotEnded}
+use Rattle.iim_object.specs.{Format.Objects.NotEnded, Laws.ReadersTellSizes}
 use Rattle.iim_places.specs.States.Possible.{LeadsByLayers, RecordsLive, one_of_some, record_datasets, Numbers, plain, AreHeadsWithin, AreOpenOrWhole}
 use Rattle.iim_places.specs.States.Readers.{AreAtIn, FieldsStand, MessageStands, ObjectStands, RecordsStand, has_come, tag_place}
-use Rattle.iim_places.specs.Format.Tickets.{IsPlaceOf}
-use Rattle.iim_places.proofs.Answering.{goes_envelope}
-use Rattle.iim_unpack.proofs.Sequences.{ended_by_record, reached, unended_inside}
-use Rattle.iim_unpack.proofs.Feeding.{TellsSizes, done_by}
-use Rattle.iim_places.proofs.Plain.{present_ended}
-use Rattle.iim_places.proofs.ByLayers.{begun_same, whole_at}
-use Rattle.iim_places.proofs.PlainSizes.{possible_of}
-use Rattle.iim_places.specs.Laws.{LimitsAreToldByPlace}
-use Rattle.iim_places.specs.Format.TicketForm.{SplitsTicket}
-use Rattle.iim_fields.specs.Format.Records.{IsWithin}
+use Rattle.iim_places.specs.{Format.Tickets.IsPlaceOf, Laws.LimitsAreToldByPlace, Format.TicketForm.SplitsTicket, States.Restored.IsTicketAt}
+use Rattle.iim_places.proofs.{Answering.goes_envelope, Plain.present_ended, ByLayers.begun_same, ByLayers.whole_at, PlainSizes.possible_of}
 use Rattle.iim_places.proofs.ReadersAt.{TagPhase, base_tag, between_tag, come, ended_reader, ending_tag, keeps, like, live_tag, object_data, object_tag, present_tag, stand_tag, text_led}
-use Rattle.iim_object.specs.Laws.{ReadersTellSizes}
-use Rattle.iim_places.specs.States.Restored.{IsTicketAt}
+use Rattle.iim_unpack.proofs.{Sequences.ended_by_record, Sequences.reached, Sequences.unended_inside, Feeding.TellsSizes, Feeding.done_by}
+use Rattle.iim_fields.specs.Format.Records.{IsWithin}
 use Rattle.iim_places.specs.declared.ticket.possible.Readers.{Readers}
 
 -- ---- between datasets, or in a tag, or at the end
@@ -38,7 +30,8 @@ abbrev pub AreMadeFor : Limits → ℕ → Unpacking → Place → Type 0
 AreMadeFor limits at u place = (l : LeadsByLayers place) × IsMadeFor place l.numbers limits at u
 
 -- Readers that were made for the place of whole datasets, and perhaps a tag, stand after them.
-after_datasets : LowerLaws → (limits : Limits) (at : ℕ) (u : Unpacking) (ds : List Dataset) (held : List ℕ) (m : MessagePlace) (text : List ℕ) → AreMadeFor limits at u (place_of ds (InTag held) m) → CanContinue limits ds
+after_datasets : LowerLaws → (limits : Limits) (at : ℕ) (u : Unpacking) (ds : List Dataset) (held : List ℕ) (m : MessagePlace) (text : List ℕ)
+    → AreMadeFor limits at u (place_of ds (InTag held) m) → CanContinue limits ds
     → LeadsToSaved (object_of ds) text m → AreAfter u.parts ds
 after_datasets laws limits at u ds held m text (l, made) goes leads =
     let ended = nat_eq (section_after ds) 9 in
@@ -48,15 +41,18 @@ after_datasets laws limits at u ds held m text (l, made) goes leads =
     let live : RecordsLive (section_after ds) (TagPhase ended held) base = subst (RecordsLive (section_after ds) (TagPhase ended held)) is l.records in
     let alive = live_tag ended (section_after ds) held base live in
     let alike = like laws (kept ds) l.numbers heads ended ds l.kept (sym l.numbers_are) alive goes.records goes.within.subfiles refl refl refl in
-    let stand = stand_tag ended u.parts.fields (section_after ds) held base (subst (RecordsStand u.parts.fields (section_after ds) (TagPhase ended held)) is made.records) in
+    let stand = stand_tag ended u.parts.fields (section_after ds) held base
+    (subst (RecordsStand u.parts.fields (section_after ds) (TagPhase ended held)) is made.records) in
     let stated = stated_after_all laws ds goes.records goes.within.subfiles in
     let few = goes.within.subfiles in
     let count = count_of (of_record 8 ds) in
     let begun = present_tag ended (section_after ds) held base (present_ended (kept ds) l.numbers (one_of_some heads) [] ended l.kept) live in
     record {
       fields = fields_after u.parts.fields base ds stand goes.records begun alike.kept_are alike.same;
-      object = object_tag ended u.parts.object (stated_numbers (numbers_of (of_record 7 ds))) (section_after ds) (length (object_of ds)) heads held (record (place_after_datasets ds) { ending = NotEnded }) (place_after_datasets ds) made.object
-          (whole_at ds (length (object_of ds)) heads refl refl) (ending_tag laws limits ds goes ended refl) (possible_of (place_after_datasets ds) stated (omega (arith, count, few)) goes.object);
+      object = object_tag ended u.parts.object (stated_numbers (numbers_of (of_record 7 ds))) (section_after ds) (length (object_of ds)) heads held
+          (record (place_after_datasets ds) { ending = NotEnded }) (place_after_datasets ds) made.object
+          (whole_at ds (length (object_of ds)) heads refl refl) (ending_tag laws limits ds goes ended refl)
+          (possible_of (place_after_datasets ds) stated (omega (arith, count, few)) goes.object);
       few = goes.within.subfiles;
       message = text_led laws u.parts.message (place_of ds (InTag held) m) (object_of ds) text made.message leads;
       ended = λ nine. ended_reader laws u.parts.message (place_of ds (InTag held) m) (object_of ds) text made.message leads (l.message.4 nine);
@@ -71,9 +67,11 @@ within_data : LowerLaws → (limits : Limits) (at : ℕ) (u : Unpacking) (ds : L
 within_data laws limits at u ds h xs m text (l, made) goes open' octets less leads =
     let heads = length (of_record 8 ds) in
     let base = plain (kept ds) l.numbers (one_of_some heads) [] false in
-    let is : record_datasets (place_of ds (InData h xs) m) l.numbers ≡ base = ap (λ (n : ℕ). plain (kept ds) l.numbers (one_of_some n) [] false) (begun_same heads (nat_eq h.rec 8)) in
+    let is : record_datasets (place_of ds (InData h xs) m) l.numbers ≡ base = ap (λ (n : ℕ). plain (kept ds) l.numbers (one_of_some n) [] false)
+    (begun_same heads (nat_eq h.rec 8)) in
     let alive_at : SectionsLiveAt base h = subst (λ (es : List Dataset). SectionsLiveAt es h) is l.records in
-    let alike = like laws (kept ds) l.numbers heads false ds l.kept (sym l.numbers_are) (head_alive base h alive_at) (head_alive ds h goes.records) goes.within.subfiles refl refl open' in
+    let alike = like laws (kept ds) l.numbers heads false ds l.kept (sym l.numbers_are) (head_alive base h alive_at) (head_alive ds h goes.records)
+    goes.within.subfiles refl refl open' in
     let given = if nat_eq h.rec 8 then [] else xs in
     let stand : records.StandsIn u.parts.fields base h given = subst (λ (es : List Dataset). records.StandsIn u.parts.fields es h given) is made.records in
     record {
@@ -83,15 +81,18 @@ within_data laws limits at u ds h xs m text (l, made) goes open' octets less lea
       few = goes.within.subfiles;
       room = goes.room.subfiles;
       message = text_led laws u.parts.message (place_of ds (InData h xs) m) (object_so_far ds (InData h xs)) text made.message leads;
-      ended = λ nine. ended_reader laws u.parts.message (place_of ds (InData h xs) m) (object_so_far ds (InData h xs)) text made.message leads (l.message.4 nine);
+      ended = λ nine. ended_reader laws u.parts.message (place_of ds (InData h xs) m) (object_so_far ds (InData h xs)) text made.message leads
+          (l.message.4 nine);
     }
 
 -- ---- open octets
 
-stands_for : LowerLaws → (limits : Limits) (at : ℕ) (u : Unpacking) (p : List ℕ) (ds : List Dataset) (b : Begun) (m : MessagePlace) (text : List ℕ) → AreMadeFor limits at u (place_of ds b m) → Reads count_octets p ds b → MayContinue limits ds b
+stands_for : LowerLaws → (limits : Limits) (at : ℕ) (u : Unpacking) (p : List ℕ) (ds : List Dataset) (b : Begun) (m : MessagePlace) (text : List ℕ)
+    → AreMadeFor limits at u (place_of ds b m) → Reads count_octets p ds b → MayContinue limits ds b
     → nat_eq (section_after ds) 9 ≡ false → LeadsToSaved (object_so_far ds b) text m → StandsFor u.parts ds b
 stands_for laws limits at u p ds (InTag held) m text made reads goes open' leads = after_datasets laws limits at u ds held m text made goes leads
-stands_for laws limits at u p ds (InData h xs) m text made reads goes open' leads = within_data laws limits at u ds h xs m text made goes open' reads.is_rest.3 reads.is_rest.2 leads
+stands_for laws limits at u p ds (InData h xs) m text made reads goes open' leads = within_data laws limits at u ds h xs m text made goes open'
+    reads.is_rest.3 reads.is_rest.2 leads
 
 ended_for : (parts : Parts) (ds : List Dataset) (b : Begun) → nat_eq (section_after ds) 9 ≡ false → StandsFor parts ds b → has_ended parts ≡ false
 ended_for parts ds (InTag held) open' stand = ended_by_record parts ds stand.fields ∙ open'
@@ -154,7 +155,8 @@ module _ (laws : LowerLaws) (place : Place) (limits : Limits) (at : ℕ) (u : Un
       sizes
 
 -- What comes next is taken where the readers stand at open octets.
-takes_at : (parts : Parts) (place : DatasetPlace) (ds : List Dataset) (b : Begun) → StandsFor parts ds b → IsKeptAs place b → has_ended parts ≡ false → IsSome parts.object → IsSome parts.message → Takes parts (to_come place)
+takes_at : (parts : Parts) (place : DatasetPlace) (ds : List Dataset) (b : Begun) → StandsFor parts ds b → IsKeptAs place b → has_ended parts ≡ false
+    → IsSome parts.object → IsSome parts.message → Takes parts (to_come place)
 takes_at parts (Tag held) ds (InTag octets) stand keeps more object message =
     record { fields = stand.fields.between; object = object; message = message; is_over = more }
 takes_at parts (Inside k left) ds (InData h xs) stand keeps more object message =

@@ -4,14 +4,11 @@ use Rattle.iim_unpack.proofs.Words.{AllCanContinue, Answer, Answers, AreAfter, A
 use Rattle.iim_fields.specs.States.Standing as records
 use Rattle.iim_unpack.specs.Laws.{AnswersPiece, IsOfNoSink, PieceIsAnsweredAlike, PiecesAreAnsweredAlike, RestoredStandAlike, RestoredStandAsSaved, StandAlike, StandOnSame, UnpackersStandByPlace}
 use Rattle.iim_unpack.proofs.Sequences.{reached}
-use Rattle.iim_places.proofs.SameRecords.{same_records, stated_at}
+use Rattle.iim_places.proofs.{SameRecords.same_records, SameRecords.stated_at, Saved.at_restored, Saved.open_wider, Saved.whole_wider}
 use Rattle.iim_places.proofs.SamePlace.{SameAll, SameBegun, SameWhole, count_as, has_as, held_open, keeps_as, message_as, object_as, object_at_as, object_lives_after_as, octets_of, same_begun, same_message, total_as}
 use Rattle.std.proofs.Common.{rules}
-use Rattle.iim_places.specs.Format.Open.{RefusesNext}
+use Rattle.iim_places.specs.{Format.Open.RefusesNext, Format.Streams.IsRefused, Format.Streams.IsTruncated, Laws.TicketsTellOnePlace}
 use Rattle.iim_places.specs.Format.Open as opens
-use Rattle.iim_places.specs.Format.Streams.{IsRefused, IsTruncated}
-use Rattle.iim_places.specs.Laws.{TicketsTellOnePlace}
-use Rattle.iim_places.proofs.Saved.{at_restored, open_wider, whole_wider}
 
 -- ---- the parts
 
@@ -137,12 +134,16 @@ one_answer n a one other all h k = absurd (search rules)
 abbrev AnswersAll : Limits → List ℕ → ℕ → ℕ → Result Progress Refusal → Type 0
 AnswersAll limits stream n a answer = (all : Answer) × Answers limits stream all × Matches n a answer all
 
-answers_all : (u u' : Unpacking) (p piece : List ℕ) (a : ℕ) (answer : Result Progress Refusal) → Stands u p a → AnswersPiece u u' piece answer → IsOfNoSink answer → AnswersAll (limits_in u) (p ++ piece) (length p) a answer
+answers_all : (u u' : Unpacking) (p piece : List ℕ) (a : ℕ) (answer : Result Progress Refusal) → Stands u p a → AnswersPiece u u' piece answer
+    → IsOfNoSink answer → AnswersAll (limits_in u) (p ++ piece) (length p) a answer
 answers_all u u' p piece a (Ok More) at w calm =
     let stands : Stands u' (p ++ piece) (raised a (length piece)) = (w.goes.1 p a at).0 in
     let is : IsOpen (limits_in u) (p ++ piece) = subst (λ (l : Limits). IsOpen l (p ++ piece)) (w.limits at.taking) stands.is_open in
     let e : Refusal = opens.truncated_in (length (p ++ piece)) (begun_record is.begun, begun_number is.begun) in
-    let short : IsTruncated (limits_in u) (p ++ piece) e = record { is_open = is; refusal = record { whole = is.whole; begun = is.begun; reads = is.reads; refusal = refl } } in
+    let short : IsTruncated (limits_in u) (p ++ piece) e = record {
+      is_open = is;
+      refusal = record { whole = is.whole; begun = is.begun; reads = is.reads; refusal = refl };
+    } in
     (Truncated e, short, tt)
 answers_all u u' p piece a (Ok (Done used)) at w calm =
     let goes = w.goes.1 p a at in
@@ -171,11 +172,13 @@ answers_all u u' p piece a (Err e) at w calm =
 -- ---- after a piece
 
 -- two answers of the same octets are one
-same_answers : StreamsHaveOneAnswer → (limits : Limits) (stream : List ℕ) (n a : ℕ) (one other : Result Progress Refusal) → AnswersAll limits stream n a one → AnswersAll limits stream n a other → one ≡ other
+same_answers : StreamsHaveOneAnswer → (limits : Limits) (stream : List ℕ) (n a : ℕ) (one other : Result Progress Refusal) → AnswersAll limits stream n a one
+    → AnswersAll limits stream n a other → one ≡ other
 same_answers law limits stream n a one other (all, is, h) (all', is', k) =
     one_answer n a one other all' (subst (λ (x : Answer). Matches n a one x) (law limits stream all all' is is') h) k
 
-then_alike : (u v u' v' : Unpacking) (p piece : List ℕ) (a : ℕ) (answer : Result Progress Refusal) → limits_in v ≡ limits_in u → Stands u p a → Stands v p a → AnswersPiece u u' piece answer → AnswersPiece v v' piece answer → StandAlike u' v'
+then_alike : (u v u' v' : Unpacking) (p piece : List ℕ) (a : ℕ) (answer : Result Progress Refusal) → limits_in v ≡ limits_in u → Stands u p a → Stands v p a
+    → AnswersPiece u u' piece answer → AnswersPiece v v' piece answer → StandAlike u' v'
 then_alike u v u' v' p piece a (Ok More) same at at' w w' = inl (record {
   limits = w'.limits at'.taking ∙ (same ∙ sym (w.limits at.taking));
   octets = p ++ piece;
@@ -193,7 +196,8 @@ then_alike u v u' v' p piece a (Err e) same at at' w w' = inr (e.octet, w.failed
 pub piece_alike : StreamsHaveOneAnswer → PieceIsAnsweredAlike
 piece_alike law u v u' v' piece one other alike w w' calm calm' = by alike
   where
-    on_same : (s : StandOnSame u v) → (Stands u s.octets s.count × Stands v s.octets s.count) ⊎ (IsDoneWith u s.octets s.count × IsDoneWith v s.octets s.count) → (one ≡ other) × StandAlike u' v'
+    on_same : (s : StandOnSame u v) → (Stands u s.octets s.count × Stands v s.octets s.count)
+        ⊎ (IsDoneWith u s.octets s.count × IsDoneWith v s.octets s.count) → (one ≡ other) × StandAlike u' v'
     on_same s (inl (at, at')) =
         let stream : List ℕ = s.octets ++ piece in
         let n : ℕ = length s.octets in
@@ -240,6 +244,7 @@ restored_stand one u v p ticket a less few is restored = (
       restored.stands p place stands.is_open),
   (λ done.
       let whole : IsEnvelopeWithin (limits_in u) p done.value = record { admits = done.admits; within = done.within } in
-      let place = at_restored one p ticket is.place restored.place is.is_place (inr (done.value, whole_wider _ p done.value less few whole)) is.spelled restored.is_ticket in
+      let place = at_restored one p ticket is.place restored.place is.is_place (inr (done.value, whole_wider _ p done.value less few whole)) is.spelled
+      restored.is_ticket in
       restored.done p done.value place whole),
 )

@@ -66,11 +66,13 @@ led_of (inl at) = at.is_led
 led_of (inr at) = at.is_led
 
 -- some octets more
-pub data_more : (ds : List Dataset) (h : Head) (taken run : List ℕ) → handed_on ds (InData h taken) ++ map DataOctet run ≡ handed_on ds (InData h (taken ++ run))
+pub data_more : (ds : List Dataset) (h : Head) (taken run : List ℕ)
+    → handed_on ds (InData h taken) ++ map DataOctet run ≡ handed_on ds (InData h (taken ++ run))
 data_more ds h taken run = simp (append_assoc, map-append)
 
 -- its end
-pub end_told : (ds : List Dataset) (h : Head) (taken : List ℕ) → length taken ≡ h.count → handed_on ds (InData h taken) ++ DatasetEnd ∷ [] ≡ handed_on (ds ++ data_of h taken ∷ []) (InTag [])
+pub end_told : (ds : List Dataset) (h : Head) (taken : List ℕ) → length taken ≡ h.count
+    → handed_on ds (InData h taken) ++ DatasetEnd ∷ [] ≡ handed_on (ds ++ data_of h taken ∷ []) (InTag [])
 end_told ds h taken whole =
     let same : h ≡ head_of (data_of h taken) = λ i. record { rec = h.rec; set = h.set; count = sym whole i } in
     simp (append_assoc, append-nil, flat_map-append)
@@ -83,9 +85,11 @@ abbrev lacking : Head → List ℕ → List ℕ
 lacking h taken = replicate (h.count - length taken) 0
 
 filled : (ds : List Dataset) (h : Head) (taken : List ℕ) → length taken < h.count
-    → handed_on ds (InData h taken) ++ (map DataOctet (lacking h taken) ++ DatasetEnd ∷ []) ≡ flat_map events_of (ds ++ data_of h (taken ++ lacking h taken) ∷ [])
+    → handed_on ds (InData h taken) ++ (map DataOctet (lacking h taken) ++ DatasetEnd ∷ []) ≡ flat_map events_of
+    (ds ++ data_of h (taken ++ lacking h taken) ∷ [])
 filled ds h taken less =
-    let all : length (taken ++ lacking h taken) ≡ h.count = omega (arith, less, length-append taken (lacking h taken), length-replicate {A = ℕ} (h.count - length taken) 0) in
+    let all : length (taken ++ lacking h taken) ≡ h.count = omega
+    (arith, less, length-append taken (lacking h taken), length-replicate {A = ℕ} (h.count - length taken) 0) in
     rw (← append_assoc (handed_on ds (InData h taken)) (map DataOctet (lacking h taken)) (DatasetEnd ∷ []), data_more ds h taken (lacking h taken))
     (end_told ds h (taken ++ lacking h taken) all ∙ append-nil _)
 
@@ -95,7 +99,8 @@ handed_in_order octets events (InTag held) hands =
 handed_in_order octets events (InData h taken) hands = record {
   later = map DataOctet (lacking h taken) ++ DatasetEnd ∷ [];
   whole = hands.whole ++ data_of h (taken ++ lacking h taken) ∷ [];
-  are = ap (λ (es : List DatasetEvent). es ++ (map DataOctet (lacking h taken) ++ DatasetEnd ∷ [])) hands.handed ∙ filled hands.whole h taken hands.reads.is_rest.2;
+  are = ap (λ (es : List DatasetEvent). es ++ (map DataOctet (lacking h taken) ++ DatasetEnd ∷ [])) hands.handed
+      ∙ filled hands.whole h taken hands.reads.is_rest.2;
 }
 
 -- ---- where a dataset ends
@@ -108,21 +113,26 @@ ends_full : (ds : List Dataset) (h : Head) (taken : List ℕ) (later : List Data
     → flat_map events_of ds ++ (HeadRead h ∷ (map DataOctet taken ++ DatasetEnd ∷ later)) ≡ flat_map events_of whole → length taken ≡ h.count
 ends_full [] h taken later [] e = absurd cc
 ends_full [] h taken later (d ∷ whole) e =
-    let both : HeadRead h ∷ (map DataOctet taken ++ DatasetEnd ∷ later) ≡ HeadRead (head_of d) ∷ (map DataOctet d.octets ++ DatasetEnd ∷ flat_map events_of whole) = e ∙ first_then d (flat_map events_of whole) in
+    let both : HeadRead h ∷ (map DataOctet taken ++ DatasetEnd ∷ later) ≡ HeadRead (head_of d)
+    ∷ (map DataOctet d.octets ++ DatasetEnd ∷ flat_map events_of whole) = e ∙ first_then d (flat_map events_of whole) in
     let heads : h ≡ head_of d = cc in
     let tails : map DataOctet taken ++ DatasetEnd ∷ later ≡ map DataOctet d.octets ++ DatasetEnd ∷ flat_map events_of whole = cc in
     ap length (same_data taken d.octets later (flat_map events_of whole) tails).0 ∙ sym (ap (λ (k : Head). k.count) heads)
 ends_full (x ∷ ds) h taken later [] e =
-    let none : HeadRead (head_of x) ∷ ((map DataOctet x.octets ++ DatasetEnd ∷ []) ++ flat_map events_of ds) ++ (HeadRead h ∷ (map DataOctet taken ++ DatasetEnd ∷ later)) ≡ [] = e in absurd cc
+    let none : HeadRead (head_of x) ∷ ((map DataOctet x.octets ++ DatasetEnd ∷ []) ++ flat_map events_of ds)
+    ++ (HeadRead h ∷ (map DataOctet taken ++ DatasetEnd ∷ later)) ≡ [] = e in absurd cc
 ends_full (x ∷ ds) h taken later (d ∷ whole) e =
     let rest : List DatasetEvent = flat_map events_of ds ++ (HeadRead h ∷ (map DataOctet taken ++ DatasetEnd ∷ later)) in
-    let both : HeadRead (head_of x) ∷ (map DataOctet x.octets ++ DatasetEnd ∷ rest) ≡ HeadRead (head_of d) ∷ (map DataOctet d.octets ++ DatasetEnd ∷ flat_map events_of whole) =
-    sym (first_then x rest) ∙ sym (append_assoc (events_of x) (flat_map events_of ds) (HeadRead h ∷ (map DataOctet taken ++ DatasetEnd ∷ later))) ∙ e ∙ first_then d (flat_map events_of whole) in
+    let both : HeadRead (head_of x) ∷ (map DataOctet x.octets ++ DatasetEnd ∷ rest) ≡ HeadRead (head_of d)
+    ∷ (map DataOctet d.octets ++ DatasetEnd ∷ flat_map events_of whole) =
+    sym (first_then x rest) ∙ sym (append_assoc (events_of x) (flat_map events_of ds) (HeadRead h ∷ (map DataOctet taken ++ DatasetEnd ∷ later))) ∙ e
+    ∙ first_then d (flat_map events_of whole) in
     let tails : map DataOctet x.octets ++ DatasetEnd ∷ rest ≡ map DataOctet d.octets ++ DatasetEnd ∷ flat_map events_of whole = cc in
     ends_full ds h taken later whole (same_data x.octets d.octets rest (flat_map events_of whole) tails).1
 
 -- where the end of a begun dataset comes in order, it has as many octets as its head counts
-pub all_came : (events : List DatasetEvent) (ds : List Dataset) (h : Head) (taken : List ℕ) → events ≡ handed_on ds (InData h taken) → AreInOrder (events ++ DatasetEnd ∷ []) → length taken ≡ h.count
+pub all_came : (events : List DatasetEvent) (ds : List Dataset) (h : Head) (taken : List ℕ) → events ≡ handed_on ds (InData h taken)
+    → AreInOrder (events ++ DatasetEnd ∷ []) → length taken ≡ h.count
 all_came events ds h taken told order =
     ends_full ds h taken order.later order.whole
     (sym (append_assoc (flat_map events_of ds) (HeadRead h ∷ map DataOctet taken) (DatasetEnd ∷ order.later))

@@ -2,8 +2,7 @@
 use Rattle.std.proofs.Common.{◌≡◌, ℕ, ◌+◌, ◌<◌, ◌≤◌, Bool, true, false, ◌&&◌, ◌||◌, ◌==◌, nat_lt, List, [], ◌∷◌, ◌++◌, length, Some, None, refl, sym, ap, ◌∙◌, arith, inl, inr, length-append}
 use Rattle.wire_message.proofs.Names.{cond-true, cond-false, and_left, both_ways, and_right, cases_lt, le-ltb, ne_eqb, ArrayVec, Octet, End, with_end, with_end-append, map_snoc, front_of, end_of, is_info_octet, is_trailer_octet, is_filler_octet, max_filler, max_info, max_trailer, Header, MessageLivesWith, MessageDiesAt, IsPlace, is_ended, DiesWith, EndsPart, ends, begins, is_octet_of, most_of, text_of, begun, HeaderPart, Source, Number, Priority, Category, Words, HeaderTexts, Place, Filler, InHeader, Info, Gap, Text, Trailer, AfterEnd}
 use Rattle.wire_message.proofs.Machine.{of, no_texts, put, IsBare, Stands, stands, unread, message_stands, next, run, run_parts, and_then_place, one_end, step_to, extends, ends_next}
-use Rattle.wire_message.proofs.Goings.{octets_on}
-use Rattle.wire_message.proofs.Runs.{spelled_runs}
+use Rattle.wire_message.proofs.{Goings.octets_on, Runs.spelled_runs}
 
 -- ---- from each place some octets lead to the end of a message
 

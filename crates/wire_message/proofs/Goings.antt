@@ -1,9 +1,9 @@
 -- What octets do at a place.
 use Rattle.std.proofs.Common.{◌≡◌, ℕ, ◌+◌, ◌<◌, ◌≤◌, Bool, true, false, ◌&&◌, ◌||◌, ◌==◌, nat_lt, length, slice_index, List, [], ◌∷◌, ◌++◌, Some, None, refl, subst, arith, append_assoc, append-nil}
 use Rattle.wire_message.proofs.Names.{and_parts, or_right, eqb-true, take_more, same_Some, ArrayVec, TextReader, IsField, is_info_octet, is_trailer_octet, is_filler_octet, is_text_octet, max_filler, max_info, max_trailer, Header, IsHeader, IsPlace, Spells, StoryStands, TakesSome, lengthens_gap, ends, begins, is_octet_of, most_of, text_of, HeaderPart, Source, HeaderTexts, Place, Filler, InHeader, Info, Gap, Text, Trailer, AfterEnd}
-use Rattle.wire_story.specs.States.Reading as story
 use Rattle.wire_message.proofs.Machine.{of, no_texts, put, more_info, IsBare, Stands, stands, guarded, next, run, and_then_place, extended}
 use Rattle.wire_message.proofs.Transitions.{field_more, field_none, one_is, filler_more, filler_soh, info_more, info_gap, gap_more, gap_stx, text_more, text_etx, trailer_more, trailer_eot, end_more, no_texts_yet, longer_info, longer_is, longer_spells, next_is, next_spells, next_story}
+use Rattle.wire_story.specs.States.Reading as story
 
 -- the octet that stands first
 pub first_is : (xs ys : List ℕ) (b : ℕ) → xs ≡ b ∷ ys → slice_index xs 0 ≡ b
@@ -23,7 +23,8 @@ takes_one p q rest some i adds tells = record {
   story = tells;
 }
 
-pub part_ends : (part : HeaderPart) (t : HeaderTexts) (p q : Place) (rest : List ℕ) → 0 < length rest → p ≡ InHeader part t → q ≡ begins part (slice_index rest 0) t → IsPlace p
+pub part_ends : (part : HeaderPart) (t : HeaderTexts) (p q : Place) (rest : List ℕ) → 0 < length rest → p ≡ InHeader part t
+    → q ≡ begins part (slice_index rest 0) t → IsPlace p
     → (ends part (slice_index rest 0) && nat_lt 0 (length (text_of part t))) ≡ true → TakesSome p rest q 1
 part_ends part t p q rest some is goes i on =
     let b = slice_index rest 0 in
@@ -32,12 +33,15 @@ part_ends part t p q rest some is goes i on =
     rw (is, goes) (takes_one (InHeader part t) (begins part b t) rest some (next_is part b t at both.0 both.1)
     (λ before text l. next_spells part b t before text at both.0 l) (next_story part b t))
 
-pub info_to_gap : (h : Header) (rest : List ℕ) → 0 < length rest → IsHeader h → is_filler_octet (slice_index rest 0) ≡ true → TakesSome (Info h) rest (Gap h 1 (slice_index rest 0 == 10)) 1
+pub info_to_gap : (h : Header) (rest : List ℕ) → 0 < length rest → IsHeader h → is_filler_octet (slice_index rest 0) ≡ true
+    → TakesSome (Info h) rest (Gap h 1 (slice_index rest 0 == 10)) 1
 info_to_gap h rest some i fills =
     let b = slice_index rest 0 in
-    takes_one (Info h) (Gap h 1 (b == 10)) rest some (i, omega arith, omega arith, or_right (b == 10) true refl) (λ before text l. info_gap before text h b fills l) (λ text l. l)
+    takes_one (Info h) (Gap h 1 (b == 10)) rest some (i, omega arith, omega arith, or_right (b == 10) true refl)
+    (λ before text l. info_gap before text h b fills l) (λ text l. l)
 
-pub gap_on : (h : Header) (k : ℕ) (feed now : Bool) (rest : List ℕ) → 0 < length rest → IsPlace (Gap h k feed) → lengthens_gap k feed (slice_index rest 0) ≡ true
+pub gap_on : (h : Header) (k : ℕ) (feed now : Bool) (rest : List ℕ) → 0 < length rest → IsPlace (Gap h k feed)
+    → lengthens_gap k feed (slice_index rest 0) ≡ true
     → now ≡ (feed || slice_index rest 0 == 10) → TakesSome (Gap h k feed) rest (Gap h (k + 1) now) 1
 gap_on h k feed now rest some i on e =
     let b = slice_index rest 0 in
@@ -54,7 +58,8 @@ gap_ends h k feed reader rest some i j stands on =
     (λ before text l. rw (eqb-true (slice_index rest 0) 2 parts.0) (gap_stx before text h k reader i.1 i.2 (rw parts.1 at l)))
     (λ text none. rw none stands)
 
-pub trailer_ends : (h : Header) (t : ArrayVec ℕ) (rest : List ℕ) → 0 < length rest → IsPlace (Trailer h t) → slice_index rest 0 ≡ 4 → TakesSome (Trailer h t) rest (AfterEnd h t 0) 1
+pub trailer_ends : (h : Header) (t : ArrayVec ℕ) (rest : List ℕ) → 0 < length rest → IsPlace (Trailer h t) → slice_index rest 0 ≡ 4
+    → TakesSome (Trailer h t) rest (AfterEnd h t 0) 1
 trailer_ends h t rest some i eot =
     takes_one (Trailer h t) (AfterEnd h t 0) rest some (i.0, i.1, omega arith)
     (λ before text l. rw eot (trailer_eot before text h t i.0 i.1 l)) (λ text l. l)

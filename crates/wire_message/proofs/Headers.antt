@@ -1,9 +1,8 @@
 -- An object is a message in one way at most; the header and the trailer that a reader tells are those of the octets so far.
 use Rattle.std.proofs.Common.{◌≡◌, ℕ, ◌==◌, true, false, IsSome, Option, Some, None, List, [], ◌∷◌, ◌++◌, refl, sym, ap, subst, ◌∙◌, arith, is_some, length}
 use Rattle.wire_message.proofs.Names.{list_any, before_first, after_first, both_ways, nat_tests, Are, is_trailer_octet, Header, IsTrailer, BeginsWithHeader, fixed_header, IsMessage, after_stx, trailer_so_far, LeadsTo, head_read, trailer_read, TellsHeaderOf, HeadersAreToldFromStx, TrailersAreToldFromEtx, MessagesKeepTheirHeader, TrailersStandBetweenEtxAndEot, Place, Text, Trailer, AfterEnd, Filler, append_cancel_right, same_Some, ArrayVec}
-use Rattle.wire_message.proofs.Machine.{led, of, run, message_stands, one_end}
+use Rattle.wire_message.proofs.{Machine.led, Machine.of, Machine.run, Machine.message_stands, Machine.one_end, Transitions.join2, Transitions.join3}
 use Rattle.wire_message.proofs.TextSoFar.{is_not, after_is, before_is, before_none, any_none, any_found, none_after, no_stx, no_etx, after_head, head_begins, text_begins, trailer_begins, message_begins, each, text_at}
-use Rattle.wire_message.proofs.Transitions.{join2, join3}
 use Rattle.wire_message.proofs.Runs.{spelled_runs}
 
 -- ---- the header

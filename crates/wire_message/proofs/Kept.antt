@@ -2,11 +2,10 @@
 -- the front leads from filler to the text.
 use Rattle.std.proofs.Common.{◌≡◌, ◌⊎◌, ℕ, ◌+◌, ◌-◌, List, [], ◌∷◌, ◌++◌, length, take, refl, ap, ◌∙◌, arith, append_assoc, length-append, inl, inr}
 use Rattle.wire_message.proofs.Names.{slice_range, take-append_seam, drop-append_seam, TextReader, Header, header_of, IsHeader, SpellsInfo, fixed_header, TakesSome, Filler, Text, BeginsWithHeader, IsGap}
+use Rattle.wire_message.proofs.{Alike.stands_two, TextSoFar.head_begins}
 use Rattle.wire_story.specs.States.Reading as story
 use Rattle.wire_message.specs.Kept.{parts_in, ends_of, IsKept}
 use Rattle.wire_message.specs.declared.ends.Ends.{Ends}
-use Rattle.wire_message.proofs.Alike.{stands_two}
-use Rattle.wire_message.proofs.TextSoFar.{head_begins}
 
 -- the parts, with these octets between them
 abbrev laid : (s n p c w i : List ℕ) (x y z v : ℕ) → List ℕ
@@ -30,9 +29,12 @@ laid_parts s n p c w i x y z v one =
     six _ _ _ _ _ _ s n p c w i
     (part_in [] s (n ++ (x ∷ (p ++ (y ∷ (c ++ (z ∷ (w ++ (v ∷ i)))))))) o _ _ refl refl (omega arith))
     (part_in s n (x ∷ (p ++ (y ∷ (c ++ (z ∷ (w ++ (v ∷ i))))))) o _ _ refl refl refl)
-    (part_in (s ++ (n ++ (x ∷ []))) p (y ∷ (c ++ (z ∷ (w ++ (v ∷ i))))) o _ _ (simp append_assoc) (simp length-append (omega arith)) (simp length-append (omega arith)))
-    (part_in (s ++ (n ++ (x ∷ (p ++ (y ∷ []))))) c (z ∷ (w ++ (v ∷ i))) o _ _ (simp append_assoc) (simp length-append (omega arith)) (simp length-append (omega arith)))
-    (part_in (s ++ (n ++ (x ∷ (p ++ (y ∷ (c ++ (z ∷ []))))))) w (v ∷ i) o _ _ (simp append_assoc) (simp length-append (omega arith)) (simp length-append (omega arith)))
+    (part_in (s ++ (n ++ (x ∷ []))) p (y ∷ (c ++ (z ∷ (w ++ (v ∷ i))))) o _ _ (simp append_assoc) (simp length-append (omega arith))
+    (simp length-append (omega arith)))
+    (part_in (s ++ (n ++ (x ∷ (p ++ (y ∷ []))))) c (z ∷ (w ++ (v ∷ i))) o _ _ (simp append_assoc) (simp length-append (omega arith))
+    (simp length-append (omega arith)))
+    (part_in (s ++ (n ++ (x ∷ (p ++ (y ∷ (c ++ (z ∷ []))))))) w (v ∷ i) o _ _ (simp append_assoc) (simp length-append (omega arith))
+    (simp length-append (omega arith)))
     (rw (whole, long) (drop-append_seam front i))
 
 -- octets that are laid out so are kept so
@@ -54,7 +56,8 @@ kept_laid octets s n p c w i x y z v ends same is h =
 
 -- ---- made of its parts
 
-pub kept_made : (s n p c w i o0 o1 o2 o3 o4 o5 : List ℕ) (ends : Ends) → o0 ≡ s → o1 ≡ o0 ++ n → o2 ≡ o1 ++ (32 ∷ p) → o3 ≡ o2 ++ (32 ∷ c) → o4 ≡ o3 ++ (32 ∷ w) → o5 ≡ o4 ++ (32 ∷ i)
+pub kept_made : (s n p c w i o0 o1 o2 o3 o4 o5 : List ℕ) (ends : Ends) → o0 ≡ s → o1 ≡ o0 ++ n → o2 ≡ o1 ++ (32 ∷ p) → o3 ≡ o2 ++ (32 ∷ c)
+    → o4 ≡ o3 ++ (32 ∷ w) → o5 ≡ o4 ++ (32 ∷ i)
     → ends ≡ ends_of s n c w → IsHeader (header_of s n p c w i) → IsKept o5 ends × (parts_in o5 ends ≡ header_of s n p c w i)
 kept_made s n p c w i o0 o1 o2 o3 o4 o5 ends e0 e1 e2 e3 e4 e5 =
     kept_laid o5 s n p c w i 32 32 32 32 ends (rw (e5, e4, e3, e2, e1, e0) (simp append_assoc))
@@ -80,7 +83,8 @@ joined s n p c w xs = simp append_assoc
 -- The octets were cut into the parts of a header, each followed by the rest.
 pub front_kept : (o r1 s r2 n r3 r4 p r5 r6 c r7 r8 w r9 i r10 rest : List ℕ) (k : ℕ) (ends : Ends) → o ≡ 1 ∷ r1 → r1 ≡ s ++ r2 → r2 ≡ n ++ r3 → r3 ≡ 32 ∷ r4
     → r4 ≡ p ++ r5 → r5 ≡ 32 ∷ r6 → r6 ≡ c ++ r7 → r7 ≡ 32 ∷ r8 → r8 ≡ w ++ r9
-    → (spelled : List ℕ) × SpellsInfo i spelled × (r9 ≡ spelled ++ r10) → (gap : List ℕ) × IsGap gap × (r10 ≡ gap ++ (2 ∷ rest)) → IsHeader (header_of s n p c w i)
+    → (spelled : List ℕ) × SpellsInfo i spelled × (r9 ≡ spelled ++ r10) → (gap : List ℕ) × IsGap gap × (r10 ≡ gap ++ (2 ∷ rest))
+    → IsHeader (header_of s n p c w i)
     → ends ≡ ends_of s n c w → k ≡ length s + length n + 3 + length c + 1 + length w + 1 + length i
     → ((begins : BeginsWithHeader o (parts_in (take k r1) ends)) × (begins.before ≡ []) × (begins.rest ≡ rest)) × IsKept (take k r1) ends
 front_kept o r1 s r2 n r3 r4 p r5 r6 c r7 r8 w r9 i r10 rest k ends e1 e2 e3 e4 e5 e6 e7 e8 e9 (spelled, is_info, info_is) (gap, is_gap, gap_is) is ended long =

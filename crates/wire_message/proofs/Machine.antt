@@ -113,7 +113,8 @@ pub extended : (test : ℕ → Bool) (b count most : ℕ) → (test b && nat_lt 
 extended test b count most t = let both = and_parts (test b) (nat_lt count most) t in (both.0, ltb-true count most both.1)
 
 -- a part is read octet by octet
-pub field_run : (mk : List ℕ → Place) (test : ℕ → Bool) (most : ℕ) → ((ys : List ℕ) (b : ℕ) → test b ≡ true → length ys < most → next (mk ys) b ≡ Some (mk (ys ++ (b ∷ []))))
+pub field_run : (mk : List ℕ → Place) (test : ℕ → Bool) (most : ℕ)
+    → ((ys : List ℕ) (b : ℕ) → test b ≡ true → length ys < most → next (mk ys) b ≡ Some (mk (ys ++ (b ∷ []))))
     → (xs ys rest : List ℕ) → Are test xs → length ys + length xs ≤ most → run (mk ys) (xs ++ rest) ≡ run (mk (ys ++ xs)) rest
 field_run mk test most step [] ys rest h le = rw (append-nil ys) refl
 field_run mk test most step (b ∷ xs) ys rest h le =

@@ -1,8 +1,8 @@
 -- The octets of a message are octets, for the proofs of every crate: nothing here is to be believed.
 use Rattle.std.proofs.Common.{◌≡◌, ℕ, ◌<◌, Bool, true, List, [], ◌∷◌, ◌++◌, arith}
 use Rattle.wire_message.proofs.Names.{list_all, and_parts, nat_tests, Octets, Are, is_info_octet, is_trailer_octet, is_filler_octet, is_text_octet, Header, IsMessage, fixed_header}
-use Rattle.iim_dataset.proofs.OctetLists.{octets_append}
 use Rattle.wire_message.proofs.TextSoFar.{header_info, spelled_info}
+use Rattle.iim_dataset.proofs.OctetLists.{octets_append}
 
 of_test : (p : ℕ → Bool) → ((b : ℕ) → p b ≡ true → b < 256) → (xs : List ℕ) → Are p xs → Octets xs
 of_test p f [] h = tt

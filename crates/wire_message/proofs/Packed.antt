@@ -1,8 +1,7 @@
 -- The canonical object is a message, and the octets of its head.
 use Rattle.std.proofs.Common.{◌≡◌, ℕ, zero, suc, Bool, true, List, [], ◌∷◌, ◌++◌, refl, arith, inl, inr, append_assoc, replicate}
 use Rattle.wire_message.proofs.Names.{StoryLaws, IsTextSoFar, IsLine, IsText, is_line_octet, line_end, packed_text, Are, is_text_octet, Header, IsHeader, IsMessage, IsTrailer, SpellsInfo, fixed_header, canonical, packed_info, Are-append, Are-cons, nat_tests}
-use Rattle.wire_message.proofs.Transitions.{message_from}
-use Rattle.wire_message.proofs.TextSoFar.{each}
+use Rattle.wire_message.proofs.{Transitions.message_from, TextSoFar.each}
 
 line_text : (xs : List ℕ) → IsLine xs → Are is_text_octet xs
 line_text xs h = each is_line_octet is_text_octet xs (λ b t. grind (arith, nat_tests)) h

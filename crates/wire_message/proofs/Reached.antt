@@ -2,10 +2,8 @@
 -- has its LF first; a text is letters and its held CR.
 use Rattle.std.proofs.Common.{◌≡◌, ℕ, ◌+◌, ◌-◌, ◌≤◌, ◌↔◌, Bool, true, false, List, [], ◌∷◌, ◌++◌, length, replicate, Option, Some, None, refl, sym, ap, subst, ◌∙◌, arith, inl, inr, length-append, ⊎_elim}
 use Rattle.wire_message.proofs.Names.{Holds, AreLines, cases_lt, length-replicate, same_Some, ArrayVec, IsTextSoFar, is_line_octet, line_end, Are, is_filler_octet, is_text_octet, max_filler, Header, IsFiller, IsGap, SpellsInfo, fixed_header, has_feed, packed_info, IsPlace, Spells, StoryStands, LeadsTo, so_far, PlacesAreReached, Place, Filler, InHeader, Info, Gap, Text, Trailer, AfterEnd, Are-append}
+use Rattle.wire_message.proofs.{Transitions.field_none, Transitions.message_from, TextSoFar.any_none, TextSoFar.is_not, Packed.spells_packed, Packed.all_pass}
 use Rattle.wire_message.specs.States.Reading.{LeadsIn, IsOneOf, fixed_octets, least_head, least_of, greatest_of}
-use Rattle.wire_message.proofs.Transitions.{field_none, message_from}
-use Rattle.wire_message.proofs.TextSoFar.{any_none, is_not}
-use Rattle.wire_message.proofs.Packed.{spells_packed, all_pass}
 
 -- octets of that length lead to the place
 abbrev IsReached : Place → ℕ → Type 0
@@ -79,7 +77,8 @@ before_text h rest = 1 ∷ (fixed_header h ++ (packed_info h.info ++ (10 ∷ 2 �
 before_text_length : (h : Header) (rest : List ℕ) → length (before_text h rest) ≡ least_head h + length rest
 before_text_length h rest = omega (arith, joined_length (fixed_header h) (packed_info h.info) (10 ∷ 2 ∷ rest))
 
-text_reached : (h : Header) (held : ℕ) → IsPlace (Text h (Some held)) → (count : ℕ) → least_of (Text h (Some held)) ≤ count → IsReached (Text h (Some held)) count
+text_reached : (h : Header) (held : ℕ) → IsPlace (Text h (Some held)) → (count : ℕ) → least_of (Text h (Some held)) ≤ count
+    → IsReached (Text h (Some held)) count
 text_reached h held i count above =
     let k : ℕ = count - (least_head h + held) in
     let text : List ℕ = letters k ++ replicate held 13 in
@@ -100,7 +99,8 @@ trailer_reached h t i count above =
     let size : length (before_text h rest) ≡ count = omega (arith, before_text_length h rest, length-append {A = ℕ}, length-replicate {A = ℕ}, above) in
     (before_text h rest, letters k, record { is_place = i; spelled = spelled; story = (letters k ∷ [], (all_pass is_line_octet 97 k refl, refl)) }, size)
 
-end_reached : (h : Header) (t : ArrayVec ℕ) (k : ℕ) → IsPlace (AfterEnd h t k) → (count : ℕ) → least_of (AfterEnd h t k) ≤ count → IsReached (AfterEnd h t k) count
+end_reached : (h : Header) (t : ArrayVec ℕ) (k : ℕ) → IsPlace (AfterEnd h t k) → (count : ℕ) → least_of (AfterEnd h t k) ≤ count
+    → IsReached (AfterEnd h t k) count
 end_reached h t k i count above =
     let more : ℕ = count - (least_head h + 2 + length t.items + k) in
     let text : List ℕ = letters more in
@@ -150,7 +150,8 @@ info_within (b ∷ bs) xs (inl none) = let empty = none.0 in absurd cc
 info_within info xs (inr some) = omega (arith, ap length some, (packed_within info).1)
 
 -- filler, SOH, the parts up to the words, the info, and what follows
-object_length : (before fixed info rest : List ℕ) → length (before ++ (1 ∷ (fixed ++ (info ++ rest)))) ≡ length before + 1 + length fixed + length info + length rest
+object_length : (before fixed info rest : List ℕ)
+    → length (before ++ (1 ∷ (fixed ++ (info ++ rest)))) ≡ length before + 1 + length fixed + length info + length rest
 object_length before fixed info rest = omega (arith, length-append before (1 ∷ (fixed ++ (info ++ rest))), joined_length fixed info rest)
 
 within : (p : Place) (octets text : List ℕ) → LeadsTo octets text p → IsOneOf (least_of p) (greatest_of p) (length octets)
@@ -189,7 +190,8 @@ within (AfterEnd h t k) octets text l =
     )
 
 -- so the numbers that are the bounds of a reader's place are the bounds of these lengths
-pub exactly : (reader : Option Place) (p : Place) (least : ℕ) (greatest : Option ℕ) → reader ≡ Some p → IsPlace p → least ≡ least_of p → greatest ≡ greatest_of p
+pub exactly : (reader : Option Place) (p : Place) (least : ℕ) (greatest : Option ℕ) → reader ≡ Some p → IsPlace p → least ≡ least_of p
+    → greatest ≡ greatest_of p
     → (count : ℕ) → LeadsIn reader count ↔ IsOneOf least greatest count
 exactly reader p least greatest at i low high count = rw (at, low, high) (
   λ led. subst (IsOneOf (least_of p) (greatest_of p)) led.3 (within p led.0 led.1 (subst (LeadsTo led.0 led.1) (sym (same_Some _ _ led.2.1)) led.2.2)),

@@ -10,18 +10,21 @@ reads_filler : (f rest : List ℕ) → IsFiller f → run (Filler 0) (f ++ rest)
 reads_filler f rest h = count_run (λ k. Filler k) (λ k b t lt. cond-true _ _ _ (extends is_filler_octet b k max_filler t lt)) f rest h
 
 -- the parts, where later ones are empty
-same_texts : (t : HeaderTexts) (n p c w : List ℕ) → t.number.items ≡ n → t.priority.items ≡ p → t.category.items ≡ c → t.words.items ≡ w → texts t.source.items n p c w ≡ t
+same_texts : (t : HeaderTexts) (n p c w : List ℕ) → t.number.items ≡ n → t.priority.items ≡ p → t.category.items ≡ c → t.words.items ≡ w
+    → texts t.source.items n p c w ≡ t
 same_texts t n p c w en ep ec ew = rw (sym en, sym ep, sym ec, sym ew) refl
 
 -- the first digit of the number ends the source
-reads_number : (t : HeaderTexts) (n rest : List ℕ) → 0 < length t.source.items → IsField is_digit 1 max_number n → run (InHeader Source t) (n ++ rest) ≡ run (InHeader Number (put Number n t)) rest
+reads_number : (t : HeaderTexts) (n rest : List ℕ) → 0 < length t.source.items → IsField is_digit 1 max_number n
+    → run (InHeader Source t) (n ++ rest) ≡ run (InHeader Number (put Number n t)) rest
 reads_number t [] rest some h = absurd (omega (arith, h.1))
 reads_number t (b ∷ n) rest some h =
     step_to (InHeader Source t) _ b (n ++ rest) (ends_next Source t b (Are-head is_digit b n h.0) some)
     ∙ reads_part Number (put Number (b ∷ []) t) n rest (Are-tail is_digit b n h.0) (omega (arith, h.2))
 
 -- SP ends a part, and the next one is read
-reads_next : (part next : HeaderPart) (t : HeaderTexts) (xs rest : List ℕ) → ends part 32 ≡ true → 0 < length (text_of part t) → begins part 32 t ≡ InHeader next t → text_of next t ≡ [] → IsField (is_octet_of next) 0 (most_of next) xs
+reads_next : (part next : HeaderPart) (t : HeaderTexts) (xs rest : List ℕ) → ends part 32 ≡ true → 0 < length (text_of part t)
+    → begins part 32 t ≡ InHeader next t → text_of next t ≡ [] → IsField (is_octet_of next) 0 (most_of next) xs
     → run (InHeader part t) (32 ∷ (xs ++ rest)) ≡ run (InHeader next (put next xs t)) rest
 reads_next part next t xs rest on some then none h =
     step_to (InHeader part t) _ 32 (xs ++ rest) (ends_next part t 32 on some)
@@ -31,7 +34,8 @@ reads_next part next t xs rest on some then none h =
 
 -- the parts so far are read, each after the one before it
 abbrev Reads : HeaderPart → Type 0
-Reads part = (t : HeaderTexts) (f rest : List ℕ) → IsFiller f → IsPlace (InHeader part t) → run (Filler 0) (f ++ (1 ∷ (so_far part t ++ rest))) ≡ run (InHeader part t) rest
+Reads part = (t : HeaderTexts) (f rest : List ℕ) → IsFiller f → IsPlace (InHeader part t)
+    → run (Filler 0) (f ++ (1 ∷ (so_far part t ++ rest))) ≡ run (InHeader part t) rest
 
 regrouped : (f xs ys : List ℕ) → xs ≡ ys → run (Filler 0) (f ++ (1 ∷ xs)) ≡ run (Filler 0) (f ++ (1 ∷ ys))
 regrouped f xs ys e = ap (λ (u : List ℕ). run (Filler 0) (f ++ (1 ∷ u))) e
@@ -41,7 +45,8 @@ to_source t f rest hf i =
     reads_filler f (1 ∷ (t.source.items ++ rest)) hf
     ∙ (reads_part Source no_texts t.source.items rest i.0.0 (omega (arith, i.0.2))
     ∙ ap (λ (u : HeaderTexts). run (InHeader Source u) rest)
-    (same_texts t [] [] [] [] (none is_digit t.number.items i.1) (none is_digit t.priority.items i.2) (none is_alphanumeric t.category.items i.3) (none is_digit t.words.items i.4)))
+    (same_texts t [] [] [] [] (none is_digit t.number.items i.1) (none is_digit t.priority.items i.2) (none is_alphanumeric t.category.items i.3)
+    (none is_digit t.words.items i.4)))
 
 to_number : Reads Number
 to_number t f rest hf i =

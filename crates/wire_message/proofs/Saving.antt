@@ -1,8 +1,7 @@
 -- A place is known by how it is saved.
 use Rattle.std.proofs.Common.{◌≡◌, ◌==◌, ℕ, List, [], ◌∷◌, true, false, Some, None, refl, sym, ap, ◌∙◌}
 use Rattle.wire_message.proofs.Names.{PlacesAreSavedApart, IsPlace, HeaderPart, Source, Number, Priority, Category, Words, Place, Filler, InHeader, Info, Gap, Text, Trailer, AfterEnd}
-use Rattle.wire_message.specs.States.Reading.{saved, saved_part}
-use Rattle.wire_message.specs.Steps.{head_in, texts_in}
+use Rattle.wire_message.specs.{States.Reading.saved, States.Reading.saved_part, Steps.head_in, Steps.texts_in}
 use Rattle.wire_message.specs.declared.saved.MessagePart.TheVariants as part
 use Rattle.wire_message.specs.declared.saved.MessagePart.{MessagePart}
 use Rattle.wire_message.specs.declared.saved.MessagePlace.{MessagePlace}

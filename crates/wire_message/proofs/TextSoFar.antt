@@ -1,8 +1,7 @@
 -- The text so far in octets that spell a place.
 use Rattle.std.proofs.Common.{◌≡◌, ℕ, ◌+◌, Bool, true, false, not, ◌==◌, cond, nat_lt, List, [], ◌∷◌, ◌++◌, length, take, drop, map, Some, None, refl, sym, ap, ◌∙◌, arith, inl, inr, append-nil}
 use Rattle.wire_message.proofs.Names.{list_any, position_or_len, before_first, after_first, and_parts, and_from, or_right, or_left, or_from, not-true, list_all-append, list_any-append, nat_tests, drop-append-add, take-append_seam, take-length, Octet, End, TextReader, Are, IsField, is_alphanumeric, is_info_octet, is_filler_octet, is_text_octet, max_info, is_digit, is_letter, Header, IsHeader, IsFiller, IsGap, IsMessage, SpellsInfo, BeginsWithHeader, fixed_header, ArrayVec, after_stx, text_so_far, story_tokens_of, IsPlace, Spells, so_far, head_read, HeaderPart, Source, Words, HeaderTexts, Place, Filler, InHeader, Info, Gap, Text, Trailer, AfterEnd, Are-append, Are-head, Are-tail, Are-cons}
-use Rattle.wire_message.proofs.Machine.{texts_of, words_place, Stands}
-use Rattle.wire_message.proofs.Transitions.{join2}
+use Rattle.wire_message.proofs.{Machine.texts_of, Machine.words_place, Machine.Stands, Transitions.join2}
 
 -- ---- what stands before and after the first octet of a kind
 
@@ -77,7 +76,8 @@ info_not xs are = each is_info_octet (is_not 2) xs (λ b h. grind (arith, nat_te
 after_soh : (before rest : List ℕ) → IsFiller before → Are is_info_octet rest → Are (is_not 2) (before ++ (1 ∷ rest))
 after_soh before rest f are = Are-append (is_not 2) before (1 ∷ rest) (filler_not before f.0) (info_not rest are)
 
-before_text : (before info gap : List ℕ) (h : Header) → IsFiller before → IsHeader h → SpellsInfo h.info info → Are is_filler_octet gap → Are (is_not 2) (before ++ (1 ∷ (fixed_header h ++ (info ++ gap))))
+before_text : (before info gap : List ℕ) (h : Header) → IsFiller before → IsHeader h → SpellsInfo h.info info → Are is_filler_octet gap
+    → Are (is_not 2) (before ++ (1 ∷ (fixed_header h ++ (info ++ gap))))
 before_text before info gap h f i sp g =
     Are-append (is_not 2) before (1 ∷ (fixed_header h ++ (info ++ gap))) (filler_not before f.0)
     (Are-append (is_not 2) (fixed_header h) (info ++ gap) (info_not (fixed_header h) (header_info h i))

@@ -5,7 +5,8 @@ use Rattle.wire_message.proofs.Machine.{of, no_texts, more_info, put}
 
 -- ---- parts with more octets
 
-pub field_more : (test : ℕ → Bool) (low least most : ℕ) (xs ys : List ℕ) → IsField test low most xs → Are test ys → length xs + length ys ≤ most → least ≤ length xs + length ys → IsField test least most (xs ++ ys)
+pub field_more : (test : ℕ → Bool) (low least most : ℕ) (xs ys : List ℕ) → IsField test low most xs → Are test ys → length xs + length ys ≤ most
+    → least ≤ length xs + length ys → IsField test least most (xs ++ ys)
 field_more test low least most xs ys h t le more =
     (Are-append test xs ys h.0 t, omega (arith, length-append xs ys), omega (arith, length-append xs ys))
 
@@ -61,8 +62,13 @@ message_from object h x t before info gap after is_before is_header is_info is_g
 
 -- ---- from each place
 
-pub filler_more : (xs text ys : List ℕ) (k : ℕ) → Are is_filler_octet ys → k + length ys ≤ max_filler → Spells xs text (Filler k) → Spells (xs ++ ys) text (Filler (k + length ys))
-filler_more xs text ys k t le l = (field_more is_filler_octet 0 0 max_filler xs ys l.0 t (omega (arith, l.1, le)) (omega arith), omega (arith, length-append xs ys, l.1), l.2)
+pub filler_more : (xs text ys : List ℕ) (k : ℕ) → Are is_filler_octet ys → k + length ys ≤ max_filler → Spells xs text (Filler k)
+    → Spells (xs ++ ys) text (Filler (k + length ys))
+filler_more xs text ys k t le l = (
+  field_more is_filler_octet 0 0 max_filler xs ys l.0 t (omega (arith, l.1, le)) (omega arith),
+  omega (arith, length-append xs ys, l.1),
+  l.2,
+)
 
 pub filler_soh : (xs text : List ℕ) (k : ℕ) → Spells xs text (Filler k) → Spells (xs ++ (1 ∷ [])) text (InHeader Source no_texts)
 filler_soh xs text k l = (xs, l.0, refl, l.2)
@@ -75,7 +81,8 @@ info_gap xs text h b t l =
     let parts : xs ++ (b ∷ []) ≡ l.0 ++ (1 ∷ (fixed_header h ++ ((32 ∷ h.info) ++ (b ∷ [])))) = rw l.2 (join1 l.0 (fixed_header h) (32 ∷ h.info) (b ∷ [])) in
     (l.0, 32 ∷ h.info, b ∷ [], l.1, inr refl, one_is is_filler_octet b t, refl, or-false (b == 10), parts, l.3)
 
-pub gap_more : (xs text : List ℕ) (h : Header) (k : ℕ) (feed : Bool) (b : ℕ) → is_filler_octet b ≡ true → Spells xs text (Gap h k feed) → Spells (xs ++ (b ∷ [])) text (Gap h (k + 1) (feed || b == 10))
+pub gap_more : (xs text : List ℕ) (h : Header) (k : ℕ) (feed : Bool) (b : ℕ) → is_filler_octet b ≡ true → Spells xs text (Gap h k feed)
+    → Spells (xs ++ (b ∷ [])) text (Gap h (k + 1) (feed || b == 10))
 gap_more xs text h k feed b t l =
     let fills = Are-append is_filler_octet l.2 (b ∷ []) l.5 (one_is is_filler_octet b t) in
     let many : length (l.2 ++ (b ∷ [])) ≡ k + 1 = omega (arith, length-append l.2 (b ∷ []), l.6) in
@@ -83,12 +90,14 @@ gap_more xs text h k feed b t l =
     let parts : xs ++ (b ∷ []) ≡ l.0 ++ (1 ∷ (fixed_header h ++ (l.1 ++ (l.2 ++ (b ∷ []))))) = rw l.8 (join2 l.0 (fixed_header h) l.1 l.2 (b ∷ [])) in
     (l.0, l.1, l.2 ++ (b ∷ []), l.3, l.4, fills, many, feeds, parts, l.9)
 
-pub gap_stx : (xs text : List ℕ) (h : Header) (k : ℕ) (reader : TextReader) → 1 ≤ k → k ≤ max_filler → Spells xs text (Gap h k true) → Spells (xs ++ (2 ∷ [])) text (Text h reader)
+pub gap_stx : (xs text : List ℕ) (h : Header) (k : ℕ) (reader : TextReader) → 1 ≤ k → k ≤ max_filler → Spells xs text (Gap h k true)
+    → Spells (xs ++ (2 ∷ [])) text (Text h reader)
 gap_stx xs text h k reader low high l =
     let is_gap : IsGap l.2 = ((l.5, omega (arith, low, l.6), omega (arith, high, l.6)), l.7) in
     (l.0, l.1, l.2, l.3, l.4, is_gap, rw l.9 refl, rw (l.8, l.9) (join2 l.0 (fixed_header h) l.1 l.2 (2 ∷ [])))
 
-pub text_more : (xs text ys : List ℕ) (h : Header) (old new : TextReader) → Are is_text_octet ys → Spells xs text (Text h old) → Spells (xs ++ ys) (text ++ ys) (Text h new)
+pub text_more : (xs text ys : List ℕ) (h : Header) (old new : TextReader) → Are is_text_octet ys → Spells xs text (Text h old)
+    → Spells (xs ++ ys) (text ++ ys) (Text h new)
 text_more xs text ys h old new t l = (l.0, l.1, l.2, l.3, l.4, l.5, Are-append is_text_octet text ys l.6 t, rw l.7 (join3 l.0 (fixed_header h) l.1 l.2 text ys))
 
 pub text_etx : (xs text : List ℕ) (h : Header) (reader : TextReader) → Spells xs text (Text h reader) → Spells (xs ++ (3 ∷ [])) text (Trailer h (of []))
@@ -97,14 +106,16 @@ text_etx xs text h reader l = (l.0, l.1, l.2, l.3, l.4, l.5, l.6, rw l.7 (join3 
 pub trailer_more : (xs text ys : List ℕ) (h : Header) (t : ArrayVec ℕ) → Spells xs text (Trailer h t) → Spells (xs ++ ys) text (Trailer h (of (t.items ++ ys)))
 trailer_more xs text ys h t l = (l.0, l.1, l.2, l.3, l.4, l.5, l.6, rw l.7 (join4 l.0 (fixed_header h) l.1 l.2 text t.items ys))
 
-pub trailer_eot : (xs text : List ℕ) (h : Header) (t : ArrayVec ℕ) → IsHeader h → IsTrailer t.items → Spells xs text (Trailer h t) → Spells (xs ++ (4 ∷ [])) text (AfterEnd h t 0)
+pub trailer_eot : (xs text : List ℕ) (h : Header) (t : ArrayVec ℕ) → IsHeader h → IsTrailer t.items → Spells xs text (Trailer h t)
+    → Spells (xs ++ (4 ∷ [])) text (AfterEnd h t 0)
 trailer_eot xs text h t i it l = (
   message_from (xs ++ (4 ∷ [])) h text t.items l.0 l.1 l.2 [] l.3 i l.4 l.5 l.6 it (field_none is_filler_octet max_filler)
       (rw l.7 (join4 l.0 (fixed_header h) l.1 l.2 text t.items (4 ∷ []))),
   refl,
 )
 
-pub end_more : (xs text ys : List ℕ) (h : Header) (t : ArrayVec ℕ) (k : ℕ) → Are is_filler_octet ys → k + length ys ≤ max_filler → Spells xs text (AfterEnd h t k) → Spells (xs ++ ys) text (AfterEnd h t (k + length ys))
+pub end_more : (xs text ys : List ℕ) (h : Header) (t : ArrayVec ℕ) (k : ℕ) → Are is_filler_octet ys → k + length ys ≤ max_filler
+    → Spells xs text (AfterEnd h t k) → Spells (xs ++ ys) text (AfterEnd h t (k + length ys))
 end_more xs text ys h t k f le l =
     let m = l.0 in
     let is_after = field_more is_filler_octet 0 0 max_filler m.after ys m.is_after f (omega (arith, l.1, le)) (omega arith) in (
@@ -115,7 +126,8 @@ end_more xs text ys h t k f le l =
 
 -- ---- more octets of a part
 
-pub longer_is : (part : HeaderPart) (t : HeaderTexts) (ys : List ℕ) → IsPlace (InHeader part t) → Are (is_octet_of part) ys → length (text_of part t) + length ys ≤ most_of part
+pub longer_is : (part : HeaderPart) (t : HeaderTexts) (ys : List ℕ) → IsPlace (InHeader part t) → Are (is_octet_of part) ys
+    → length (text_of part t) + length ys ≤ most_of part
     → IsPlace (InHeader part (put part (text_of part t ++ ys) t))
 longer_is Source t ys i are le = (field_more is_letter 0 0 max_source t.source.items ys i.0 are le (omega arith), i.1, i.2, i.3, i.4)
 longer_is Number t ys i are le = (i.0, field_more is_digit 1 1 max_number t.number.items ys i.1 are le (omega (arith, i.1.1)), i.2, i.3, i.4)
@@ -131,7 +143,8 @@ longer_octets _ t ys = simp append_assoc
 after_soh : (xs before old more new : List ℕ) → xs ≡ before ++ (1 ∷ old) → old ++ more ≡ new → xs ++ more ≡ before ++ (1 ∷ new)
 after_soh xs before old more new e more_is = rw (e, ← more_is) (append_assoc before (1 ∷ old) more)
 
-pub longer_spells : (part : HeaderPart) (t : HeaderTexts) (xs text ys : List ℕ) → Spells xs text (InHeader part t) → Spells (xs ++ ys) text (InHeader part (put part (text_of part t ++ ys) t))
+pub longer_spells : (part : HeaderPart) (t : HeaderTexts) (xs text ys : List ℕ) → Spells xs text (InHeader part t)
+    → Spells (xs ++ ys) text (InHeader part (put part (text_of part t ++ ys) t))
 longer_spells part t xs text ys l = (l.0, l.1, after_soh xs l.0 (so_far part t) ys _ l.2 (longer_octets part t ys), l.3)
 
 pub longer_info : (h : Header) (b : ℕ) → IsHeader h → IsField is_info_octet 0 max_info (h.info ++ (b ∷ [])) → IsHeader (more_info h b)
@@ -151,10 +164,17 @@ none test (b ∷ xs) h = absurd (omega (arith, h.2))
 room : (test : ℕ → Bool) (most : ℕ) (xs : List ℕ) → IsField test 0 0 xs → IsField test 0 most xs
 room test most xs h = (h.0, h.1, omega (arith, h.2))
 
-pub next_is : (part : HeaderPart) (b : ℕ) (t : HeaderTexts) → IsPlace (InHeader part t) → ends part b ≡ true → 0 < length (text_of part t) → IsPlace (begins part b t)
+pub next_is : (part : HeaderPart) (b : ℕ) (t : HeaderTexts) → IsPlace (InHeader part t) → ends part b ≡ true → 0 < length (text_of part t)
+    → IsPlace (begins part b t)
 next_is Source b t i on some = (field_from is_letter 1 max_source t.source.items i.0 some, field_one is_digit max_number b on (omega arith), i.2, i.3, i.4)
 next_is Number b t i on some = (i.0, i.1, room is_digit max_priority t.priority.items i.2, i.3, i.4)
-next_is Priority b t i on some = (i.0, i.1, field_from is_digit 1 max_priority t.priority.items i.2 some, room is_alphanumeric max_category t.category.items i.3, i.4)
+next_is Priority b t i on some = (
+  i.0,
+  i.1,
+  field_from is_digit 1 max_priority t.priority.items i.2 some,
+  room is_alphanumeric max_category t.category.items i.3,
+  i.4,
+)
 next_is Category b t i on some = (i.0, i.1, i.2, field_from is_alphanumeric 1 max_category t.category.items i.3 some, room is_digit max_words t.words.items i.4)
 next_is Words b t i on some =
     let words = field_from is_digit 1 max_words t.words.items i.4 some in
@@ -165,15 +185,26 @@ next_is Words b t i on some =
 -- SP ends a part, and no octet of the next one has come
 spaced : (part next : HeaderPart) (t : HeaderTexts) (b : ℕ) (xs text : List ℕ) → (b == 32) ≡ true → so_far part t ++ (32 ∷ []) ≡ so_far next t
     → Spells xs text (InHeader part t) → Spells (xs ++ (b ∷ [])) text (InHeader next t)
-spaced part next t b xs text on e l = (l.0, l.1, after_soh xs l.0 (so_far part t) (b ∷ []) (so_far next t) l.2 (ap (λ (k : ℕ). so_far part t ++ (k ∷ [])) (eqb-true b 32 on) ∙ e), l.3)
+spaced part next t b xs text on e l = (
+  l.0,
+  l.1,
+  after_soh xs l.0 (so_far part t) (b ∷ []) (so_far next t) l.2 (ap (λ (k : ℕ). so_far part t ++ (k ∷ [])) (eqb-true b 32 on) ∙ e),
+  l.3,
+)
 
-pub next_spells : (part : HeaderPart) (b : ℕ) (t : HeaderTexts) (xs text : List ℕ) → IsPlace (InHeader part t) → ends part b ≡ true → Spells xs text (InHeader part t) → Spells (xs ++ (b ∷ [])) text (begins part b t)
+pub next_spells : (part : HeaderPart) (b : ℕ) (t : HeaderTexts) (xs text : List ℕ) → IsPlace (InHeader part t) → ends part b ≡ true
+    → Spells xs text (InHeader part t) → Spells (xs ++ (b ∷ [])) text (begins part b t)
 next_spells Source b t xs text i on l = (l.0, l.1, after_soh xs l.0 t.source.items (b ∷ []) _ l.2 refl, l.3)
 next_spells Number b t xs text i on l = spaced Number Priority t b xs text on (rw (none is_digit t.priority.items i.2) (simp append_assoc)) l
 next_spells Priority b t xs text i on l = spaced Priority Category t b xs text on (rw (none is_alphanumeric t.category.items i.3) (simp append_assoc)) l
 next_spells Category b t xs text i on l = spaced Category Words t b xs text on (rw (none is_digit t.words.items i.4) (simp append_assoc)) l
 next_spells Words b t xs text i on l = cond_both (b == 32) (Info (begun t)) (Gap (begun t) 1 (b == 10)) (λ (p : Place). Spells (xs ++ (b ∷ [])) text p)
-    (λ e. (l.0, l.1, after_soh xs l.0 (so_far Words t) (b ∷ []) (so_far Words t ++ (32 ∷ [])) l.2 (ap (λ (k : ℕ). so_far Words t ++ (k ∷ [])) (eqb-true b 32 e)), l.3))
+    (λ e. (
+      l.0,
+      l.1,
+      after_soh xs l.0 (so_far Words t) (b ∷ []) (so_far Words t ++ (32 ∷ [])) l.2 (ap (λ (k : ℕ). so_far Words t ++ (k ∷ [])) (eqb-true b 32 e)),
+      l.3,
+    ))
     (λ e.
     let fills : is_filler_octet b ≡ true = rw e at on in
     let parts : xs ++ (b ∷ []) ≡ l.0 ++ (1 ∷ (so_far Words t ++ (b ∷ []))) = after_soh xs l.0 (so_far Words t) (b ∷ []) _ l.2 refl in

@@ -12,9 +12,8 @@ use Rattle.std.proofs.lemmas.Simd.{zip2_of_maps, zip2_splat, map-map, mask_l-mod
 use Rattle.std.proofs.lemmas.Bool.Decides.{nat_tests}
 use Rattle.std.proofs.lemmas.List.{drop_more, drop_all, drop-drop, take_rest, take-append-drop, length-map, length-append, length-replicate, take_all, length-take-le, map-append}
 use Rattle.wire_story.specs.Format.Texts.{LineOctet, WordsSoFar, CountsWords, capped, is_word_octet, is_blank, words_begun, begun_with, inside_after}
-use Rattle.wire_story.proofs.Words.{told_last}
-use Rattle.wire_story.proofs.Marked.{mask_drop, mask_join}
 use Rattle.wire_story.specs.Steps.{told-append, outside_after}
+use Rattle.wire_story.proofs.{Words.told_last, Marked.mask_drop, Marked.mask_join}
 
 -- which octets begin a word
 abbrev begins : Bool → List ℕ → List Bool
@@ -24,7 +23,8 @@ begins inside (b ∷ xs) = (is_word_octet b && not inside) ∷ begins (is_word_o
 ones_begun : (inside : Bool) (xs : List ℕ) → count_ones (mask_l (begins inside xs)) ≡ words_begun inside xs
 unfolding count_ones
 ones_begun inside [] = refl
-ones_begun inside (b ∷ xs) = ones-mask_l_cons (is_word_octet b && not inside) (begins (is_word_octet b) xs) ∙ ap (λ n. begun_with inside b + n) (ones_begun (is_word_octet b) xs)
+ones_begun inside (b ∷ xs) = ones-mask_l_cons (is_word_octet b && not inside) (begins (is_word_octet b) xs)
+    ∙ ap (λ n. begun_with inside b + n) (ones_begun (is_word_octet b) xs)
 
 lowest_bits : (t inside : Bool) → bit_and (cond t 1 0) (cond inside 0 1) ≡ cond (t && not inside) 1 0
 lowest_bits true true = refl
@@ -40,9 +40,11 @@ first_bit t inside w k m e =
     let joined = and_block 1 w (k * 2 + cond t 0 1) (cond t 1 0) (cond inside 0 1) (grind arith) (grind arith) in
     rw (low, high) (omega (arith, joined, lowest_bits t inside, e))
 
-bits_begun : (inside : Bool) (xs : List ℕ) → bit_and (mask_l (map is_word_octet xs)) (mask_l (map is_blank xs) * 2 + cond inside 0 1) ≡ mask_l (begins inside xs)
+bits_begun : (inside : Bool) (xs : List ℕ)
+    → bit_and (mask_l (map is_word_octet xs)) (mask_l (map is_blank xs) * 2 + cond inside 0 1) ≡ mask_l (begins inside xs)
 bits_begun inside [] = and_zero_l (cond inside 0 1)
-bits_begun inside (b ∷ xs) = first_bit (is_word_octet b) inside (mask_l (map is_word_octet xs)) (mask_l (map is_blank xs)) (mask_l (begins (is_word_octet b) xs)) (bits_begun (is_word_octet b) xs)
+bits_begun inside (b ∷ xs) = first_bit (is_word_octet b) inside (mask_l (map is_word_octet xs)) (mask_l (map is_blank xs))
+    (mask_l (begins (is_word_octet b) xs)) (bits_begun (is_word_octet b) xs)
 
 both_bits : (t : Bool) (w k p : ℕ) → w + k + 1 ≡ p → (cond t 1 0 + 2 * w) + (cond (not t) 1 0 + 2 * k) + 1 ≡ 2 * p
 both_bits t w k p e = grind arith
@@ -51,7 +53,11 @@ both_bits t w k p e = grind arith
 whole_mask : (xs : List ℕ) → mask_l (map is_word_octet xs) + mask_l (map is_blank xs) + 1 ≡ 2 ^ length xs
 whole_mask [] = refl
 whole_mask (b ∷ xs) =
-    omega (arith, both_bits (is_word_octet b) (mask_l (map is_word_octet xs)) (mask_l (map is_blank xs)) (2 ^ length xs) (whole_mask xs), two-pow-succ (length xs))
+    omega (
+      arith,
+      both_bits (is_word_octet b) (mask_l (map is_word_octet xs)) (mask_l (map is_blank xs)) (2 ^ length xs) (whole_mask xs),
+      two-pow-succ (length xs),
+    )
 
 -- ---- octets after others
 
@@ -62,7 +68,8 @@ pub begun_few : (inside : Bool) (xs : List ℕ) → words_begun inside xs ≤ le
 begun_few inside [] = omega arith
 begun_few inside (b ∷ xs) = omega (arith, begun_one inside b, begun_few (is_word_octet b) xs)
 
-begun_append : (inside : Bool) (xs ys : List ℕ) → words_begun inside (xs ++ ys) ≡ words_begun inside xs + words_begun (inside_after inside (map LineOctet xs)) ys
+begun_append : (inside : Bool) (xs ys : List ℕ)
+    → words_begun inside (xs ++ ys) ≡ words_begun inside xs + words_begun (inside_after inside (map LineOctet xs)) ys
 begun_append inside [] ys = omega arith
 begun_append inside (b ∷ xs) ys = omega (arith, begun_append (is_word_octet b) xs ys)
 
@@ -76,13 +83,15 @@ of_outside t n e = grind (arith, nat_tests)
 begun_joined : (inside : Bool) (xs ys : List ℕ) → (words_begun inside (xs ++ ys) ≡ words_begun inside xs + words_begun (outside_after inside xs == 0) ys)
     × (outside_after inside (xs ++ ys) ≡ outside_after (outside_after inside xs == 0) ys)
 begun_joined inside xs ys =
-    let same : (outside_after inside xs == 0) ≡ inside_after inside (map LineOctet xs) = of_outside (inside_after inside (map LineOctet xs)) (outside_after inside xs) refl in
+    let same : (outside_after inside xs == 0) ≡ inside_after inside (map LineOctet xs) = of_outside (inside_after inside (map LineOctet xs))
+    (outside_after inside xs) refl in
     let ends = (told-append inside (map LineOctet xs) (map LineOctet ys)).1 in
     rw same (begun_append inside xs ys, ap (λ t. cond t 0 1) (ap (inside_after inside) (map-append LineOctet xs ys) ∙ ends))
 
 -- the octets so far and the next block
 pub next_begun : (inside : Bool) (run : List ℕ) (at : ℕ)
-    → (words_begun inside (take (at + 32) run) ≡ words_begun inside (take at run) + words_begun (outside_after inside (take at run) == 0) (slice_range run at (at + 32)))
+    → (words_begun inside (take (at + 32) run) ≡ words_begun inside (take at run) + words_begun (outside_after inside (take at run) == 0)
+    (slice_range run at (at + 32)))
     × (outside_after inside (take (at + 32) run) ≡ outside_after (outside_after inside (take at run) == 0) (slice_range run at (at + 32)))
 next_begun inside run at =
     let n : at + 32 - at ≡ 32 = omega arith in
@@ -98,7 +107,8 @@ rest_begun inside run at =
     (sym joined.0 ∙ ap (words_begun inside) all, sym joined.1 ∙ ap (outside_after inside) all)
 
 -- the count of words after them
-pub outside_count : (old : WordsSoFar) (xs : List ℕ) (begun after words : ℕ) → begun ≡ words_begun old.inside xs → after ≡ outside_after old.inside xs → words ≡ capped (old.words + begun)
+pub outside_count : (old : WordsSoFar) (xs : List ℕ) (begun after words : ℕ) → begun ≡ words_begun old.inside xs → after ≡ outside_after old.inside xs
+    → words ≡ capped (old.words + begun)
     → CountsWords old (map LineOctet xs) (record { words = words; inside = after == 0 })
 outside_count old xs begun after words are ends is = record {
   words = λ few. is ∙ ap (λ n. capped (old.words + n)) (are ∙ sym (told_last old.inside xs));
@@ -115,9 +125,11 @@ lane_blank : (b : ℕ) → top 7 (lane b) ≡ is_blank b
 lane_blank b = grind (arith, nat_tests)
 
 pub blank_lanes : (xs : List ℕ) (n : ℕ) → length xs ≡ n → n ≤ 64
-    → mask_l (map (top 7) (zip2 bit_or (zip2 (λ a b. cond (a == b) 255 0) xs (replicate n 32)) (zip2 (λ a b. cond (a == b) 255 0) xs (replicate n 9)))) % 2 ^ 64 ≡ mask_l (map is_blank xs)
+    → mask_l (map (top 7) (zip2 bit_or (zip2 (λ a b. cond (a == b) 255 0) xs (replicate n 32)) (zip2 (λ a b. cond (a == b) 255 0) xs (replicate n 9)))) % 2 ^
+    64 ≡ mask_l (map is_blank xs)
 blank_lanes xs n long few =
-    let lanes = zip2_of_maps bit_or (λ b. cond (b == 32) 255 0) (λ b. cond (b == 9) 255 0) xs (zip2_splat (λ (a b : ℕ). cond (a == b) 255 0) xs n 32 long) (zip2_splat (λ (a b : ℕ). cond (a == b) 255 0) xs n 9 long) in
+    let lanes = zip2_of_maps bit_or (λ b. cond (b == 32) 255 0) (λ b. cond (b == 9) 255 0) xs (zip2_splat (λ (a b : ℕ). cond (a == b) 255 0) xs n 32 long)
+    (zip2_splat (λ (a b : ℕ). cond (a == b) 255 0) xs n 9 long) in
     ap (λ (l : List ℕ). mask_l (map (top 7) l) % 2 ^ 64) lanes
     ∙ (ap (λ l. mask_l l % 2 ^ 64) (map-map (top 7) lane xs ∙ λ i. map (λ b. lane_blank b i) xs)
     ∙ mask_l-mod (map is_blank xs) 64 (omega (arith, length-map xs is_blank, long, few)))
@@ -180,7 +192,8 @@ one_begins t k = grind (arith, none_begins k)
 
 -- all 64 digits count one more, where the last octet is a blank
 begun_short : (inside : Bool) (xs : List ℕ) → length xs < 64
-    → count_ones (bit_and (18446744073709551615 - mask_l (map is_blank xs)) (mask_l (map is_blank xs) * 2 + cond inside 0 1)) ≡ words_begun inside xs + outside_after inside xs
+    → count_ones (bit_and (18446744073709551615 - mask_l (map is_blank xs)) (mask_l (map is_blank xs) * 2 + cond inside 0 1)) ≡ words_begun inside xs
+    + outside_after inside xs
 begun_short inside xs few =
     let k = 63 - length xs in
     let zs : List ℕ = xs ++ more_word (suc k) in
@@ -198,7 +211,8 @@ one_bit n le = grind (arith, nat_tests)
 
 -- the same where a number says whether they end inside a word
 pub begun_by_mask : (before : ℕ) (xs : List ℕ) → before ≤ 1 → length xs < 64
-    → outside_after (before == 0) xs + words_begun (before == 0) xs ≡ count_ones (bit_and (18446744073709551615 - mask_l (map is_blank xs)) (mask_l (map is_blank xs) * 2 + before))
+    → outside_after (before == 0) xs + words_begun (before == 0) xs ≡ count_ones
+    (bit_and (18446744073709551615 - mask_l (map is_blank xs)) (mask_l (map is_blank xs) * 2 + before))
 begun_by_mask before xs one short =
     let counted = begun_short (before == 0) xs short in
     let same = ap (λ n. count_ones (bit_and (18446744073709551615 - mask_l (map is_blank xs)) (mask_l (map is_blank xs) * 2 + n))) (one_bit before one) in
@@ -212,16 +226,20 @@ blanks_small xs few =
 
 -- the first sixteen octets and the last sixteen
 pub few_overlap : (xs : List ℕ) (first last : ℕ) → 16 ≤ length xs → length xs ≤ 32 → first ≡ mask_l (map is_blank (take 16 xs))
-    → last ≡ mask_l (map is_blank (take 16 (slice_range xs (length xs - 16) (length xs)))) → first + last / 2 ^ (32 - length xs) * 65536 ≡ mask_l (map is_blank xs)
+    → last ≡ mask_l (map is_blank (take 16 (slice_range xs (length xs - 16) (length xs))))
+    → first + last / 2 ^ (32 - length xs) * 65536 ≡ mask_l (map is_blank xs)
 few_overlap xs first last some few is ends = mask_overlap is_blank 16 xs some few first last is ends
 
-pub few_outside : (inside : Bool) (xs : List ℕ) → 16 ≤ length xs → mask_l (map is_blank (take 16 (slice_range xs (length xs - 16) (length xs)))) / 32768 ≡ outside_after inside xs
+pub few_outside : (inside : Bool) (xs : List ℕ) → 16 ≤ length xs
+    → mask_l (map is_blank (take 16 (slice_range xs (length xs - 16) (length xs)))) / 32768 ≡ outside_after inside xs
 few_outside inside xs some = top_outside inside 15 xs some _ refl
 
 -- the first thirty-two octets and the last thirty-two
 pub more_overlap : (xs : List ℕ) (first last : ℕ) → 32 ≤ length xs → length xs ≤ 64 → first ≡ mask_l (map is_blank (take 32 xs))
-    → last ≡ mask_l (map is_blank (take 32 (slice_range xs (length xs - 32) (length xs)))) → first + last / 2 ^ (64 - length xs) * 4294967296 ≡ mask_l (map is_blank xs)
+    → last ≡ mask_l (map is_blank (take 32 (slice_range xs (length xs - 32) (length xs))))
+    → first + last / 2 ^ (64 - length xs) * 4294967296 ≡ mask_l (map is_blank xs)
 more_overlap xs first last some few is ends = mask_overlap is_blank 32 xs some few first last is ends
 
-pub more_outside : (inside : Bool) (xs : List ℕ) → 32 ≤ length xs → mask_l (map is_blank (take 32 (slice_range xs (length xs - 32) (length xs)))) / 2147483648 ≡ outside_after inside xs
+pub more_outside : (inside : Bool) (xs : List ℕ) → 32 ≤ length xs
+    → mask_l (map is_blank (take 32 (slice_range xs (length xs - 32) (length xs)))) / 2147483648 ≡ outside_after inside xs
 more_outside inside xs some = top_outside inside 31 xs some _ refl

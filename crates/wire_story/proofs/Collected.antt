@@ -7,14 +7,11 @@ use Rattle.std.proofs.lemmas.Bool.{and_parts, and_from, cases_Bool}
 use Rattle.std.proofs.lemmas.List.Splits.{slice_split-cons_yes, slice_split-cons_no, length-slice_split, join_with_byte-slice_split}
 use Rattle.std.proofs.lemmas.List.Folds.{list_all-append}
 use Rattle.wire_story.specs.Format.Texts.{is_line_octet, IsLine, IsText, IsTextSoFar, MakeText, packed_text, StoryEvent, LineOctet, LineEnd, delivered, events_of_lines}
-use Rattle.wire_story.specs.States.Reading.{add_octet, collect}
-use Rattle.wire_story.specs.Format.Packing.{AreEvents}
-use Rattle.wire_story.specs.Steps.{lines_in, collect-append}
-use Rattle.wire_story.proofs.Spans.{Are-head, Are-tail, Are-append}
-use Rattle.std.proofs.lemmas.Option.{same_Some}
+use Rattle.wire_story.specs.{States.Reading.add_octet, States.Reading.collect, Format.Packing.AreEvents, Steps.lines_in, Steps.collect-append}
 use Rattle.wire_story.specs.Laws.{TextsHaveOneReading, TextsSoFarHaveOneReading}
-use Rattle.wire_story.proofs.HeldReturns.{not_at, held_is}
+use Rattle.wire_story.proofs.{Spans.Are-head, Spans.Are-tail, Spans.Are-append, HeldReturns.not_at, HeldReturns.held_is}
 use Rattle.wire_story.proofs.Told.{delivered_lines, delivered_so_far}
+use Rattle.std.proofs.lemmas.Option.{same_Some}
 
 -- ---- the lines that are kept
 
@@ -63,7 +60,8 @@ push_run octets [] l = ap lines_in (append-nil octets)
 push_run octets (b ∷ bs) l =
     let octet : (b == 10) ≡ false = not_at b 10 (Are-head is_line_octet b bs l) refl in
     ap lines_in (sym (append_assoc octets (b ∷ []) bs))
-    ∙ (push_run (octets ++ b ∷ []) bs (Are-tail is_line_octet b bs l) ∙ ap (λ (lines : List (List ℕ)). collect lines (map LineOctet bs)) (push_octet octets b octet))
+    ∙ (push_run (octets ++ b ∷ []) bs (Are-tail is_line_octet b bs l)
+    ∙ ap (λ (lines : List (List ℕ)). collect lines (map LineOctet bs)) (push_octet octets b octet))
 
 -- ---- that they make a text
 
@@ -117,7 +115,8 @@ line_collected front line (b ∷ bs) =
     ap (λ (lines : List (List ℕ)). collect lines (map LineOctet bs)) (add_last front line b)
     ∙ (line_collected front (line ++ b ∷ []) bs ∙ ap (λ (t : List ℕ). front ++ t ∷ []) (append_assoc line (b ∷ []) bs))
 
-lines_collected : (front : List (List ℕ)) (line : List ℕ) (lines : List (List ℕ)) → collect (front ++ [] ∷ []) (events_of_lines (line ∷ lines)) ≡ front ++ line ∷ lines
+lines_collected : (front : List (List ℕ)) (line : List ℕ) (lines : List (List ℕ))
+    → collect (front ++ [] ∷ []) (events_of_lines (line ∷ lines)) ≡ front ++ line ∷ lines
 lines_collected front line [] = line_collected front [] line
 lines_collected front line (next ∷ lines) =
     collect-append (front ++ [] ∷ []) (map LineOctet line) (LineEnd ∷ events_of_lines (next ∷ lines))
@@ -129,7 +128,8 @@ text_collected x [] h = absurd h
 text_collected x (line ∷ lines) h = ap (collect ([] ∷ [])) (delivered_lines x (line ∷ lines) h) ∙ lines_collected [] line lines
 
 -- the same of a text so far
-pub so_far_collected : (x : List ℕ) (lines : List (List ℕ)) (line : List ℕ) (held : ℕ) → IsTextSoFar x lines line held → collect ([] ∷ []) (delivered x) ≡ lines ++ line ∷ []
+pub so_far_collected : (x : List ℕ) (lines : List (List ℕ)) (line : List ℕ) (held : ℕ) → IsTextSoFar x lines line held
+    → collect ([] ∷ []) (delivered x) ≡ lines ++ line ∷ []
 so_far_collected x [] line held h = ap (collect ([] ∷ [])) (delivered_so_far x [] line held h) ∙ lines_collected [] line []
 so_far_collected x (f ∷ fs) line held h = ap (collect ([] ∷ [])) (delivered_so_far x (f ∷ fs) line held h) ∙ lines_collected [] f (fs ++ line ∷ [])
 
@@ -160,7 +160,8 @@ packed_more : (lines : List (List ℕ)) → 0 < length lines → length (packed_
 packed_more [] some = absurd (omega (arith, some))
 packed_more (line ∷ []) some = refl
 packed_more (line ∷ next ∷ lines) some =
-    let more : length (packed_text (next ∷ lines)) + 1 ≡ length (join_with_byte 10 (next ∷ lines)) + length (next ∷ lines) = packed_more (next ∷ lines) (omega arith) in
+    let more : length (packed_text (next ∷ lines)) + 1 ≡ length (join_with_byte 10 (next ∷ lines)) + length (next ∷ lines) = packed_more (next ∷ lines)
+    (omega arith) in
     omega (arith, more, length-append line (13 ∷ 10 ∷ packed_text (next ∷ lines)), length-append line (10 ∷ join_with_byte 10 (next ∷ lines)))
 
 pub packed_len : (octets : List ℕ) → length (packed_text (lines_in octets)) ≡ length octets + count_by (λ b. b == 10) octets

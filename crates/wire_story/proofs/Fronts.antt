@@ -4,14 +4,13 @@ use Rattle.std.proofs.lemmas.List.{take_rest, drop-drop, take-append-drop}
 use Rattle.std.specs.List.{slice_range}
 use Rattle.iim_dataset.specs.Format.Octets.{Rose}
 use Rattle.wire_story.specs.Steps.{AreMarks, IsTextFront, StartsLineEnd}
-use Rattle.wire_story.specs.declared.marks.Marks.{Marks}
 use Rattle.wire_story.specs.Format.Texts.{is_line_octet, line_end, StoryEvent, LineEnd}
 use Rattle.wire_story.specs.States.Reading.{CountsCause, TakesPiece, RefusesOne}
+use Rattle.wire_story.specs.declared.marks.Marks.{Marks}
 use Rattle.wire_story.specs.declared.fault.TextCause.TheVariants.{LoneReturn, ControlOctet, Sink}
 use Rattle.wire_story.specs.declared.fault.TextFault.{TextFault}
-use Rattle.wire_story.proofs.HeldReturns.{held_returns}
+use Rattle.wire_story.proofs.{HeldReturns.held_returns, Told.delivered_front, Told.delivered_end}
 use Rattle.wire_story.proofs.Pieces.{leads_on, leads_on_front, refuses_front, refuses_told, refuses_lone, refuses_control}
-use Rattle.wire_story.proofs.Told.{delivered_front, delivered_end}
 
 -- events and then others lead where all of them joined lead
 abbrev pub Joins : {S : Type 0} → (S → List StoryEvent → S → Type 0) → Type 0
@@ -44,8 +43,12 @@ module _ {S : Type 0} {goes : S → List StoryEvent → S → Type 0} {failures 
   }
 
   -- a front was taken, and then an octet of what is left was refused
-  pub refuses_later : Joins goes → (piece : List ℕ) (i : ℕ) {old mid : Option ℕ} {fault : TextFault} {a b c : S} → TakesPiece goes failures old (take i piece) mid a b
-      → RefusesOne goes failures mid (slice_range piece i (length piece)) fault b c → RefusesOne goes failures old piece (record { taken = i + fault.taken; cause = fault.cause }) a c
+  pub refuses_later : Joins goes → (piece : List ℕ) (i : ℕ) {old mid : Option ℕ} {fault : TextFault} {a b c : S}
+      → TakesPiece goes failures old (take i piece) mid a b
+      → RefusesOne goes failures mid (slice_range piece i (length piece)) fault b c → RefusesOne goes failures old piece (record {
+        taken = i + fault.taken;
+        cause = fault.cause;
+      }) a c
   refuses_later joined piece i {old = old} {mid = mid} {fault = fault} {a = a} {b = b} {c = c} first then = record {
     before = omega (arith, then.before, ap length (take_rest piece i), length-drop i piece);
     refused = refuses_front old mid piece i fault.taken fault.cause first.leads_on then.refused;
@@ -70,10 +73,20 @@ module _ {S : Type 0} {goes : S → List StoryEvent → S → Type 0} {failures 
   end_refused {end = zero} h few told counted = absurd (omega (arith, h.some))
   end_refused {held = held} {rest = rest} {end = suc zero} {a = a} {b = b} h few told counted =
       subst (λ (xs : List ℕ). RefusesOne goes failures (Some held) xs (record { taken = 0; cause = Sink }) a b) (end_first rest 1 h)
-      (record { before = omega arith; refused = refuses_told held (10 ∷ drop 1 rest) 0 0 (omega arith) refl (λ e. omega (arith, e)); told = told; counted = counted })
+      (record {
+        before = omega arith;
+        refused = refuses_told held (10 ∷ drop 1 rest) 0 0 (omega arith) refl (λ e. omega (arith, e));
+        told = told;
+        counted = counted;
+      })
   end_refused {held = held} {rest = rest} {end = suc (suc zero)} {a = a} {b = b} h few told counted =
       subst (λ (xs : List ℕ). RefusesOne goes failures (Some held) xs (record { taken = 1; cause = Sink }) a b) (end_first rest 2 h)
-      (record { before = omega arith; refused = refuses_told held (13 ∷ 10 ∷ drop 2 rest) 1 0 (omega arith) (held_returns held 1 (10 ∷ []) (omega (arith, few))) (λ e. omega (arith, e)); told = told; counted = counted })
+      (record {
+        before = omega arith;
+        refused = refuses_told held (13 ∷ 10 ∷ drop 2 rest) 1 0 (omega arith) (held_returns held 1 (10 ∷ []) (omega (arith, few))) (λ e. omega (arith, e));
+        told = told;
+        counted = counted;
+      })
   end_refused {end = suc (suc (suc n))} h few told counted = absurd (omega (arith, h.few))
 
   -- ---- an octet that the sink is not told
@@ -86,14 +99,25 @@ module _ {S : Type 0} {goes : S → List StoryEvent → S → Type 0} {failures 
       rw first (record { leads_on = leads_on held (13 ∷ []) (held + 1) (held_returns held 1 [] (omega (arith, few))); told = none; calm = refl })
 
   -- after CR, and no LF
-  pub lone_refused : {held : ℕ} {rest : List ℕ} {a : S} → 0 < length rest → 0 < held → slice_index rest 0 ≢ 10 → (slice_index rest 0 ≡ 13 → held ≡ 2) → goes a [] a
+  pub lone_refused : {held : ℕ} {rest : List ℕ} {a : S} → 0 < length rest → 0 < held → slice_index rest 0 ≢ 10 → (slice_index rest 0 ≡ 13 → held ≡ 2)
+      → goes a [] a
       → RefusesOne goes failures (Some held) rest (record { taken = 0; cause = LoneReturn }) a a
-  lone_refused {held = held} {rest = rest} some held_some feed returns none = record { before = some; refused = refuses_lone held rest held_some feed returns; told = none; counted = refl }
+  lone_refused {held = held} {rest = rest} some held_some feed returns none = record {
+    before = some;
+    refused = refuses_lone held rest held_some feed returns;
+    told = none;
+    counted = refl;
+  }
 
   -- a control octet
   pub control_refused : {rest : List ℕ} {a : S} → 0 < length rest → slice_index rest 0 < 256 → slice_index rest 0 ≢ 10 → slice_index rest 0 ≢ 13
       → is_line_octet (slice_index rest 0) ≡ false → goes a [] a → RefusesOne goes failures (Some 0) rest (record { taken = 0; cause = ControlOctet }) a a
-  control_refused {rest = rest} some fits feed return other none = record { before = some; refused = refuses_control rest fits feed return other; told = none; counted = refl }
+  control_refused {rest = rest} some fits feed return other none = record {
+    before = some;
+    refused = refuses_control rest fits feed return other;
+    told = none;
+    counted = refl;
+  }
 
 pub front_after : (rest : List ℕ) (i k held : ℕ) (marks : Marks) → held ≤ 2 → 0 < i + k → i ≤ length rest → k ≤ length (slice_range rest i (length rest))
     → AreMarks (drop k (slice_range rest i (length rest))) marks → IsTextFront rest held (i + k) marks

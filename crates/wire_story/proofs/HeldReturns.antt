@@ -48,18 +48,21 @@ line_octet_step b t = grind (arith, nat_tests)
 pub held_line : (line rest : List ℕ) → IsLine line → held_after 0 (line ++ rest) ≡ held_after 0 rest
 held_line [] rest h = refl
 held_line (b ∷ bs) rest h =
-    ap (option_and_then (λ k. held_after k (bs ++ rest))) (line_octet_step b (Are-head is_line_octet b bs h)) ∙ held_line bs rest (Are-tail is_line_octet b bs h)
+    ap (option_and_then (λ k. held_after k (bs ++ rest))) (line_octet_step b (Are-head is_line_octet b bs h))
+    ∙ held_line bs rest (Are-tail is_line_octet b bs h)
 
 -- CR that stand after others
 pub held_returns : (h k : ℕ) (rest : List ℕ) → h + k ≤ 2 → held_after h (replicate k 13 ++ rest) ≡ held_after (h + k) rest
 held_returns h zero rest few = ap (λ n. held_after n rest) (omega arith)
 held_returns h (suc k) rest few =
     let next : after_octet h 13 ≡ Some (suc h) = ap (λ t. chosen false true t (is_line_octet 13 && (h == 0)) h) (lt-ltb h 2 (omega arith)) in
-    ap (option_and_then (λ n. held_after n (replicate k 13 ++ rest))) next ∙ held_returns (suc h) k rest (omega arith) ∙ ap (λ n. held_after n rest) (omega arith)
+    ap (option_and_then (λ n. held_after n (replicate k 13 ++ rest))) next ∙ held_returns (suc h) k rest (omega arith)
+    ∙ ap (λ n. held_after n rest) (omega arith)
 
 pub held_is : (x : List ℕ) (lines : List (List ℕ)) (line : List ℕ) (k : ℕ) → IsTextSoFar x lines line k → held_after 0 x ≡ Some k
 held_is x [] line k h =
-    ap (held_after 0) (h.2 ∙ ap (λ (t : List ℕ). line ++ t) (sym (append-nil (replicate k 13)))) ∙ held_line line (replicate k 13 ++ []) h.0 ∙ held_returns 0 k [] (omega (arith, h.1)) ∙ ap Some (omega arith)
+    ap (held_after 0) (h.2 ∙ ap (λ (t : List ℕ). line ++ t) (sym (append-nil (replicate k 13)))) ∙ held_line line (replicate k 13 ++ []) h.0
+    ∙ held_returns 0 k [] (omega (arith, h.1)) ∙ ap Some (omega arith)
 held_is x (first ∷ lines) line k h =
     ap (held_after 0) (h.4 ∙ ap (λ (t : List ℕ). first ++ t) (append_assoc (replicate h.1 13) (10 ∷ []) h.3))
     ∙ held_line first (replicate h.1 13 ++ (10 ∷ h.3)) h.0 ∙ held_returns 0 h.1 (10 ∷ h.3) (omega (arith, h.2)) ∙ held_is h.3 lines line k h.5
@@ -89,7 +92,8 @@ so_far h (b ∷ bs) k le e =
     elim (step_of h b s.0 s.1) [
       | inl p ↦
           let more = so_far 0 bs k (omega arith) (rw p.1 at s.2) in
-          let parts : replicate h 13 ++ (b ∷ bs) ≡ line_end h ++ bs = ap (λ (c : ℕ). replicate h 13 ++ (c ∷ bs)) p.0 ∙ sym (append_assoc (replicate h 13) (10 ∷ []) bs) in
+          let parts : replicate h 13 ++ (b ∷ bs) ≡ line_end h ++ bs = ap (λ (c : ℕ). replicate h 13 ++ (c ∷ bs)) p.0
+          ∙ sym (append_assoc (replicate h 13) (10 ∷ []) bs) in
           ([] ∷ more.0, more.1, (refl, h, le, bs, parts, more.2))
       | inr r ↦ elim r [
         | inl p ↦ rw (p.0, replicate-more h bs) (so_far (suc h) bs k (omega arith) (rw p.2 at s.2))

@@ -2,8 +2,8 @@
 use Rattle.std.proofs.Common.{◌≡◌, ℕ, ◌<◌, ◌≤◌, List, [], ◌∷◌, ◌++◌, map, Some, None, sym, ap, subst, ◌∙◌, arith, append-nil, option_and_then}
 use Rattle.std.proofs.lemmas.Option.{same_Some}
 use Rattle.wire_story.specs.Laws.{OctetsLeadToOnePlace, OctetsLeadOnAlike}
-use Rattle.iim_dataset.specs.Format.Octets.{IsAlive}
 use Rattle.wire_story.specs.Format.Texts.{IsLine, line_end, IsText, IsTextSoFar, Holds, AreLines, Octet, End, with_end, StoryLanguage, LivesWith, StoryDiesAt}
+use Rattle.iim_dataset.specs.Format.Octets.{IsAlive}
 use Rattle.wire_story.proofs.HeldReturns.{held_after, after_octet, held_is, so_far, and_then_is, held_append}
 use Rattle.wire_story.proofs.SoFar.{with_end-append, map_snoc, front_of, end_of}
 
@@ -17,7 +17,8 @@ so_far_of x (line ∷ next ∷ lines) h =
     let more = so_far_of h.3 (next ∷ lines) h.5 in
     (line ∷ more.0, more.1, (h.0, h.1, h.2, h.3, h.4, more.2))
 
-text_cons : (x first : List ℕ) (k : ℕ) (rest : List ℕ) (lines : List (List ℕ)) → IsLine first → k ≤ 2 → x ≡ first ++ (line_end k ++ rest) → IsText rest lines → IsText x (first ∷ lines)
+text_cons : (x first : List ℕ) (k : ℕ) (rest : List ℕ) (lines : List (List ℕ)) → IsLine first → k ≤ 2 → x ≡ first ++ (line_end k ++ rest) → IsText rest lines
+    → IsText x (first ∷ lines)
 text_cons x first k rest [] p le e h = absurd h
 text_cons x first k rest (next ∷ lines) p le e h = (p, k, le, rest, e, h)
 

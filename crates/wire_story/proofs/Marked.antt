@@ -10,8 +10,7 @@ use Rattle.std.proofs.lemmas.List.Sums.{prefix_len_passes, prefix_len-le-length}
 use Rattle.std.proofs.lemmas.Bool.{and_from, cases_lt}
 use Rattle.std.proofs.lemmas.Bool.Decides.{nat_tests}
 use Rattle.std.proofs.lemmas.List.Folds.{list_all_more, prefix_len-append}
-use Rattle.wire_story.specs.Format.Texts.{is_line_octet, IsLine}
-use Rattle.wire_story.specs.Steps.{is_low, AreMarks}
+use Rattle.wire_story.specs.{Format.Texts.is_line_octet, Format.Texts.IsLine, Steps.is_low, Steps.AreMarks}
 use Rattle.wire_story.specs.declared.marks.Marks.{Marks}
 
 -- ---- masks
@@ -75,7 +74,8 @@ some_left xs m h = omega (arith, h.is, pow_pos h.many)
 -- where a digit is left they tell of what is before it
 pub tells_used : (xs : List ℕ) (m : Marks) (h : AreMarks xs m) (used : ℕ) → m.left / 2 ^ used ≢ 0 → used ≤ h.many
 tells_used xs m h used more = elim (cases_lt h.many used) [
-  | inl less ↦ absurd (more (div-eq_of_lt (omega (arith, h.is, mask_lt h.many xs h.within, two-pow-succ h.many, pow_mono {i = suc h.many} {j = used} (omega (arith, less))))))
+  | inl less ↦ absurd (more (div-eq_of_lt (omega
+      (arith, h.is, mask_lt h.many xs h.within, two-pow-succ h.many, pow_mono {i = suc h.many} {j = used} (omega (arith, less))))))
   | inr le ↦ le
 ]
 
@@ -87,7 +87,8 @@ marks_after xs m h s le =
     let room : more ≤ length (drop s xs) = omega (arith, h.within, le, length-drop s xs) in
     let long = length-take-le h.many xs h.within in
     let rest : drop s (ended h.many xs) ≡ ended more (drop s xs) =
-    drop-append-le s (take h.many xs) (0 ∷ []) (omega (arith, long, le)) ∙ ap (λ (ys : List ℕ). ys ++ 0 ∷ []) (ap (λ n. drop s (take n xs)) whole ∙ drop-take s more xs) in
+    drop-append-le s (take h.many xs) (0 ∷ []) (omega (arith, long, le))
+    ∙ ap (λ (ys : List ℕ). ys ++ 0 ∷ []) (ap (λ n. drop s (take n xs)) whole ∙ drop-take s more xs) in
     record {
       many = more;
       within = room;
@@ -130,7 +131,8 @@ calm_octet b fits high = grind (arith, nat_tests)
 
 -- an octet that may stand in it continues the line
 pub line_more : (xs : List ℕ) (at : ℕ) → at < length xs → IsLine (take at xs) → is_line_octet (get_or xs at 0) ≡ true → IsLine (take (at + 1) xs)
-line_more xs at within front stands = list_all_more is_line_octet xs at 0 within ∙ and_from (list_all is_line_octet (take at xs)) (is_line_octet (get_or xs at 0)) front stands
+line_more xs at within front stands = list_all_more is_line_octet xs at 0 within
+    ∙ and_from (list_all is_line_octet (take at xs)) (is_line_octet (get_or xs at 0)) front stands
 
 -- octets before the first low one continue the line
 calm_front : (xs : List ℕ) → ((k : ℕ) → get_or xs k 0 < 256) → (at many n : ℕ) → at + n ≤ length xs → n ≤ many → IsLine (take at xs)
@@ -143,7 +145,8 @@ calm_front xs fits at many (suc n) le few front pre =
     subst (λ (m : ℕ). IsLine (take m xs)) (omega arith) (line_more xs (at + n) (omega arith) before (calm_octet (get_or xs (at + n) 0) (fits (at + n)) high))
 
 -- a mask of no octet
-pub calm_block : (xs : List ℕ) → ((k : ℕ) → get_or xs k 0 < 256) → (at : ℕ) → at + 16 ≤ length xs → mask_l (map is_low (take 16 (slice_range xs at (length xs)))) ≡ 0
+pub calm_block : (xs : List ℕ) → ((k : ℕ) → get_or xs k 0 < 256) → (at : ℕ) → at + 16 ≤ length xs
+    → mask_l (map is_low (take 16 (slice_range xs at (length xs)))) ≡ 0
     → IsLine (take at xs) → IsLine (take (at + 16) xs)
 calm_block xs fits at within none front =
     let all = leading_from_mask_l is_low (take 16 (drop at xs)) (ap (λ (ys : List ℕ). mask_l (map is_low (take 16 ys))) (sym (take_rest xs at)) ∙ none) in
@@ -180,7 +183,8 @@ calm_after {xs = xs} {at = at} {left = left} fits front more stands is digits th
 
 -- the marks of the last sixteen octets, after those before `at`
 pub marks_last : (xs : List ℕ) (at mask : ℕ) → 16 ≤ length xs → at ≤ length xs → length xs ≤ at + 16
-    → mask ≡ mask_l (map is_low (take 16 (slice_range xs (length xs - 16) (length xs)))) → AreMarks (drop at xs) (record { left = (mask + 65536) / 2 ^ (at - (length xs - 16)) })
+    → mask ≡ mask_l (map is_low (take 16 (slice_range xs (length xs - 16) (length xs))))
+    → AreMarks (drop at xs) (record { left = (mask + 65536) / 2 ^ (at - (length xs - 16)) })
 marks_last xs at mask room within near is =
     let start = length xs - 16 in
     let s = at - start in

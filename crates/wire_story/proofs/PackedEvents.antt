@@ -5,10 +5,8 @@ use Rattle.std.proofs.lemmas.Bool.{and_parts, and_from}
 use Rattle.std.proofs.lemmas.List.{map-append}
 use Rattle.std.proofs.lemmas.List.Concat.{flat_map-append}
 use Rattle.wire_story.specs.Format.Texts.{is_line_octet, line_end, packed_text, IsText, MakeText, StoryEvent, LineOctet, LineEnd, events_of_lines, octet_for}
-use Rattle.wire_story.specs.States.Reading.{add_octet, collect}
-use Rattle.wire_story.specs.Format.Packing.{packed_event, packed_events}
+use Rattle.wire_story.specs.{States.Reading.add_octet, States.Reading.collect, Format.Packing.packed_event, Format.Packing.packed_events, Steps.octets_of_line}
 use Rattle.wire_story.specs.Laws.{LinesArePackedAsTheirEvents, EventsArePackedAsLines}
-use Rattle.wire_story.specs.Steps.{octets_of_line}
 use Rattle.wire_story.proofs.Collected.{octet_some, collected_made}
 
 pub line_packed : (line : List ℕ) → packed_events (map LineOctet line) ≡ line
@@ -42,7 +40,8 @@ end_packed (line ∷ next ∷ lines) some =
     ap (λ (t : List ℕ). line ++ (line_end 1 ++ t)) (end_packed (next ∷ lines) (omega arith))
     ∙ sym (append_assoc line (line_end 1 ++ packed_text (next ∷ lines)) (line_end 1))
 
-collected_packed : (lines : List (List ℕ)) (events : List StoryEvent) → 0 < length lines → packed_text (collect lines events) ≡ packed_text lines ++ packed_events events
+collected_packed : (lines : List (List ℕ)) (events : List StoryEvent) → 0 < length lines
+    → packed_text (collect lines events) ≡ packed_text lines ++ packed_events events
 collected_packed lines [] some = sym (append-nil (packed_text lines))
 collected_packed lines (LineOctet b ∷ events) some =
     collected_packed (add_octet lines b) events (octet_some lines b)

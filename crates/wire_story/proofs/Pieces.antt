@@ -9,17 +9,18 @@ use Rattle.wire_story.specs.Format.Texts.{is_line_octet, IsLine, Holds, LivesWit
 use Rattle.wire_story.specs.States.Reading.{StandsAt, LeadsOn, Refuses}
 use Rattle.wire_story.specs.declared.fault.TextCause.{TextCause}
 use Rattle.wire_story.specs.declared.fault.TextCause.TheVariants.{LoneReturn, ControlOctet, Sink}
-use Rattle.wire_story.proofs.HeldReturns.{held_after, held_append, held_line}
-use Rattle.wire_story.proofs.Lives.{held_of, holds, live_of, dies}
-use Rattle.wire_story.proofs.Told.{take_front}
-use Rattle.wire_story.proofs.Spans.{Are-at}
+use Rattle.wire_story.proofs.{HeldReturns.held_after, HeldReturns.held_append, HeldReturns.held_line, Lives.held_of, Lives.holds, Lives.live_of, Lives.dies}
+use Rattle.wire_story.proofs.{Told.take_front, Spans.Are-at}
 
 -- ---- pieces
 
 pub leads_on : (h : ℕ) (piece : List ℕ) (k : ℕ) → held_after h piece ≡ Some k → LeadsOn (Some h) piece (Some k)
 leads_on h piece k e octets w =
-    let same : w.0 ≡ h = sym (same_Some h w.0 w.1) in
-    (k, refl, holds (octets ++ piece) k (held_append 0 octets piece ∙ ap (option_and_then (λ n. held_after n piece)) (held_of octets w.0 w.2 ∙ ap Some same) ∙ e))
+    let same : w.0 ≡ h = sym (same_Some h w.0 w.1) in (
+      k,
+      refl,
+      holds (octets ++ piece) k (held_append 0 octets piece ∙ ap (option_and_then (λ n. held_after n piece)) (held_of octets w.0 w.2 ∙ ap Some same) ∙ e),
+    )
 
 pub held_in_line : (run : List ℕ) → IsLine run → held_after 0 run ≡ Some 0
 held_in_line run l = ap (held_after 0) (sym (append-nil run)) ∙ held_line run [] l
@@ -29,16 +30,19 @@ leads_on_none reader octets w = subst (StandsAt reader) (sym (append-nil octets)
 
 -- octets, then a front of a piece, and then one of what is left
 fronts_joined : (octets piece : List ℕ) (i k : ℕ) → (octets ++ take i piece) ++ take k (slice_range piece i (length piece)) ≡ octets ++ take (i + k) piece
-fronts_joined octets piece i k = append_assoc octets (take i piece) (take k (slice_range piece i (length piece))) ∙ ap (λ t. octets ++ t) (sym (take_front piece i k))
+fronts_joined octets piece i k = append_assoc octets (take i piece) (take k (slice_range piece i (length piece)))
+    ∙ ap (λ t. octets ++ t) (sym (take_front piece i k))
 
-pub leads_on_front : (old mid new : Option ℕ) (piece : List ℕ) (i k : ℕ) → LeadsOn old (take i piece) mid → LeadsOn mid (take k (slice_range piece i (length piece))) new → LeadsOn old (take (i + k) piece) new
+pub leads_on_front : (old mid new : Option ℕ) (piece : List ℕ) (i k : ℕ) → LeadsOn old (take i piece) mid
+    → LeadsOn mid (take k (slice_range piece i (length piece))) new → LeadsOn old (take (i + k) piece) new
 leads_on_front old mid new piece i k f g octets w = subst (StandsAt new) (fronts_joined octets piece i k) (g (octets ++ take i piece) (f octets w))
 
 -- an octet of what is left is refused in the whole
 pub refuses_front : (old mid : Option ℕ) (piece : List ℕ) (i k : ℕ) (cause : TextCause) → LeadsOn old (take i piece) mid
     → Refuses mid (slice_range piece i (length piece)) (record { taken = k; cause = cause }) → Refuses old piece (record { taken = i + k; cause = cause })
 refuses_front old mid piece i k cause f g octets w =
-    let octet : slice_index (slice_range piece i (length piece)) k ≡ slice_index piece (i + k) = ap (λ r. slice_index r k) (take_rest piece i) ∙ get_or-drop i piece k 0 in
+    let octet : slice_index (slice_range piece i (length piece)) k ≡ slice_index piece (i + k) = ap (λ r. slice_index r k) (take_rest piece i)
+    ∙ get_or-drop i piece k 0 in
     rw (← fronts_joined octets piece i k, ← octet) (g (octets ++ take i piece) (f octets w))
 
 -- ---- an octet that is refused
@@ -47,13 +51,17 @@ held_by : (held : ℕ) (octets : List ℕ) → StandsAt (Some held) octets → H
 held_by held octets w = subst (λ (t : List ℕ). Holds t held) (sym (append-nil octets)) (subst (Holds octets) (sym (same_Some held w.0 w.1)) w.2)
 
 -- after CR, and no LF
-pub refuses_lone : (held : ℕ) (rest : List ℕ) → 0 < held → slice_index rest 0 ≢ 10 → (slice_index rest 0 ≡ 13 → held ≡ 2) → Refuses (Some held) rest (record { taken = 0; cause = LoneReturn })
+pub refuses_lone : (held : ℕ) (rest : List ℕ) → 0 < held → slice_index rest 0 ≢ 10 → (slice_index rest 0 ≡ 13 → held ≡ 2) → Refuses (Some held) rest (record {
+  taken = 0;
+  cause = LoneReturn;
+})
 refuses_lone held rest some feed returns octets w =
     let h = held_by held octets w in
     (dies (octets ++ []) held (slice_index rest 0) h (grind (arith, nat_tests)), (held, h, (some, feed, returns)))
 
 -- a control octet
-pub refuses_control : (rest : List ℕ) → slice_index rest 0 < 256 → slice_index rest 0 ≢ 10 → slice_index rest 0 ≢ 13 → is_line_octet (slice_index rest 0) ≡ false
+pub refuses_control : (rest : List ℕ) → slice_index rest 0 < 256 → slice_index rest 0 ≢ 10 → slice_index rest 0 ≢ 13
+    → is_line_octet (slice_index rest 0) ≡ false
     → Refuses (Some 0) rest (record { taken = 0; cause = ControlOctet })
 refuses_control rest fits feed return other octets w =
     let h = held_by 0 octets w in
@@ -72,7 +80,8 @@ refuses_told held piece t k within next other octets w =
 pub refuses_in_line : (piece : List ℕ) (t : ℕ) → t < length piece → IsLine (take (t + 1) piece) → Refuses (Some 0) piece (record { taken = t; cause = Sink })
 refuses_in_line piece t within line =
     let stands : is_line_octet (slice_index piece t) ≡ true =
-    ap is_line_octet (sym (get_or-take (t + 1) piece t 0 (omega arith))) ∙ Are-at is_line_octet (take (t + 1) piece) t line (omega (arith, length-take-le (t + 1) piece (omega arith))) in
+    ap is_line_octet (sym (get_or-take (t + 1) piece t 0 (omega arith)))
+    ∙ Are-at is_line_octet (take (t + 1) piece) t line (omega (arith, length-take-le (t + 1) piece (omega arith))) in
     refuses_told 0 piece t 0 within (held_in_line (take (t + 1) piece) line) (λ return. true≢false (sym stands ∙ ap is_line_octet return))
 
 -- ---- a reader

@@ -3,11 +3,9 @@ use Rattle.std.proofs.Common.{◌≡◌, ℕ, ◌+◌, cond, Bool, true, false, 
 use Rattle.std.proofs.lemmas.Bool.{cases_Bool, both_ways}
 use Rattle.std.proofs.lemmas.List.Sums.{sum_by-cons}
 use Rattle.wire_story.specs.Format.Texts.{LineOctet, LineEnd, delivered, events_of_lines, is_word_octet, is_blank, words_begun, words_in, words, EndsWord, HasWords, capped, words_told}
-use Rattle.wire_story.specs.Laws.{WordsAreLongestRuns, TextsAreCountedAsLines}
-use Rattle.wire_story.proofs.Spans.{Are, Are-head, Are-tail, Are-cons, span, no_stop}
-use Rattle.wire_story.specs.Steps.{told-append}
+use Rattle.wire_story.specs.{Laws.WordsAreLongestRuns, Laws.TextsAreCountedAsLines, Steps.told-append}
+use Rattle.wire_story.proofs.{Spans.Are, Spans.Are-head, Spans.Are-tail, Spans.Are-cons, Spans.span, Spans.no_stop, Told.delivered_lines}
 use Rattle.std.proofs.lemmas.Bool.Decides.{nat_tests}
-use Rattle.wire_story.proofs.Told.{delivered_lines}
 
 -- ---- the count of longest runs
 

@@ -4,4 +4,5 @@ use Rattle.caller_tests.proofs.places.octets_of_object.Goals as goal
 
 pub returns-in-Ok : goal.returns-in-Ok
 returns-in-Ok c =
-    same_taken c.place_laws.ensures.tickets_of_places_are_split c.place_laws.ensures.tickets_have_one_split c.args.ticket.now (split_told c.in-Ok.parts) c.in-Ok.ensures.parts
+    same_taken c.place_laws.ensures.tickets_of_places_are_split c.place_laws.ensures.tickets_have_one_split c.args.ticket.now (split_told c.in-Ok.parts)
+    c.in-Ok.ensures.parts

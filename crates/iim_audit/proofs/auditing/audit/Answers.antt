@@ -45,7 +45,8 @@ returns-in-Err-clause-fails g c = λ alive.
 pub returns-then-number-gt-MAX_ENVELOPES-clause-fails : goal.returns-then-number-gt-MAX_ENVELOPES-clause-fails
 returns-then-number-gt-MAX_ENVELOPES-clause-fails g c = λ alive.
     let before = c.envelopes.invariant in
-    rw c.fault_at-then-number-gt-MAX_ENVELOPES.ensures (one_too_many c.gifts_join.ensures before.fit c.next_number-number.ensures (before.reads alive) (omega arith)
+    rw c.fault_at-then-number-gt-MAX_ENVELOPES.ensures
+    (one_too_many c.gifts_join.ensures before.fit c.next_number-number.ensures (before.reads alive) (omega arith)
     c.in-Ok-Some.ensures.lives (rw (c.in-Ok-Some.field-0-is, before.same) at c.in-Ok-Some.ensures.took))
 
 pub returns-in_default-enter-clause-fails : goal.returns-in_default-enter-clause-fails

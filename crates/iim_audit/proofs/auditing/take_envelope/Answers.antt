@@ -7,14 +7,17 @@ returns-in-Ok-true-clause-took g c =
     let old = in_line g.R.Source.state c.args.intake.now in
     let new = in_line g.R.Source.state c.feed_envelope.new.self in
     let laws : TextLaws = search rules in
-    took_one laws (limits_in c.args.unpacker.now) old new c.again.new.self c.feed_envelope.new.unpacker c.new-count.result c.feed_envelope.new.sink c.feed_envelope.new.self.octets c.words.result
-    c.in-Ok-true.field-0 c.in-Ok-true.field-0-test c.again.ensures.limits c.again.ensures.stands c.new-count.ensures.words c.new-count.ensures.inside c.words.ensures c.in-Ok-true.ensures.fed
+    took_one laws (limits_in c.args.unpacker.now) old new c.again.new.self c.feed_envelope.new.unpacker c.new-count.result c.feed_envelope.new.sink
+    c.feed_envelope.new.self.octets c.words.result
+    c.in-Ok-true.field-0 c.in-Ok-true.field-0-test c.again.ensures.limits c.again.ensures.stands c.new-count.ensures.words c.new-count.ensures.inside
+    c.words.ensures c.in-Ok-true.ensures.fed
 
 pub returns-in-Ok-false-clause-took : goal.returns-in-Ok-false-clause-took
 returns-in-Ok-false-clause-took g c =
     let old = in_line g.R.Source.state c.args.intake.now in
     let new = in_line g.R.Source.state c.feed_envelope.new.self in
-    took_end (limits_in c.args.unpacker.now) old new c.again.new.self c.feed_envelope.new.unpacker c.new-count.result c.feed_envelope.new.sink c.feed_envelope.new.self.octets
+    took_end (limits_in c.args.unpacker.now) old new c.again.new.self c.feed_envelope.new.unpacker c.new-count.result c.feed_envelope.new.sink
+    c.feed_envelope.new.self.octets
     c.in-Ok-false.field-0 c.in-Ok-false.field-0-test c.in-Ok-false.ensures.fed
 
 pub returns-in-Err-clause-none : goal.returns-in-Err-clause-none

@@ -24,7 +24,8 @@ loop-place-preserved c =
       len = length-set now at row ∙ inv.len;
       group = search rules;
       so_far = λ is fresh. so_far_more old (map index_at places) k (index_at c.loop-place.group) next at now (set now at row) was row
-          (get_or-map index_at places k 0 0 c.loop-place-test.true ∙ is_at) is fresh (omega (arith, length-map places index_at, c.loop-place-test.true)) inv.len (inv.so_far is fresh)
+          (get_or-map index_at places k 0 0 c.loop-place-test.true ∙ is_at) is fresh (omega (arith, length-map places index_at, c.loop-place-test.true))
+          inv.len (inv.so_far is fresh)
           (rw is_at at c.group_of-group.ensures.same) (rw is_at at c.group_of-group.ensures.other) (search (rules, get_or_default))
           (rw is_next at c.tell_first.ensures.told) (rw is_next at c.tell_first.ensures.untold) refl;
       ids = map-set_same (λ (r : AuditRow). r.id) now at row c.index-rows-at.result c.tell_first.ensures.id ∙ inv.ids;

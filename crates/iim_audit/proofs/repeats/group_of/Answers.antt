@@ -1,7 +1,6 @@
 use Rattle.iim_audit.proofs.Words.{◌≡◌, ℕ, List, get_or, ap, sym, ◌∙◌, arith, IsPlace, ids_of, index_at, key_at, key_of}
 use Rattle.iim_audit.specs.declared.row.AuditRow.{AuditRow}
-use Rattle.iim_audit.proofs.Firsts.{key_same}
-use Rattle.iim_audit.proofs.Lines.{id_at, length_ids}
+use Rattle.iim_audit.proofs.{Firsts.key_same, Lines.id_at, Lines.length_ids}
 use Rattle.iim_audit.proofs.repeats.group_of.Goals as goal
 
 -- the key of a place is that of its row's id

@@ -1,6 +1,5 @@
-use Rattle.iim_audit.proofs.Words.{is_lt, rules, ids_of, place_cmp}
+use Rattle.iim_audit.proofs.{Words.is_lt, Words.rules, Words.ids_of, Words.place_cmp, Firsts.places_rank}
 use Rattle.std.proofs.lemmas.Fn.{always_returns_same}
-use Rattle.iim_audit.proofs.Firsts.{places_rank}
 use Rattle.iim_audit.proofs.repeats.sort_places.Goals as goal
 
 pub returns-clause-sorted : goal.returns-clause-sorted

@@ -1,5 +1,4 @@
-use Rattle.iim_audit.proofs.Words.{All-permutation, IsPlace, ids_of, places_of}
-use Rattle.iim_audit.proofs.Firsts.{are_places, order_of}
+use Rattle.iim_audit.proofs.{Words.All-permutation, Words.IsPlace, Words.ids_of, Words.places_of, Firsts.are_places, Firsts.order_of}
 use Rattle.iim_audit.proofs.repeats.tell_repeats.Goals as goal
 
 pub fill_firsts-requires : goal.fill_firsts-requires

@@ -3,4 +3,13 @@ use Rattle.iim_audit.proofs.text.line_of.Goals as goal
 
 pub returns : goal.returns
 returns c =
-    cc (append-nil (ages_of c.args.row.now), c.new-line.ensures, c.prepend_ages.ensures.octets, c.prepend_sizes.ensures.octets, c.unwrap_or.ensures, c.prepend.ensures.octets, c.prepend-2.ensures.octets, c.prepend_id.ensures)
+    cc (
+      append-nil (ages_of c.args.row.now),
+      c.new-line.ensures,
+      c.prepend_ages.ensures.octets,
+      c.prepend_sizes.ensures.octets,
+      c.unwrap_or.ensures,
+      c.prepend.ensures.octets,
+      c.prepend-2.ensures.octets,
+      c.prepend_id.ensures,
+    )

@@ -1,13 +1,11 @@
 -- What a piece comes to that is audited from the place of a ticket on.
 use Rattle.iim_c.proofs.Words.{arith, sym, subst, ◌∙◌, inl, inr, refl, ◌≡◌, ◌≢◌, ℕ, ℤ, List, ◌⊎◌, [], length, take, drop, ap, length-take-le, Limits, IsTicketOf, Refusal, Unpacking, Stands, IsDone, IsDoneWith, StandsOn, PieceAudit, status_answer, refusal_answer, limits_in, ◌++◌, with_more, HasFound, PlaceLaws, InHand, Found, IimAuditRow}
-use Rattle.iim_c.specs.Format.Feeding.{IsNowhere}
+use Rattle.iim_c.specs.{Format.Feeding.IsNowhere, Format.Answers.IimAnswer, Format.Tickets.words_so_far, Format.Tickets.begins_at}
+use Rattle.iim_c.specs.Steps.{IsBegun, IsSaved, IsWithin, StopsBy, IsKept, kept_of}
+use Rattle.iim_c.specs.Format.Auditing.{Outcome, IsAuditedAt, IsOutcome, IsSaidOf, GoesOn, UsesAll, UsesSome, RefusesOne}
 use Rattle.iim_c.proofs.Places.{begun, not_open, said, Begun, is_done}
 use Rattle.std.proofs.lemmas.List.{take-append-drop}
 use Rattle.wire_story.specs.Format.Texts.{WordsSoFar}
-use Rattle.iim_c.specs.Format.Answers.{IimAnswer}
-use Rattle.iim_c.specs.Steps.{IsBegun, IsSaved, IsWithin, StopsBy, IsKept, kept_of}
-use Rattle.iim_c.specs.Format.Auditing.{Outcome, IsAuditedAt, IsOutcome, IsSaidOf, GoesOn, UsesAll, UsesSome, RefusesOne}
-use Rattle.iim_c.specs.Format.Tickets.{words_so_far, begins_at}
 use Rattle.iim_c.specs.declared.finding.Ending.{Ending}
 use Rattle.iim_c.specs.declared.so_far.IimSoFar.{IimSoFar}
 use Rattle.iim_c.specs.Format.Statuses as status
@@ -16,7 +14,8 @@ use Rattle.iim_c.proofs.audit.audited.Goals as goal
 
 -- What a call has found in a piece, with its rows first in the array. It resumed an audit from an unpacker that was begun, with which no
 -- envelope has ended, and from the words so far.
-record Came (limits : Limits) (ticket : List ℕ) (old : IimSoFar) (piece : List ℕ) (now : ℤ) (array array_new : List IimAuditRow) (audit : PieceAudit) (found : Found) (end : Ending) : Type 0 where
+record Came (limits : Limits) (ticket : List ℕ) (old : IimSoFar) (piece : List ℕ) (now : ℤ) (array array_new : List IimAuditRow) (audit : PieceAudit)
+    (found : Found) (end : Ending) : Type 0 where
   first : PieceAudit
   begun : Begun limits ticket old.octets first.unpacker
   going : IsDone first.unpacker → ⊥
@@ -29,7 +28,11 @@ record Came (limits : Limits) (ticket : List ℕ) (old : IimSoFar) (piece : List
 came : PlaceLaws → (limits : Limits) (ticket : List ℕ) (old : IimSoFar) (u : Unpacking) (first : PieceAudit) (count : WordsSoFar)
     → IsBegun limits ticket old.octets u → (IsDone u → ⊥) → first.unpacker ≡ u → first.count ≡ count → count ≡ words_so_far ticket old
     → (piece : List ℕ) (now : ℤ) (array array_new : List IimAuditRow) (audit : PieceAudit) (found : Found) (end : Ending)
-    → ((p : List ℕ) (a : ℕ) → StandsOn first p a → HasFound (limits_in first.unpacker) now (record { at = old.at; octets = p; count = a }) piece array_new audit found end)
+    → ((p : List ℕ) (a : ℕ) → StandsOn first p a → HasFound (limits_in first.unpacker) now (record {
+      at = old.at;
+      octets = p;
+      count = a;
+    }) piece array_new audit found end)
     → IsWithin piece array array_new found → StopsBy first audit found.rows (length array) end → length array_new ≡ length array
     → Came limits ticket old piece now array array_new audit found end
 came laws limits ticket old u first count is_begun going is counts words piece now array array_new audit found end finds within stops many =

@@ -4,7 +4,8 @@ use Rattle.iim_c.proofs.begun.place_told.Goals as goal
 
 pub returns-in-Ok-clause-octets : goal.returns-in-Ok-clause-octets
 returns-in-Ok-clause-octets c =
-    octets_tell c.place_laws.ensures.tickets_of_places_are_split c.place_laws.ensures.tickets_have_one_split c.args.ticket.now c.args.at (split_told c.in-Ok.parts) c.begun_in.result
+    octets_tell c.place_laws.ensures.tickets_of_places_are_split c.place_laws.ensures.tickets_have_one_split c.args.ticket.now c.args.at
+    (split_told c.in-Ok.parts) c.begun_in.result
     c.in-Ok.ensures.parts c.begun_in.ensures
 
 pub returns-in-Err-clause-octets : goal.returns-in-Err-clause-octets

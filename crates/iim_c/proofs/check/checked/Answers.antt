@@ -1,10 +1,8 @@
 -- What octets in memory are answered.
 use Rattle.iim_c.proofs.Words.{[], length, ◌∙◌, arith, raised, ◌≡◌, ℕ, ◌<◌, List, inl, sym, ap, subst, Limits, IsTruncatedAt, Refusal, refusal_answer}
-use Rattle.iim_places.specs.Format.Causes.{refusal_at}
+use Rattle.iim_places.specs.{Format.Causes.refusal_at, Laws.StreamsHaveOneAnswer}
 use Rattle.iim_places.specs.Format.Streams.{Answer, Answers, Finished, Refused, Truncated}
-use Rattle.iim_places.specs.Laws.{StreamsHaveOneAnswer}
-use Rattle.iim_c.specs.Format.Answers.{IimAnswer}
-use Rattle.iim_c.specs.Format.Checking.{IsChecked, IsOnly, answer_for}
+use Rattle.iim_c.specs.{Format.Answers.IimAnswer, Format.Checking.IsChecked, Format.Checking.IsOnly, Format.Checking.answer_for}
 use Rattle.iim_c.proofs.Places.{not_sink}
 use Rattle.iim_c.proofs.check.checked.Goals as goal
 
@@ -13,7 +11,8 @@ record Answered (limits : Limits) (octets : List ℕ) (told : IimAnswer) : Type 
   answer : IsChecked limits octets told
   only : IsOnly limits octets told
 
-answered : StreamsHaveOneAnswer → (limits : Limits) (octets : List ℕ) (told : IimAnswer) (a : Answer) → Answers limits octets a → told ≡ answer_for a → Answered limits octets told
+answered : StreamsHaveOneAnswer → (limits : Limits) (octets : List ℕ) (told : IimAnswer) (a : Answer) → Answers limits octets a → told ≡ answer_for a
+    → Answered limits octets told
 answered law limits octets told a holds is = record {
   answer = inl (a, holds, is);
   only = λ b other. inl (is ∙ ap answer_for (law limits octets a b holds other));

@@ -1,6 +1,5 @@
 use Rattle.std.proofs.Common.{ℕ, ap, sym, subst, ◌∙◌, ◌≡◌, inl, inr}
-use Rattle.iim_c.specs.Format.Answers.{status_answer, refusal_answer, IimAnswer}
-use Rattle.iim_c.specs.Format.Feeding.{IsNowhere}
+use Rattle.iim_c.specs.{Format.Answers.status_answer, Format.Answers.refusal_answer, Format.Answers.IimAnswer, Format.Feeding.IsNowhere}
 use Rattle.iim_c.specs.Format.Statuses as status
 use Rattle.iim_c.proofs.Places.{begun, is_done, said}
 use Rattle.iim_c.proofs.end.ended.Goals as goal

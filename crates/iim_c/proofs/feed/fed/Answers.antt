@@ -1,12 +1,12 @@
 -- What a piece comes to that is fed from the place of a ticket.
 use Rattle.iim_c.proofs.Words.{length, arith, sym, subst, ◌∙◌, ◌≡◌, ℕ, ◌<◌, ◌≤◌, ◌^◌, List, [], ◌⊎◌, inl, inr, take, map, None, refl, ap, Limits, StoryEvent, text_so_far, IsTextOf, object_so_far, IsTicketOf, Unpacking, Stands, Goes, IsDone, IsDoneWith, IsRefusedIn, limits_in, Progress, Refusal, HasFedText, HasRefusedText, status_answer, refusal_answer, DatasetLaws, length-take}
 use Rattle.iim_c.proofs.Places.{begun, begun_alive, Begun, is_done, said, at_place}
+use Rattle.iim_c.proofs.TextLengths.{delivers_few, events_few}
 use Rattle.iim_c.specs.Format.Feeding.{IsNowhere, Outcome, IsOutcome, IsAnswered, IsFed}
-use Rattle.std.proofs.lemmas.List.{nil_from_length}
-use Rattle.wire_story.specs.Format.Texts.{octet_for}
 use Rattle.iim_c.specs.Steps.{IsSaved, TellsRoom, used_in}
 use Rattle.iim_c.specs.Format.Answers.{IimAnswer, HasTaken, HoldsFirst, counted}
-use Rattle.iim_c.proofs.TextLengths.{delivers_few, events_few}
+use Rattle.std.proofs.lemmas.List.{nil_from_length}
+use Rattle.wire_story.specs.Format.Texts.{octet_for}
 use Rattle.iim_unpack.specs.declared.unpacker.Progress.TheVariants as progress
 use Rattle.iim_c.specs.Format.Statuses as status
 use Rattle.iim_c.proofs.feed.fed.Goals as goal
@@ -147,7 +147,8 @@ alive_after q {v = v} {piece = piece} b fed same =
 
 fed_ok : DatasetLaws → (q : Progress) {limits : Limits} {ticket : List ℕ} {at : ℕ} {u v : Unpacking} {piece text_out : List ℕ} {count : ℕ}
     → (ticket_out : List ℕ) (room : ℕ) (pair : ℕ × ℕ) (told : IimAnswer) → Begun limits ticket at u
-    → HasFedText u v piece text_out count q → limits_in v ≡ limits_in u → (IsDone u → (q ≡ progress.Done 0) × (v ≡ u) × (count ≡ 0)) → room ≡ length text_out → room < 2 ^ 63
+    → HasFedText u v piece text_out count q → limits_in v ≡ limits_in u → (IsDone u → (q ≡ progress.Done 0) × (v ≡ u) × (count ≡ 0)) → room ≡ length text_out
+    → room < 2 ^ 63
     → pair ≡ used_in q (length piece) → IsSaved v pair count room ticket_out told → IsFed limits ticket at piece text_out ticket_out told
 fed_ok laws q {limits} {ticket} {at} {piece = piece} {text_out = text_out} ticket_out room pair told b fed same again of_out few is (inr memory) =
     fed_nowhere limits ticket at piece text_out ticket_out told (inr memory)

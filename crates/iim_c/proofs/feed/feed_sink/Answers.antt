@@ -7,7 +7,8 @@ use Rattle.iim_c.proofs.Places.{not_sink}
 use Rattle.iim_c.proofs.feed.feed_sink.Goals as goal
 
 sink_goes : (r : Result Progress Refusal) (u v : Unpacking) (piece : List ℕ) (a b : TextOut) → a.count ≡ 0
-    → IfOk r (λ progress. (◌≡◌ {A = ℕ} 0 0) × ((more : List StoryEvent) × WritesLines a more b × ((p : List ℕ) (n : ℕ) → Stands u p n → Goes v p n piece more progress)))
+    → IfOk r (λ progress. (◌≡◌ {A = ℕ} 0 0) × ((more : List StoryEvent) × WritesLines a more b
+    × ((p : List ℕ) (n : ℕ) → Stands u p n → Goes v p n piece more progress)))
     → IfOk r (HasFedText u v piece b.out.now b.count)
 sink_goes (Ok progress) u v piece a b none h = record { more = h.1.0; taken = h.1.1.taken [] (none, λ fits. refl); goes = h.1.2 }
 sink_goes (Err e) u v piece a b none h = tt
@@ -20,7 +21,9 @@ sink_refuses (Err e) u piece a b none h counts =
     record { more = h.0; taken = h.1.taken [] (none, λ fits. refl); refuses = h.2; by_octets = not_sink e.cause counts }
 
 pub returns-clause-goes : goal.returns-clause-goes
-returns-clause-goes c = sink_goes c.feed.result c.args.unpacker.now c.feed.new.self c.args.piece.now c.args.sink.now c.feed.new.sink c.requires c.feed.ensures.goes
+returns-clause-goes c = sink_goes c.feed.result c.args.unpacker.now c.feed.new.self c.args.piece.now c.args.sink.now c.feed.new.sink c.requires
+    c.feed.ensures.goes
 
 pub returns-clause-refused : goal.returns-clause-refused
-returns-clause-refused c = sink_refuses c.feed.result c.args.unpacker.now c.args.piece.now c.args.sink.now c.feed.new.sink c.requires c.feed.ensures.refused c.feed.ensures.counted
+returns-clause-refused c = sink_refuses c.feed.result c.args.unpacker.now c.args.piece.now c.args.sink.now c.feed.new.sink c.requires c.feed.ensures.refused
+    c.feed.ensures.counted

@@ -15,7 +15,8 @@ TellsFound at found row =
     TellsRow at found.octets found.row (option_map (λ t. t.nanosecond) found.release) (option_map (λ t. t.nanosecond) found.expires) row
 
 -- one row more
-more_rows : (limits : Limits) (now : ℤ) (hand : InHand) (octets : List ℕ) (rows : List IimAuditRow) (last : InHand) → AreRows limits now hand octets rows last → (ended : List ℕ) (row : IimAuditRow)
+more_rows : (limits : Limits) (now : ℤ) (hand : InHand) (octets : List ℕ) (rows : List IimAuditRow) (last : InHand) → AreRows limits now hand octets rows last
+    → (ended : List ℕ) (row : IimAuditRow)
     → IsRow limits now (with_more last ended) row → AreRows limits now hand (octets ++ ended) (rows ++ row ∷ []) (after (with_more last ended))
 more_rows limits now hand octets [] last are ended row is =
     (ended, [], rw are.0 (sym (append-nil ended)), rw are.1 at is, (refl, rw are.1))
@@ -23,7 +24,8 @@ more_rows limits now hand octets (first ∷ rows) last (e, others, are, told, mo
     (e, others ++ ended, rw are (append_assoc e others ended), told, more_rows limits now (after (with_more hand e)) others rows last more ended row is)
 
 -- what an audit of pieces tells is a row of its envelope
-is_row : (limits : Limits) (now : ℤ) (hand : InHand) (found : PieceRow) (row : IimAuditRow) → IsRowOf limits now hand.octets found → found.octets ≡ hand.count → TellsFound hand.at found row
+is_row : (limits : Limits) (now : ℤ) (hand : InHand) (found : PieceRow) (row : IimAuditRow) → IsRowOf limits now hand.octets found → found.octets ≡ hand.count
+    → TellsFound hand.at found row
     → IsRow limits now hand row
 is_row limits now hand found row is counts tells =
     record { value = is.value; envelope = is.envelope; tells = rw (← is.row, ← is.release, ← is.expires, ← counts) tells }

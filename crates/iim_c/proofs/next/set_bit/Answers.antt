@@ -3,8 +3,7 @@ use Rattle.std.proofs.Common.{arith, ◌≡◌, ◌≢◌, ℕ, ◌*◌, ◌/◌
 use Rattle.std.specs.Int.{w8}
 use Rattle.std.proofs.lemmas.List.{get_or-set_same, get_or-set_other}
 use Rattle.std.proofs.lemmas.Nat.Bits.{bit_at_set_same, bit_at_set_other}
-use Rattle.iim_c.specs.Format.Tickets.{bit_of}
-use Rattle.iim_c.specs.Steps.{IsSet}
+use Rattle.iim_c.specs.{Format.Tickets.bit_of, Steps.IsSet}
 use Rattle.iim_c.proofs.next.set_bit.Goals as goal
 
 -- the bits with that of an octet set

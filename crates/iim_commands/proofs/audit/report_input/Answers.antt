@@ -1,6 +1,6 @@
 use Rattle.iim_commands.proofs.Words.{rules, refl, inl, inr, handed_on, FailsAt, printed_report, in_line, limits, all_out}
-use Rattle.iim_output.specs.States.Holding.{device_of}
 use Rattle.iim_commands.proofs.Audits.{unsaid, untold}
+use Rattle.iim_output.specs.States.Holding.{device_of}
 use Rattle.iim_commands.proofs.audit.report_input.Given.{Over}
 use Rattle.iim_commands.proofs.audit.report_input.Goals.{In-Err}
 use Rattle.iim_commands.proofs.audit.report_input.Goals as goal

@@ -1,10 +1,6 @@
 use Rattle.iim_dataset.proofs.WrittenNumbers.{number_octets, some_octets, few_octets, number_back}
-use Rattle.iim_dataset.proofs.Spelled.{one_tag, one_dataset, one_split}
-use Rattle.iim_dataset.proofs.Canonical.{canonical_reads, stream_spells}
-use Rattle.iim_dataset.proofs.OneHanding.{one_handing, read_octets_continue}
-use Rattle.iim_dataset.proofs.Telling.{one_telling}
-use Rattle.iim_dataset.proofs.Places.{lead_to_one_place}
-use Rattle.iim_dataset.proofs.OneOctet.{what_an_octet_completes}
+use Rattle.iim_dataset.proofs.{Spelled.one_tag, Spelled.one_dataset, Spelled.one_split, Canonical.canonical_reads, Canonical.stream_spells, Telling.one_telling}
+use Rattle.iim_dataset.proofs.{OneHanding.one_handing, OneHanding.read_octets_continue, Places.lead_to_one_place, OneOctet.what_an_octet_completes}
 use Rattle.iim_dataset.proofs.Deaths.{no_octets_continue, read_octets_split, octets_die_in_their_tag, readers_die_exactly}
 use Rattle.iim_dataset.proofs.laws.dataset_laws.Goals as goal
 

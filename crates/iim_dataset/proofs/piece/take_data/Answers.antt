@@ -2,10 +2,9 @@ use Rattle.std.proofs.Common.{◌-◌, ◌<◌, [], ◌∷◌, ◌++◌, length,
 use Rattle.std.proofs.lemmas.List.{take-take, length-take-le, get_or-take}
 use Rattle.std.proofs.Math.Seq.{take-length}
 use Rattle.iim_dataset.specs.States.Reading.{DataOctet, DatasetEnd}
-use Rattle.iim_dataset.proofs.Places.{data_on, data_end}
-use Rattle.iim_dataset.proofs.Stopping.{after_end, data_stops, end_stops, stopped_at}
-use Rattle.iim_dataset.proofs.piece.take_data.Goals as goal
+use Rattle.iim_dataset.proofs.{Places.data_on, Places.data_end, Stopping.after_end, Stopping.data_stops, Stopping.end_stops, Stopping.stopped_at}
 use Rattle.iim_dataset.proofs.OctetLists.{are_octets, front_are}
+use Rattle.iim_dataset.proofs.piece.take_data.Goals as goal
 
 pub returns-in-Ok-clause-front : goal.returns-in-Ok-clause-front
 returns-in-Ok-clause-front g c =
@@ -46,7 +45,8 @@ returns-in-Ok-close-clause-front g c =
         told = g.met.D.DatasetSink.joined c.args.sink.now c.run-2.new.self c.close.new.self _ _ c.in-Ok-run.ensures.ok c.in-Ok-close.ensures.ok;
         brings = rw c.start.ensures.place (data_end c.args.head left (take left rest) octets (length-take-le left rest (omega (arith, c.if-rest-left.false))));
       };
-      onward = after_end g.D.DatasetSink.stands g.D.DatasetSink.ends c.in-Ok-close.step c.start.result c.close.new.self c.start.ensures.place c.in-Ok-close.ensures.stands;
+      onward = after_end g.D.DatasetSink.stands g.D.DatasetSink.ends c.in-Ok-close.step c.start.result c.close.new.self c.start.ensures.place
+          c.in-Ok-close.ensures.stands;
     }
 
 pub returns-in-Err-close-clause-refused : goal.returns-in-Err-close-clause-refused

@@ -1,8 +1,7 @@
 use Rattle.std.proofs.lemmas.List.{take_rest}
 use Rattle.std.proofs.Common.{[], inl, inr, arith, ap, length, length-drop}
 use Rattle.iim_dataset.specs.States.Reading.{tag_cause_of}
-use Rattle.iim_dataset.proofs.Places.{stays}
-use Rattle.iim_dataset.proofs.Stopping.{tells_front, refuses_front}
+use Rattle.iim_dataset.proofs.{Places.stays, Stopping.tells_front, Stopping.refuses_front}
 use Rattle.iim_dataset.proofs.piece.take_piece.Goals as goal
 
 pub loop-at-init : goal.loop-at-init

@@ -2,8 +2,7 @@ use Rattle.std.proofs.Common.{◌≡◌, ◌+◌, ◌-◌, ◌<◌, [], ◌++◌
 use Rattle.std.proofs.Math.Seq.{take-length}
 use Rattle.iim_dataset.specs.Steps.{head_events}
 use Rattle.iim_dataset.specs.declared.place.DatasetPlace.TheVariants.{Tag}
-use Rattle.iim_dataset.proofs.Places.{tag_on, head_leads}
-use Rattle.iim_dataset.proofs.HeldTags.{begun_length, ends, after_held, refused_at}
+use Rattle.iim_dataset.proofs.{Places.tag_on, Places.head_leads, HeldTags.begun_length, HeldTags.ends, HeldTags.after_held, HeldTags.refused_at}
 use Rattle.iim_dataset.proofs.Stopping.{after_tag, tag_stops, stopped_at}
 use Rattle.iim_dataset.proofs.piece.take_tag.Goals as goal
 

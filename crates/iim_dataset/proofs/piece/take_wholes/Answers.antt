@@ -1,8 +1,7 @@
 use Rattle.std.proofs.Common.{◌≡◌, ◌+◌, ◌-◌, [], refl, arith, ap, length, length-drop, None}
 use Rattle.std.proofs.lemmas.List.{take_rest}
 use Rattle.iim_dataset.specs.States.Reading.{between}
-use Rattle.iim_dataset.proofs.Fronts.{begun_none}
-use Rattle.iim_dataset.proofs.Places.{stays}
+use Rattle.iim_dataset.proofs.{Fronts.begun_none, Places.stays}
 use Rattle.iim_dataset.proofs.Stopping.{tells_front, refuses_front, tells_whole, in_front, data_within, whole_stops}
 use Rattle.iim_dataset.proofs.piece.take_wholes.Goals as goal
 

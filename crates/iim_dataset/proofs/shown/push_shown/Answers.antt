@@ -11,4 +11,5 @@ pub showing-preserved : goal.showing-preserved
 showing-preserved c =
     let x = c.in-Some.octet.now in
     let is : drop c.plain_run.result c.showing.rest.now ≡ x ∷ c.in-Some.after.now = search rules in
-    other_taken c.showing.text.items c.extend_from_slice.new.self.items _ c.showing.rest.now c.plain_run.result c.showing.invariant c.plain_run.ensures.plain (search rules) x c.in-Some.after.now c.push_escape.new.text.items c.plain_run.ensures.end is (search rules)
+    other_taken c.showing.text.items c.extend_from_slice.new.self.items _ c.showing.rest.now c.plain_run.result c.showing.invariant c.plain_run.ensures.plain
+    (search rules) x c.in-Some.after.now c.push_escape.new.text.items c.plain_run.ensures.end is (search rules)

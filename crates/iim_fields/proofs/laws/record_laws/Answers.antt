@@ -1,10 +1,6 @@
-use Rattle.iim_fields.proofs.Words.{HeadsDieWithTheirFault, ValuesDieWithTheirFault}
-use Rattle.iim_fields.proofs.Table.{EachRowHasValues}
-use Rattle.iim_fields.proofs.Dies.{head_alive, head_no_fault, head_octet, value_alive, value_no_fault}
-use Rattle.iim_fields.proofs.Telling.{heads_tell, values_tell}
+use Rattle.iim_fields.proofs.{Words.HeadsDieWithTheirFault, Words.ValuesDieWithTheirFault, Table.EachRowHasValues, Telling.heads_tell, Telling.values_tell}
+use Rattle.iim_fields.proofs.{Dies.head_alive, Dies.head_no_fault, Dies.head_octet, Dies.value_alive, Dies.value_no_fault, Checking.one_place, Copying.added}
 use Rattle.iim_fields.proofs.Endings.{envelopes_end, no_sections_begin_others}
-use Rattle.iim_fields.proofs.Checking.{one_place}
-use Rattle.iim_fields.proofs.Copying.{added}
 use Rattle.iim_fields.proofs.laws.record_laws.Goals as goal
 
 heads_die : EachRowHasValues → HeadsDieWithTheirFault

@@ -33,7 +33,8 @@ feeding-preserved g c =
       taken = take_more g.met.S.StorySink.joined out c.gifts_join.ensures c.delivery_may_be_cut.ensures more;
       calm = c.in-Ok-More.ensures.calm.1 ∙ c.in-Ok.ensures.calm ∙ c.feeding.invariant.calm;
       leads =
-          g.met.R.Source.leads_on c.args.intake.now.reader c.feeding.intake.reader c.next_piece.new.self.reader c.feeding.invariant.leads c.next_piece.ensures.leads;
+          g.met.R.Source.leads_on c.args.intake.now.reader c.feeding.intake.reader c.next_piece.new.self.reader c.feeding.invariant.leads
+          c.next_piece.ensures.leads;
     }
 
 pub returns-in-Ok-Done-clause-next : goal.returns-in-Ok-Done-clause-next
@@ -51,13 +52,16 @@ returns-in-Ok-End-clause-next g c =
 
 pub returns-in-Err-clause-next : goal.returns-in-Err-clause-next
 returns-in-Err-clause-next g c =
-    inr (held_up g.S.StorySink.failures g.S.Outlet.stuck c.let_out_before_read.new.sink c.feeding.invariant.taken c.feeding.invariant.calm c.in-Err.ensures.stuck)
+    inr (held_up g.S.StorySink.failures g.S.Outlet.stuck c.let_out_before_read.new.sink c.feeding.invariant.taken c.feeding.invariant.calm
+    c.in-Err.ensures.stuck)
 
 pub returns-in-Ok-Done-clause-leads : goal.returns-in-Ok-Done-clause-leads
-returns-in-Ok-Done-clause-leads g c = g.met.R.Source.leads_on c.args.intake.now.reader c.feeding.intake.reader c.next_piece.new.self.reader c.feeding.invariant.leads c.next_piece.ensures.leads
+returns-in-Ok-Done-clause-leads g c = g.met.R.Source.leads_on c.args.intake.now.reader c.feeding.intake.reader c.next_piece.new.self.reader
+    c.feeding.invariant.leads c.next_piece.ensures.leads
 
 pub returns-in-Ok-End-clause-leads : goal.returns-in-Ok-End-clause-leads
-returns-in-Ok-End-clause-leads g c = g.met.R.Source.leads_on c.args.intake.now.reader c.feeding.intake.reader c.next_piece.new.self.reader c.feeding.invariant.leads c.next_piece.ensures.leads
+returns-in-Ok-End-clause-leads g c = g.met.R.Source.leads_on c.args.intake.now.reader c.feeding.intake.reader c.next_piece.new.self.reader
+    c.feeding.invariant.leads c.next_piece.ensures.leads
 
 -- why the intake gave nothing
 pub returns-in-Err-next_piece : goal.returns-in-Err-next_piece
@@ -72,5 +76,6 @@ returns-in-Err-next_piece g c =
       calm = calm;
       lives = lives;
       leads =
-          g.met.R.Source.leads_on c.args.intake.now.reader c.feeding.intake.reader c.next_piece.new.self.reader c.feeding.invariant.leads c.next_piece.ensures.leads;
+          g.met.R.Source.leads_on c.args.intake.now.reader c.feeding.intake.reader c.next_piece.new.self.reader c.feeding.invariant.leads
+          c.next_piece.ensures.leads;
     }

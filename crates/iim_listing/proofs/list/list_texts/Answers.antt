@@ -26,7 +26,8 @@ listing-preserved g c =
       alive = (next.0 refl).0;
       same = (next.0 refl).1;
       listed = next.1 (in_line g.R.Source.state c.args.intake.now) c.args.silent.now.output c.listing.invariant.listed;
-      leads = λ last h. c.listing.invariant.leads last (g.met.R.Source.leads_on c.listing.intake.reader c.list_next.new.intake.reader last c.list_next.ensures.leads h);
+      leads = λ last h. c.listing.invariant.leads last
+          (g.met.R.Source.leads_on c.listing.intake.reader c.list_next.new.intake.reader last c.list_next.ensures.leads h);
     }
 
 pub listing-smaller : goal.listing-smaller

@@ -5,7 +5,8 @@ abbrev pub invariant-listing : goal.invariant-listing
 invariant-listing g l = record {
   alive : l.intake.failed ≡ None;
   same : limits_in l.unpacker ≡ limits;
-  listed : AreListed g.W.Target.state g.P.EnvelopeLines.written (in_line g.R.Source.state l.fn.intake) (in_line g.R.Source.state l.intake) l.fn.silent.output l.silent.output l.count;
+  listed : AreListed g.W.Target.state g.P.EnvelopeLines.written (in_line g.R.Source.state l.fn.intake) (in_line g.R.Source.state l.intake) l.fn.silent.output
+      l.silent.output l.count;
   leads : (last : _) → g.R.Source.leads l.intake.reader last → g.R.Source.leads l.fn.intake.reader last;
 }
 

@@ -1,6 +1,6 @@
 use Rattle.iim_listing.proofs.Words.{refl, arith, in_line, errors_of, output_of, OutOfMemory}
-use Rattle.iim_dataset.proofs.Lists.{handed_on}
 use Rattle.iim_listing.proofs.Narration.{none_narrated, nothing_told}
+use Rattle.iim_dataset.proofs.Lists.{handed_on}
 use Rattle.iim_listing.proofs.story.tell_stories.Goals as goal
 
 pub telling-init : goal.telling-init
@@ -26,7 +26,8 @@ telling-preserved g c =
       alive = (next.0 refl).0;
       same = (next.0 refl).1;
       told = next.1 (in_line g.R.Source.state c.args.intake.now) c.args.narrator.now c.telling.invariant.told;
-      leads = λ last h. c.telling.invariant.leads last (g.met.R.Source.leads_on c.telling.intake.reader c.tell_next.new.intake.reader last c.tell_next.ensures.leads h);
+      leads = λ last h. c.telling.invariant.leads last
+          (g.met.R.Source.leads_on c.telling.intake.reader c.tell_next.new.intake.reader last c.tell_next.ensures.leads h);
     }
 
 pub telling-smaller : goal.telling-smaller

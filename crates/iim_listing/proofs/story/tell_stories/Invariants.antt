@@ -5,7 +5,8 @@ abbrev pub invariant-telling : goal.invariant-telling
 invariant-telling g l = record {
   alive : l.intake.failed ≡ None;
   same : limits_in l.unpacker ≡ limits;
-  told : IsTelling g.W.Target.state g.E.Target.state l.fn.narrator (in_line g.R.Source.state l.fn.intake) (in_line g.R.Source.state l.intake) l.narrator l.count;
+  told : IsTelling g.W.Target.state g.E.Target.state l.fn.narrator (in_line g.R.Source.state l.fn.intake) (in_line g.R.Source.state l.intake) l.narrator
+      l.count;
   leads : (last : _) → g.R.Source.leads l.intake.reader last → g.R.Source.leads l.fn.intake.reader last;
 }
 

@@ -1,18 +1,8 @@
-use Rattle.iim_object.proofs.Subfiles.{numbers_law, subfiles_law, ends_law, confirmed_law, sizes_law}
-use Rattle.iim_object.proofs.DatasetPlaces.{tokens_law, datasets_law, ends_law as datasets_end}
-use Rattle.iim_object.proofs.Steps.{tokens_follow}
-use Rattle.iim_object.proofs.Leads.{others_lead, numbers_lead, subfiles_lead, ends_lead}
-use Rattle.iim_object.proofs.Cuts.{records_by_number}
-use Rattle.iim_object.proofs.Conditions.{first_law, dies_law}
-use Rattle.iim_object.proofs.Reached.{reached_law}
-use Rattle.iim_object.proofs.Leading.{led_law}
-use Rattle.iim_object.proofs.Saved.{one_state}
-use Rattle.iim_object.proofs.Alike.{alike_law}
-use Rattle.iim_object.proofs.Within.{live_within}
-use Rattle.iim_object.proofs.PackedSizes.{have_sizes}
-use Rattle.iim_object.proofs.Bounds.{bounds_leave_room}
-use Rattle.iim_object.proofs.Members.{numbers_good}
-use Rattle.iim_object.proofs.GoodRecords.{records_good}
+use Rattle.iim_object.proofs.{Subfiles.numbers_law, Subfiles.subfiles_law, Subfiles.ends_law, Subfiles.confirmed_law, Subfiles.sizes_law, Steps.tokens_follow}
+use Rattle.iim_object.proofs.{DatasetPlaces.tokens_law, DatasetPlaces.datasets_law, DatasetPlaces.ends_law as datasets_end, Cuts.records_by_number}
+use Rattle.iim_object.proofs.{Leads.others_lead, Leads.numbers_lead, Leads.subfiles_lead, Leads.ends_lead, Conditions.first_law, Conditions.dies_law}
+use Rattle.iim_object.proofs.{Reached.reached_law, Leading.led_law, Saved.one_state, Alike.alike_law, Within.live_within, PackedSizes.have_sizes}
+use Rattle.iim_object.proofs.{Bounds.bounds_leave_room, Members.numbers_good, GoodRecords.records_good}
 use Rattle.iim_object.proofs.laws.object_laws.Goals as goal
 
 pub returns : goal.returns

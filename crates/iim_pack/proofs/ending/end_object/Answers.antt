@@ -1,8 +1,7 @@
 use Rattle.std.proofs.Common.{length}
 use Rattle.std.proofs.lemmas.Result.{IfOk-weaker, IfErr-weaker}
 use Rattle.iim_object.specs.States.Writing.{write_cause, finish_cause}
-use Rattle.iim_pack.proofs.Goings.{of_none}
-use Rattle.iim_pack.proofs.Endings.{tail_broke, end_broke, may_write, may_finish}
+use Rattle.iim_pack.proofs.{Goings.of_none, Endings.tail_broke, Endings.end_broke, Endings.may_write, Endings.may_finish}
 use Rattle.iim_pack.proofs.ending.end_object.Goals as goal
 
 pub returns-in-Ok-clause-ok : goal.returns-in-Ok-clause-ok

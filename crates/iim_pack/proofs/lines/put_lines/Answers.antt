@@ -1,6 +1,5 @@
 use Rattle.iim_pack.proofs.Words.{ℕ, Bool, true, false, List, [], ◌++◌, sym, ap, subst, ◌∙◌, append_assoc, list_all, and_parts, is_line_octet, StoryEvent}
-use Rattle.iim_pack.specs.States.Packing.{BreaksOff, ContinuesWith}
-use Rattle.iim_pack.specs.Steps.{line_events}
+use Rattle.iim_pack.specs.{States.Packing.BreaksOff, States.Packing.ContinuesWith, Steps.line_events}
 use Rattle.iim_pack.proofs.LinesOut.{events_left, goes_nowhere, leads_on, breaks_later, breaks_before, all_left}
 use Rattle.iim_pack.proofs.lines.put_lines.Goals as goal
 
@@ -21,9 +20,11 @@ loop-line-preserved g c =
     let each = rw c.in-Some.ensures.steps at inv.lines in
     record {
       done = inv.done ++ line_events first line;
-      parts = inv.parts ∙ (ap (λ (ls : List (List ℕ)). inv.done ++ events_left first ls) c.in-Some.ensures.steps ∙ sym (append_assoc inv.done (line_events first line) (events_left false rest)));
+      parts = inv.parts ∙ (ap (λ (ls : List (List ℕ)). inv.done ++ events_left first ls) c.in-Some.ensures.steps
+          ∙ sym (append_assoc inv.done (line_events first line) (events_left false rest)));
       lines = (and_parts (list_all is_line_octet line) (list_all (list_all is_line_octet) rest) each).1;
-      lengthened = leads_on g.W.Target.state c.args.packer.now c.loop-line.packer c.put_line.new.packer inv.done (line_events first line) c.texts_join.ensures inv.lengthened c.in-Ok.ensures.ok;
+      lengthened = leads_on g.W.Target.state c.args.packer.now c.loop-line.packer c.put_line.new.packer inv.done (line_events first line) c.texts_join.ensures
+          inv.lengthened c.in-Ok.ensures.ok;
     }
 
 pub returns-in-Err-clause-broke : goal.returns-in-Err-clause-broke
@@ -33,7 +34,9 @@ returns-in-Err-clause-broke g c =
     let first : Bool = c.loop-line.is_first in
     let line : List ℕ = c.in-Some.line.now in
     let rest : List (List ℕ) = c.next.new.self in
-    let now = breaks_later state c.args.packer.now c.loop-line.packer c.put_line.new.packer inv.done (line_events first line) c.texts_join.ensures inv.lengthened c.in-Err.ensures.broke in
+    let now = breaks_later state c.args.packer.now c.loop-line.packer c.put_line.new.packer inv.done (line_events first line) c.texts_join.ensures
+    inv.lengthened c.in-Err.ensures.broke in
     let all = breaks_before state c.args.packer.now c.put_line.new.packer (inv.done ++ line_events first line) (events_left false rest) now in
-    let parts = inv.parts ∙ (ap (λ (ls : List (List ℕ)). inv.done ++ events_left first ls) c.in-Some.ensures.steps ∙ sym (append_assoc inv.done (line_events first line) (events_left false rest))) in
+    let parts = inv.parts ∙ (ap (λ (ls : List (List ℕ)). inv.done ++ events_left first ls) c.in-Some.ensures.steps
+    ∙ sym (append_assoc inv.done (line_events first line) (events_left false rest))) in
     subst (λ (events : List StoryEvent). BreaksOff state (ContinuesWith events) c.args.packer.now c.put_line.new.packer) (sym parts) all

@@ -1,5 +1,4 @@
-use Rattle.iim_pack_script.proofs.Words.{rules, IfErr-weaker, IfOk-weaker, asked}
-use Rattle.iim_pack_script.proofs.Packings.{told_fault}
+use Rattle.iim_pack_script.proofs.{Words.rules, Words.IfErr-weaker, Words.IfOk-weaker, Words.asked, Packings.told_fault}
 use Rattle.iim_pack_script.proofs.packing.pack_octets.Goals as goal
 
 pub returns-in-Ok-clause-packed : goal.returns-in-Ok-clause-packed

@@ -19,21 +19,28 @@ put_text-requires-clause-fits g c =
 pub returns-in-Err-put_text-clause-fault : goal.returns-in-Err-put_text-clause-fault
 returns-in-Err-put_text-clause-fault g c =
     let lines = text_lines c.args.text.now in
-    inr (lines_broke g.W.Target.state c.args.writer c.args.envelope.now c.args.head.now lines c.args.trailer.now c.args.plan c.in-Ok.packer c.put_text.new.packer c.given_back.result c.texts_join.ensures
-    c.in-Ok.ensures.ok c.in-Err-put_text.ensures.broke (c.given_back.ensures.cause ∙ c.in-Err-put_text.ensures.cause) c.given_back.ensures.writer c.given_back.ensures.written)
+    inr (lines_broke g.W.Target.state c.args.writer c.args.envelope.now c.args.head.now lines c.args.trailer.now c.args.plan c.in-Ok.packer
+    c.put_text.new.packer c.given_back.result c.texts_join.ensures
+    c.in-Ok.ensures.ok c.in-Err-put_text.ensures.broke (c.given_back.ensures.cause ∙ c.in-Err-put_text.ensures.cause) c.given_back.ensures.writer
+    c.given_back.ensures.written)
 
 pub returns-in-Ok-finish-clause-ok : goal.returns-in-Ok-finish-clause-ok
 returns-in-Ok-finish-clause-ok g c =
     let lines = text_lines c.args.text.now in
-    packs g.W.Target.state c.args.writer c.in-Ok-finish.writer c.args.envelope.now c.args.head.now lines c.args.trailer.now c.args.plan c.in-Ok.packer c.put_text.new.packer c.texts_join.ensures
-    (again c.texts_are_delivered_as_lines.ensures c.args.text.now lines c.requires.text) c.in-Ok.ensures.ok c.in-Ok-put_text.ensures.ok c.in-Ok-finish.ensures.ok
+    packs g.W.Target.state c.args.writer c.in-Ok-finish.writer c.args.envelope.now c.args.head.now lines c.args.trailer.now c.args.plan c.in-Ok.packer
+    c.put_text.new.packer c.texts_join.ensures
+    (again c.texts_are_delivered_as_lines.ensures c.args.text.now lines c.requires.text) c.in-Ok.ensures.ok c.in-Ok-put_text.ensures.ok
+    c.in-Ok-finish.ensures.ok
 
 pub returns-in-Err-finish-clause-fault : goal.returns-in-Err-finish-clause-fault
 returns-in-Err-finish-clause-fault g c =
     let lines = text_lines c.args.text.now in
     let may = may_pack c.lines_are_packed_as_their_events.ensures c.args.head.now lines c.args.trailer.now c.args.plan c.requires.fits in
-    let none = may_finish g.W.Target.state c.args.writer c.args.envelope.now c.args.head.now lines c.args.trailer.now c.args.plan c.in-Ok.packer c.put_text.new.packer may c.in-Ok.ensures.ok c.in-Ok-put_text.ensures.ok in
+    let none = may_finish g.W.Target.state c.args.writer c.args.envelope.now c.args.head.now lines c.args.trailer.now c.args.plan c.in-Ok.packer
+    c.put_text.new.packer may c.in-Ok.ensures.ok c.in-Ok-put_text.ensures.ok in
     let broke = of_none (finish_cause c.put_text.new.packer c.args.trailer.now) _ none c.in-Err-finish.ensures.broke in
     let cause = of_none (finish_cause c.put_text.new.packer c.args.trailer.now) _ none c.in-Err-finish.ensures.cause in
-    inr (finish_broke g.W.Target.state c.args.writer c.args.envelope.now c.args.head.now lines c.args.trailer.now c.args.plan c.in-Ok.packer c.put_text.new.packer c.in-Err-finish.packer c.given_back-in-Err-finish.result c.texts_join.ensures
-    (again c.texts_are_delivered_as_lines.ensures c.args.text.now lines c.requires.text) c.in-Ok.ensures.ok c.in-Ok-put_text.ensures.ok broke (c.given_back-in-Err-finish.ensures.cause ∙ cause) c.given_back-in-Err-finish.ensures.writer c.given_back-in-Err-finish.ensures.written)
+    inr (finish_broke g.W.Target.state c.args.writer c.args.envelope.now c.args.head.now lines c.args.trailer.now c.args.plan c.in-Ok.packer
+    c.put_text.new.packer c.in-Err-finish.packer c.given_back-in-Err-finish.result c.texts_join.ensures
+    (again c.texts_are_delivered_as_lines.ensures c.args.text.now lines c.requires.text) c.in-Ok.ensures.ok c.in-Ok-put_text.ensures.ok broke
+    (c.given_back-in-Err-finish.ensures.cause ∙ cause) c.given_back-in-Err-finish.ensures.writer c.given_back-in-Err-finish.ensures.written)

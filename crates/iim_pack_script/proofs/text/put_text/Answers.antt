@@ -43,7 +43,8 @@ loop-line-preserved g c =
       text = m.2;
       done = inv.done ++ more;
       parts = parts_more _ inv.done inv.left m.0 line c.in-Some.after.now inv.parts m.1 m.2 ∙ sym (append_assoc inv.done more (events_of_lines m.0));
-      lengthened = leads_on g.W.Target.state c.args.packer.now c.loop-line.packer c.put_line.new.packer inv.done more c.texts_join.ensures inv.lengthened c.in-Ok.ensures.ok;
+      lengthened = leads_on g.W.Target.state c.args.packer.now c.loop-line.packer c.put_line.new.packer inv.done more c.texts_join.ensures inv.lengthened
+          c.in-Ok.ensures.ok;
     }
 
 pub loop-line-smaller : goal.loop-line-smaller
@@ -56,7 +57,8 @@ returns-in-Err-clause-broke g c =
     let m = c.in-Some.ensures.more inv.left inv.text in
     let line : List ℕ = c.in-Some.line.now in
     let more : List StoryEvent = map LineOctet line ++ LineEnd ∷ [] in
-    let now = breaks_later state c.args.packer.now c.loop-line.packer c.put_line.new.packer inv.done more c.texts_join.ensures inv.lengthened c.in-Err.ensures.broke in
+    let now = breaks_later state c.args.packer.now c.loop-line.packer c.put_line.new.packer inv.done more c.texts_join.ensures inv.lengthened
+    c.in-Err.ensures.broke in
     rw (parts_more _ inv.done inv.left m.0 line c.in-Some.after.now inv.parts m.1 m.2, ← append_assoc inv.done more (events_of_lines m.0))
     (breaks_before state c.args.packer.now c.put_line.new.packer (inv.done ++ more) (events_of_lines m.0) now)
 

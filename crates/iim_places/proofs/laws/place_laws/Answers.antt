@@ -1,18 +1,9 @@
-use Rattle.iim_places.specs.Laws.{RefusalsTellTheLowestCause, RefusedOctetsWereOpen}
-use Rattle.iim_places.specs.States.Possible.{PlacesArePossibleByLayers}
-use Rattle.iim_places.proofs.Frames.{no_envelope_is_empty, one_value, no_others, framed_of}
-use Rattle.iim_places.proofs.Bounds.{bounded_octets, envelope_bounded}
-use Rattle.iim_places.proofs.Lowest.{found_by_tests, told_by_table}
-use Rattle.iim_places.proofs.Answering.{no_front, nothing_continues, one_refusal, one_answer}
-use Rattle.iim_places.proofs.Listings.{one_listing, longest}
-use Rattle.iim_places.proofs.Saved.{one_place}
-use Rattle.iim_places.proofs.ByLayers.{leads_by_layers, limits_told}
-use Rattle.iim_places.proofs.Onward.{open_where_none, continue_alike, refuse_alike}
-use Rattle.iim_places.proofs.Scales.{layers_lead, small_places, present_scale_says}
-use Rattle.iim_places.proofs.Tickets.{one_ticket}
-use Rattle.iim_places.proofs.Splitting.{one_split}
-use Rattle.iim_places.proofs.Fitting.{tickets_split, one_told}
-use Rattle.iim_places.proofs.PlacesTold.{taken}
+use Rattle.iim_places.specs.{Laws.RefusalsTellTheLowestCause, Laws.RefusedOctetsWereOpen, States.Possible.PlacesArePossibleByLayers}
+use Rattle.iim_places.proofs.{Frames.no_envelope_is_empty, Frames.one_value, Frames.no_others, Frames.framed_of, Bounds.bounded_octets, Bounds.envelope_bounded}
+use Rattle.iim_places.proofs.{Lowest.found_by_tests, Lowest.told_by_table, Listings.one_listing, Listings.longest, Saved.one_place, Tickets.one_ticket}
+use Rattle.iim_places.proofs.{Answering.no_front, Answering.nothing_continues, Answering.one_refusal, Answering.one_answer, Splitting.one_split}
+use Rattle.iim_places.proofs.{ByLayers.leads_by_layers, ByLayers.limits_told, Onward.open_where_none, Onward.continue_alike, Onward.refuse_alike}
+use Rattle.iim_places.proofs.{Scales.layers_lead, Scales.small_places, Scales.present_scale_says, Fitting.tickets_split, Fitting.one_told, PlacesTold.taken}
 use Rattle.iim_places.proofs.laws.place_laws.Goals as goal
 
 pub returns : goal.returns

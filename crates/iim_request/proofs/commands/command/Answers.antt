@@ -1,6 +1,5 @@
 use Rattle.std.proofs.Common.{codes, rules}
-use Rattle.iim_request.specs.Verbs.{IsCommand}
-use Rattle.iim_request.specs.Format.{file_command}
+use Rattle.iim_request.specs.{Verbs.IsCommand, Format.file_command}
 use Rattle.iim_request.proofs.commands.command.Goals as goal
 
 pub returns : goal.returns

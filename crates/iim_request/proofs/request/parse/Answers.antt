@@ -4,8 +4,10 @@ use Rattle.iim_request.proofs.request.parse.Goals as goal
 
 pub request_of-requires : goal.request_of-requires
 request_of-requires c =
-    let words = map string_bytes c.args.words.now in
-    (words, were_found words _ c.in_ok-matches.matches c.in_ok-command.ensures c.in_ok-matches.ensures.kinds (λ simple. (c.in_ok-matches.ensures.matches simple).1))
+    let words = map string_bytes c.args.words.now in (
+      words,
+      were_found words _ c.in_ok-matches.matches c.in_ok-command.ensures c.in_ok-matches.ensures.kinds (λ simple. (c.in_ok-matches.ensures.matches simple).1),
+    )
 
 pub returns-clause-ok : goal.returns-clause-ok
 returns-clause-ok c =

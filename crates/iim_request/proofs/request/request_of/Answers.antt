@@ -1,10 +1,8 @@
 use Rattle.std.proofs.Common.{◌≡◌, Some, refl, sym, ◌∙◌, codes}
 use Rattle.iim_dataset.proofs.Lists.{handed_on}
-use Rattle.clap.specs.Matches.{found_of}
-use Rattle.clap.specs.Walk.{rows_of}
+use Rattle.clap.specs.{Matches.found_of, Walk.rows_of}
 use Rattle.clap.proofs.WalkLemmas.{first_value-rows}
-use Rattle.iim_request.specs.Format.{IsFaultOf}
-use Rattle.iim_request.specs.Verbs.{verb_name}
+use Rattle.iim_request.specs.{Format.IsFaultOf, Verbs.verb_name}
 use Rattle.iim_request.proofs.Requests.{fault_of_job, names, names_one, names_verb}
 use Rattle.iim_request.proofs.request.request_of.Goals as goal
 
@@ -24,7 +22,8 @@ returns-in_err-job_of-clause-err c words found =
     let name = c.in-Some.name.now in
     let named = names words c.args.matches.now f name found.faultless found.command (sym c.in-Some.ensures.rows) (sym c.in-Some.ensures.name) in
     handed_on (IsFaultOf words) c.from_residual.result c.in_err-job_of.field-0.0 c.from_residual.ensures.1
-    (fault_of_job words c.in-Some-verb_named.verb name (rows_of f) c.in_err-job_of.field-0.0 named c.in-Some-verb_named.ensures.named c.in_err-job_of.ensures.err)
+    (fault_of_job words c.in-Some-verb_named.verb name (rows_of f) c.in_err-job_of.field-0.0 named c.in-Some-verb_named.ensures.named
+    c.in_err-job_of.ensures.err)
 
 pub returns-clause-ok : goal.returns-clause-ok
 returns-clause-ok c words found =

@@ -10,6 +10,7 @@ returns-in-Ok-None-clause-refused c = λ no_head.
     let none = rw c.in-Ok-None.field-0-is at c.in-Ok-None.ensures.none in
     inr (
       λ d told. none d.octets
-          (rw (← (names_once c.args.line.now d.rec d.set c.in-Some.rec c.in-Some.set told.end c.in-Some.end.now told.names c.in-Some.ensures.some).2) told.is_end),
+          (rw (← (names_once c.args.line.now d.rec d.set c.in-Some.rec c.in-Some.set told.end c.in-Some.end.now told.names c.in-Some.ensures.some).2)
+          told.is_end),
       no_head,
     )

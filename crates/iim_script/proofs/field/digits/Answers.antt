@@ -5,7 +5,8 @@ use Rattle.iim_script.proofs.field.digits.Goals as goal
 pub returns-then-not-is_decimal : goal.returns-then-not-is_decimal
 returns-then-not-is_decimal c =
     let octets = c.args.octets.now in
-    sym (position_or_len_is no_digit octets c.loop-at.at 0 (omega arith) c.loop-at.invariant (λ within. ap not (sym c.is_decimal.ensures ∙ c.if-not-is_decimal.true)))
+    sym (position_or_len_is no_digit octets c.loop-at.at 0 (omega arith) c.loop-at.invariant
+    (λ within. ap not (sym c.is_decimal.ensures ∙ c.if-not-is_decimal.true)))
 
 pub returns : goal.returns
 returns c =

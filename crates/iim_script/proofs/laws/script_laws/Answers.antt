@@ -1,7 +1,5 @@
-use Rattle.iim_script.proofs.Next.{next_once}
-use Rattle.iim_script.proofs.Runs.{field_once, one_head, trailer_once, field_no_head, text_no_trailer}
+use Rattle.iim_script.proofs.{Next.next_once, Runs.field_once, Runs.one_head, Runs.trailer_once, Runs.field_no_head, Runs.text_no_trailer, Whole.is_script}
 use Rattle.iim_script.proofs.Single.{scripts_once, script_no_fault, faults_once}
-use Rattle.iim_script.proofs.Whole.{is_script}
 use Rattle.iim_script.proofs.laws.script_laws.Goals as goal
 
 pub returns : goal.returns

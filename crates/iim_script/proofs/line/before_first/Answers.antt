@@ -4,7 +4,8 @@ use Rattle.memchr.specs.Find.{IsFirstByte, is_byte}
 use Rattle.iim_script.proofs.line.before_first.Goals as goal
 
 -- the first place that a search answers, or the length
-place : (octet : ℕ) (octets : List ℕ) (r : Option ℕ) → IsFirstByte (is_byte octet) octets r → unwrap_or r (length octets) ≡ position_or_len (λ b. b == octet) octets
+place : (octet : ℕ) (octets : List ℕ) (r : Option ℕ) → IsFirstByte (is_byte octet) octets r
+    → unwrap_or r (length octets) ≡ position_or_len (λ b. b == octet) octets
 place octet octets None h =
     sym (position_or_len_is (λ b. b == octet) octets (length octets) 0 (omega arith)
     (λ k within. false_from_ne_true (get_or octets k 0 == octet) (h k (omega arith) within)) (λ within. absurd (omega arith)))

@@ -3,4 +3,5 @@ use Rattle.iim_script.proofs.lines.split_text.Goals as goal
 
 pub returns-in-Some-clause-more : goal.returns-in-Some-clause-more
 returns-in-Some-clause-more c lines h =
-    split_more c.args.text.now c.in-Some.ended.now c.in-Some.rest.now c.without_returns.result.now lines h c.in-Some.ensures.found.0 c.in-Some.ensures.found.1 c.without_returns.ensures
+    split_more c.args.text.now c.in-Some.ended.now c.in-Some.rest.now c.without_returns.result.now lines h c.in-Some.ensures.found.0 c.in-Some.ensures.found.1
+    c.without_returns.ensures

@@ -14,7 +14,8 @@ pub returns-in_default-cut_at-3-clause-none : goal.returns-in_default-cut_at-3-c
 returns-in_default-cut_at-3-clause-none c = λ w end t.
     let after_source = next_word c.in-Some.source.now w.source c.in-Some.ensures.found t.source t.octets_are in
     let after_number = next_word c.in-Some-cut_at.number.now w.number c.in-Some-cut_at.ensures.found t.number after_source in
-    no_more _ _ _ c.in_default-cut_at-3.ensures.none (next_word c.in-Some-cut_at-2.priority.now w.priority c.in-Some-cut_at-2.ensures.found t.priority after_number)
+    no_more _ _ _ c.in_default-cut_at-3.ensures.none
+    (next_word c.in-Some-cut_at-2.priority.now w.priority c.in-Some-cut_at-2.ensures.found t.priority after_number)
 
 pub returns-clause-some : goal.returns-clause-some
 returns-clause-some c =

@@ -1,5 +1,4 @@
-use Rattle.iim_script.proofs.Words.{TellsLast}
-use Rattle.iim_script.proofs.Heads.{words_told, head_told, is_told, is_not_told}
+use Rattle.iim_script.proofs.{Words.TellsLast, Heads.words_told, Heads.head_told, Heads.is_told, Heads.is_not_told}
 use Rattle.iim_script.proofs.message.read_head_line.Goals as goal
 
 pub returns-in_default-cut_words-clause-none : goal.returns-in_default-cut_words-clause-none
@@ -9,7 +8,8 @@ returns-in_default-cut_words-clause-none c = λ head t.
 pub returns-in-Ok-None-clause-none : goal.returns-in-Ok-None-clause-none
 returns-in-Ok-None-clause-none c = λ head t.
     let none = rw c.in-Ok-None.field-0-is at c.in-Ok-None.ensures.none in
-    let same = head_told c.args.line.now c.in-Some.rest.now c.in-Some-cut_words.words.end.now _ head c.in-Some.ensures.found c.in-Some-cut_words.ensures.some t in
+    let same = head_told c.args.line.now c.in-Some.rest.now c.in-Some-cut_words.words.end.now _ head c.in-Some.ensures.found c.in-Some-cut_words.ensures.some
+    t in
     none head.info (rw same.1 t.is_end)
 
 pub returns-in-Ok-Some-clause-some : goal.returns-in-Ok-Some-clause-some

@@ -13,6 +13,7 @@ loop-rec-preserved c =
       done = done ++ d ∷ [];
       parts = c.loop-rec.invariant.parts ∙ (ap (λ (t : List Dataset). done ++ t) c.in-Some.ensures.steps ∙ sym (append_assoc done (d ∷ []) rest));
       within = omega (arith, c.put_field-end.ensures.end, c.in_ok-make_room.ensures.room);
-      shown = stands c.put_field-end.result c.make_room.new.text.len line after (omega (arith, c.put_field-end.ensures.end, c.in_ok-make_room.ensures.room)) (search rules)
+      shown = stands c.put_field-end.result c.make_room.new.text.len line after (omega (arith, c.put_field-end.ensures.end, c.in_ok-make_room.ensures.room))
+          (search rules)
           ∙ line_more c.args.text.now.items _ _ done d (c.in_ok-make_room.ensures.same ∙ c.loop-rec.invariant.shown) (search rules);
     }

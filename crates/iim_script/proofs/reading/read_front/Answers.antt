@@ -1,6 +1,6 @@
 use Rattle.iim_script.proofs.Words.{ap, Building}
-use Rattle.std.proofs.lemmas.Result.{err_from_is_err_and}
 use Rattle.iim_script.proofs.Fronts.{stands_head, past_trailer, is_front, refused, text_fault, end_fault}
+use Rattle.std.proofs.lemmas.Result.{err_from_is_err_and}
 use Rattle.iim_script.proofs.reading.read_front.Goals as goal
 
 pub returns-in_err-head-clause-fault : goal.returns-in_err-head-clause-fault
@@ -14,7 +14,8 @@ returns-in_err-trailer-clause-fault c =
     let stands = rw (ap (λ (b : Building). b.limits) c.in-Ok.ensures.empty) at c.in_ok-after_fields.ensures.stands in
     let p = err_from_is_err_and c.from_residual-in_err-trailer.result c.from_residual-in_err-trailer.ensures.1 in
     rw (p.1, p.2) (refused _ c.requires
-    (stands_head stands c.in_ok-head.ensures.told c.in_ok-head.ensures.counted) (c.in_err-trailer.ensures.fault c.args.limits c.read_fields.new.builder.fields c.in_ok-head.head))
+    (stands_head stands c.in_ok-head.ensures.told c.in_ok-head.ensures.counted)
+    (c.in_err-trailer.ensures.fault c.args.limits c.read_fields.new.builder.fields c.in_ok-head.head))
 
 pub returns-in_err-story-clause-fault : goal.returns-in_err-story-clause-fault
 returns-in_err-story-clause-fault c =

@@ -8,5 +8,12 @@ returns-clause-script c =
     let text = c.in_ok-text.text.octets.now in
     let t = c.in_ok-text.ensures.text in
     let script = c.args.script.now in
-    subst (λ (lines : List (List ℕ)). IsScript c.args.limits script front.envelope front.head front.trailer.items lines front.story.lines) (sym (text_collected text t.lines t.is_text))
-    (record { story = front.story.octets.now; short = omega (arith, c.if-script-gt-MAX_SCRIPT.false); is_front = c.in_ok-front.ensures.front; is_story = t.is_story; texts = t.texts })
+    subst (λ (lines : List (List ℕ)). IsScript c.args.limits script front.envelope front.head front.trailer.items lines front.story.lines)
+    (sym (text_collected text t.lines t.is_text))
+    (record {
+      story = front.story.octets.now;
+      short = omega (arith, c.if-script-gt-MAX_SCRIPT.false);
+      is_front = c.in_ok-front.ensures.front;
+      is_story = t.is_story;
+      texts = t.texts;
+    })

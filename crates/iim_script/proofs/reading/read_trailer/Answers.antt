@@ -1,5 +1,4 @@
-use Rattle.iim_script.proofs.Words.{inr, refl, TellsNone, TellsTrailer}
-use Rattle.iim_script.proofs.Fronts.{next_must_be, must_be_none}
+use Rattle.iim_script.proofs.{Words.inr, Words.refl, Words.TellsNone, Words.TellsTrailer, Fronts.next_must_be, Fronts.must_be_none}
 use Rattle.iim_script.proofs.reading.read_trailer.Goals as goal
 
 pub returns-in_default-clause-taken : goal.returns-in_default-clause-taken

@@ -2,4 +2,5 @@ use Rattle.iim_script.proofs.shown.unshown.Goals as goal
 use Rattle.iim_script.proofs.Texts.{onto_step}
 
 pub loop-rest-preserved : goal.loop-rest-preserved
-loop-rest-preserved c = rw c.in_ok-push.ensures.items (onto_step c.args.shown.now c.loop-rest.octets.items c.loop-rest.rest.now c.in-Some.after.now c.in-Some.octet c.loop-rest.invariant c.in-Some.ensures.some)
+loop-rest-preserved c = rw c.in_ok-push.ensures.items
+    (onto_step c.args.shown.now c.loop-rest.octets.items c.loop-rest.rest.now c.in-Some.after.now c.in-Some.octet c.loop-rest.invariant c.in-Some.ensures.some)

@@ -8,7 +8,8 @@ loop-at-preserved c =
     let xs = c.args.octets.now in
     let at = c.loop-at.at in
     let i = c.loop-at.invariant in
-    let block = subst (λ (ys : List ℕ). IsTrue (list_all is_plain (take 16 ys)) × (c.in-Some.more ≡ count_by (λ b. b == 10) (take 16 ys))) (take_rest xs at) c.in-Some.ensures in
+    let block = subst (λ (ys : List ℕ). IsTrue (list_all is_plain (take 16 ys)) × (c.in-Some.more ≡ count_by (λ b. b == 10) (take 16 ys))) (take_rest xs at)
+    c.in-Some.ensures in
     record {
       within = omega (arith, i.within, c.loop-at-test.true);
       plain = plain_more xs at 16 i.plain block.0;

@@ -14,7 +14,8 @@ offset_of-offset-requires-clause-minute_in c = rw c.pair_at-5.ensures (clocks c.
 
 pub returns-clause-exactly : goal.returns-clause-exactly
 returns-clause-exactly c =
-    let same = same_instant c.to_datetime.result c.offset_of-offset.result.seconds c.args.date.now c.args.time.now (search rules) (search rules) (search rules) in
+    let same = same_instant c.to_datetime.result c.offset_of-offset.result.seconds c.args.date.now c.args.time.now (search rules) (search rules)
+    (search rules) in
     let range = rw same at c.to_timestamp.ensures.succeeds in
     let date : IsTrue (is_date c.args.date.now) = search rules in
     let time : IsTrue (is_time c.args.time.now) = search rules in
@@ -22,6 +23,7 @@ returns-clause-exactly c =
 
 pub returns-clause-instant : goal.returns-clause-instant
 returns-clause-instant c =
-    let same = same_instant c.to_datetime.result c.offset_of-offset.result.seconds c.args.date.now c.args.time.now (search rules) (search rules) (search rules) in
+    let same = same_instant c.to_datetime.result c.offset_of-offset.result.seconds c.args.date.now c.args.time.now (search rules) (search rules)
+    (search rules) in
     let value = rw same at c.to_timestamp.ensures.value in
     rw c.ok.ensures.value (ok-if c.to_timestamp.result _ value)

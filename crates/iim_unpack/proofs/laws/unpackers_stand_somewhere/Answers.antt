@@ -1,5 +1,4 @@
-use Rattle.iim_unpack.proofs.Words.{IsDone, List, Stands, Stood, Unpacking, inl, inr, ℕ}
-use Rattle.iim_unpack.proofs.Held.{holds_few}
+use Rattle.iim_unpack.proofs.{Words.IsDone, Words.List, Words.Stands, Words.Stood, Words.Unpacking, Words.inl, Words.inr, Words.ℕ, Held.holds_few}
 use Rattle.iim_unpack.proofs.laws.unpackers_stand_somewhere.Goals as goal
 
 stands_by : (u : Unpacking) → (IsDone u → ⊥) → Stood u → (octets : List ℕ) × (count : ℕ) × Stands u octets count

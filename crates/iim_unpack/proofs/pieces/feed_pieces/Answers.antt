@@ -36,5 +36,6 @@ loop-piece-preserved g c =
 
 pub returns-clause-fed : goal.returns-clause-fed
 returns-clause-fed g c =
-    subst (λ (ps : List (Bor (List ℕ))). HasFedPieces g.S.StorySink.goes (limits_in c.args.unpacker.now) c.loop-piece.unpacker c.args.sink.now c.loop-piece.sink (stream_of ps))
+    subst (λ (ps : List (Bor (List ℕ))). HasFedPieces g.S.StorySink.goes (limits_in c.args.unpacker.now) c.loop-piece.unpacker c.args.sink.now
+    c.loop-piece.sink (stream_of ps))
     (take_all c.loop-piece.piece-index c.args.pieces.now (omega arith)) c.loop-piece.invariant.fed

@@ -13,4 +13,5 @@ loop-octet-preserved c =
     let n = length c.args.octets.now in
     let at = c.loop-octet.octet-index in
     let one : n - at - 1 ≡ n - (at + 1) = omega arith in
-    subst (λ (k : ℕ). IsInside c.bytes-in-loop-octet.new.self c.args.head k) one (c.bytes-in-loop-octet.ensures.inside c.args.head (n - at) c.loop-octet.invariant)
+    subst (λ (k : ℕ). IsInside c.bytes-in-loop-octet.new.self c.args.head k) one
+    (c.bytes-in-loop-octet.ensures.inside c.args.head (n - at) c.loop-octet.invariant)

@@ -7,4 +7,6 @@ pub returns-clause-text : goal.returns-clause-text
 returns-clause-text g c =
     let front = c.args.front.now in
     let back = c.args.back.now in
-    on_ok c.close.result _ (AreLines (front ++ back)) (λ text. text (front ++ back) (c.in_ok-run-2.ensures.taken.leads_on front (c.in_ok-run.ensures.taken.leads_on [] c.new-reader.ensures.stands))) c.close.ensures.text
+    on_ok c.close.result _ (AreLines (front ++ back))
+    (λ text. text (front ++ back) (c.in_ok-run-2.ensures.taken.leads_on front (c.in_ok-run.ensures.taken.leads_on [] c.new-reader.ensures.stands)))
+    c.close.ensures.text

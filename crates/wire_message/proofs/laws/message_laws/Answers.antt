@@ -1,6 +1,5 @@
-use Rattle.wire_message.proofs.Alike.{texts_between, one_place, alike, living_lead_on, refused_alike}
+use Rattle.wire_message.proofs.{Alike.texts_between, Alike.one_place, Alike.alike, Alike.living_lead_on, Alike.refused_alike, Packed.canonical_message}
 use Rattle.wire_message.proofs.Headers.{one_message, header_kept, headers_told, trailer_of_message, trailers_told}
-use Rattle.wire_message.proofs.Packed.{canonical_message}
 use Rattle.wire_message.proofs.Readings.{ends_after_eot}
 use Rattle.wire_message.proofs.laws.message_laws.Goals as goal
 

@@ -1,7 +1,5 @@
 use Rattle.std.proofs.Common.{◌≡◌, ◌+◌, inl, inr, [], refl, arith}
-use Rattle.wire_message.proofs.Names.{cases_lt, Place, Text}
-use Rattle.wire_message.proofs.Machine.{of}
-use Rattle.wire_message.proofs.Readings.{tail_taken}
+use Rattle.wire_message.proofs.{Names.cases_lt, Names.Place, Names.Text, Machine.of, Readings.tail_taken}
 use Rattle.wire_message.proofs.piece.take_front.Goals as goal
 
 pub returns-then-ended-clause-takes : goal.returns-then-ended-clause-takes

@@ -1,9 +1,8 @@
 use Rattle.std.proofs.Common.{◌≡◌, ℕ, take, slice_index, refl, arith}
-use Rattle.wire_message.proofs.Names.{take-length, TextCause, CountsCause, cause_of}
+use Rattle.wire_message.proofs.{Names.take-length, Names.TextCause, Names.CountsCause, Names.cause_of, Alike.stands_two}
+use Rattle.wire_message.proofs.Readings.{all_taken, ends_at, stops_somewhere, refuses_at}
 use Rattle.wire_story.specs.declared.fault.TextCause.TheVariants as text_cause
 use Rattle.wire_story.specs.States.Reading as story
-use Rattle.wire_message.proofs.Alike.{stands_two}
-use Rattle.wire_message.proofs.Readings.{all_taken, ends_at, stops_somewhere, refuses_at}
 use Rattle.wire_message.proofs.text.in_text.Goals as goal
 use Rattle.wire_message.proofs.text.in_text.Goals.{else-is_control-via-then-is_control+else-rest-fault-eq-ETX, else-is_control-via-else-is_control}
 

@@ -1,8 +1,7 @@
 use Rattle.std.proofs.Common.{◌≡◌, ◌≤◌, ◌+◌, ◌-◌, length, take, map}
 use Rattle.std.specs.List.{slice_range}
 use Rattle.std.specs.Simd.Lanes.{mask_l}
-use Rattle.wire_story.specs.Format.Texts.{IsLine}
-use Rattle.wire_story.specs.Steps.{is_low}
+use Rattle.wire_story.specs.{Format.Texts.IsLine, Steps.is_low}
 use Rattle.wire_story.proofs.marks.next_marks.Given as goal
 
 -- the octets so far are calm

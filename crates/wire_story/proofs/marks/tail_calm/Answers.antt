@@ -8,7 +8,8 @@ overflow_add-mask c = omega (arith, mask_small c.args.octets.now (length c.args.
 pub calm_before-calm-requires : goal.calm_before-calm-requires
 calm_before-calm-requires c =
     let r = c.requires in
-    some_left (drop c.args.from c.args.octets.now) _ (marks_last c.args.octets.now c.args.from c.mask_of-mask.result r.room r.within r.near c.mask_of-mask.ensures)
+    some_left (drop c.args.from c.args.octets.now) _
+    (marks_last c.args.octets.now c.args.from c.mask_of-mask.result r.room r.within r.near c.mask_of-mask.ensures)
 
 pub returns : goal.returns
 returns c =

@@ -15,4 +15,5 @@ returns-in-Err-clause-refused g c =
 pub returns-in-Ok-clause-front : goal.returns-in-Ok-clause-front
 returns-in-Ok-clause-front g c =
     let f = c.in_ok-now.ensures.front in
-    front_after c.args.rest.now c.in_ok-now.used c.in-Ok.more 0 c.in-Ok.last (omega arith) (omega (arith, f.some)) f.within c.in-Ok.ensures.within c.in-Ok.ensures.marks
+    front_after c.args.rest.now c.in_ok-now.used c.in-Ok.more 0 c.in-Ok.last (omega arith) (omega (arith, f.some)) f.within c.in-Ok.ensures.within
+    c.in-Ok.ensures.marks

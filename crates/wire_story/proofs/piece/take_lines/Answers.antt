@@ -1,12 +1,19 @@
 use Rattle.std.proofs.Common.{◌≡◌, ◌+◌, List, ℕ, Some, refl, subst, ◌∙◌, arith, drop, ap, length, length-drop}
 use Rattle.std.proofs.lemmas.List.{take_rest, drop-drop}
 use Rattle.wire_story.specs.Steps.{AreMarks}
-use Rattle.wire_story.proofs.Pieces.{leads_on_none}
-use Rattle.wire_story.proofs.Fronts.{takes_both, refuses_later}
+use Rattle.wire_story.proofs.{Pieces.leads_on_none, Fronts.takes_both, Fronts.refuses_later}
 use Rattle.wire_story.proofs.piece.take_lines.Goals as goal
 
 pub loop-sink-init : goal.loop-sink-init
-loop-sink-init g c = record { within = omega arith; marks = c.requires.marks; taken = record { leads_on = leads_on_none (Some 0); told = g.met.S.StorySink.nothing c.args.sink.now; calm = refl } }
+loop-sink-init g c = record {
+  within = omega arith;
+  marks = c.requires.marks;
+  taken = record {
+    leads_on = leads_on_none (Some 0);
+    told = g.met.S.StorySink.nothing c.args.sink.now;
+    calm = refl;
+  };
+}
 
 pub loop-sink-preserved : goal.loop-sink-preserved
 loop-sink-preserved g c =

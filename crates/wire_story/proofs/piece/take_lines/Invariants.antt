@@ -1,6 +1,5 @@
 use Rattle.std.proofs.Common.{◌≤◌, ◌-◌, take, drop, length, Some}
-use Rattle.wire_story.specs.States.Reading.{TakesPiece}
-use Rattle.wire_story.specs.Steps.{AreMarks}
+use Rattle.wire_story.specs.{States.Reading.TakesPiece, Steps.AreMarks}
 use Rattle.wire_story.proofs.piece.take_lines.Given as goal
 
 -- the lines so far were taken

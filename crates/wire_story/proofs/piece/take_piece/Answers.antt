@@ -1,9 +1,7 @@
 use Rattle.std.proofs.Common.{ℕ, List, Some, refl, subst, ◌∙◌, arith, drop, ap, length, length-drop}
 use Rattle.std.proofs.lemmas.List.{take_all, take_rest, drop-drop}
 use Rattle.wire_story.specs.Steps.{AreMarks}
-use Rattle.wire_story.proofs.Pieces.{leads_on_none}
-use Rattle.wire_story.proofs.Marked.{no_marks}
-use Rattle.wire_story.proofs.Fronts.{takes_both, refuses_later}
+use Rattle.wire_story.proofs.{Pieces.leads_on_none, Marked.no_marks, Fronts.takes_both, Fronts.refuses_later}
 use Rattle.wire_story.proofs.piece.take_piece.Goals as goal
 
 pub loop-at-init : goal.loop-at-init
@@ -28,7 +26,8 @@ loop-at-preserved g c =
     }
 
 pub returns-in-Err-take_fronts-clause-refused : goal.returns-in-Err-take_fronts-clause-refused
-returns-in-Err-take_fronts-clause-refused g c = refuses_later g.met.S.StorySink.joined c.args.piece.now c.loop-at.at c.loop-at.invariant.taken c.in-Err-take_fronts.ensures.refused
+returns-in-Err-take_fronts-clause-refused g c = refuses_later g.met.S.StorySink.joined c.args.piece.now c.loop-at.at c.loop-at.invariant.taken
+    c.in-Err-take_fronts.ensures.refused
 
 pub returns-clause-taken : goal.returns-clause-taken
 returns-clause-taken g c = rw (take_all c.loop-at.at c.args.piece.now (omega arith)) at c.loop-at.invariant.taken

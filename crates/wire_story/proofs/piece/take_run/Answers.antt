@@ -1,16 +1,15 @@
 use Rattle.std.proofs.Common.{◌+◌, ◌≤◌, List, take, Some, refl, subst, sym, ap, ◌∙◌, arith}
 use Rattle.std.proofs.lemmas.List.{length-take-le, take-take}
 use Rattle.wire_story.specs.Format.Texts.{IsLine, is_line_octet, StoryEvent, delivered}
-use Rattle.wire_story.proofs.Spans.{Are-take}
-use Rattle.wire_story.proofs.Pieces.{leads_on, leads_on_none, held_in_line, refuses_in_line}
-use Rattle.wire_story.proofs.Told.{delivered_line}
+use Rattle.wire_story.proofs.{Spans.Are-take, Pieces.leads_on, Pieces.leads_on_none, Pieces.held_in_line, Pieces.refuses_in_line, Told.delivered_line}
 use Rattle.wire_story.proofs.piece.take_run.Goals as goal
 
 pub returns-in-Ok-clause-taken : goal.returns-in-Ok-clause-taken
 returns-in-Ok-clause-taken g c =
     let run = take c.args.run c.args.rest.now in record {
       leads_on = rw (c.requires.held (omega arith)) (leads_on 0 run 0 (held_in_line run c.requires.line));
-      told = subst (λ (es : List StoryEvent). g.S.StorySink.goes c.args.sink.now es c.text.new.self) (sym (delivered_line run c.requires.line)) c.in-Ok.ensures.ok;
+      told = subst (λ (es : List StoryEvent). g.S.StorySink.goes c.args.sink.now es c.text.new.self) (sym (delivered_line run c.requires.line))
+          c.in-Ok.ensures.ok;
       calm = c.in-Ok.ensures.calm;
     }
 
@@ -22,7 +21,8 @@ returns-in-Err-clause-refused g c =
     let line = c.requires.line in
     let within : taken + 1 ≤ run = omega (arith, c.in-Err.ensures.refused, length-take-le run rest c.requires.within) in
     let front = subst IsLine (take-take (taken + 1) run rest within) (Are-take is_line_octet (taken + 1) (take run rest) line) in
-    let told = sym (delivered_line (take taken (take run rest)) (Are-take is_line_octet taken (take run rest) line)) ∙ ap delivered (take-take taken run rest (omega arith)) in
+    let told = sym (delivered_line (take taken (take run rest)) (Are-take is_line_octet taken (take run rest) line))
+    ∙ ap delivered (take-take taken run rest (omega arith)) in
     record {
       before = omega (arith, c.requires.within);
       refused = rw (c.requires.held (omega arith)) (refuses_in_line rest taken (omega (arith, c.requires.within)) front);

@@ -1,6 +1,5 @@
 use Rattle.std.proofs.Common.{◌≡◌, ◌≤◌, ◌+◌, ◌-◌, ◌==◌, length, take}
-use Rattle.wire_story.specs.Format.Texts.{words_begun}
-use Rattle.wire_story.specs.Steps.{outside_after}
+use Rattle.wire_story.specs.{Format.Texts.words_begun, Steps.outside_after}
 use Rattle.wire_story.proofs.word_count.many_begun.Given as goal
 
 -- the words that begin in the octets so far, and whether they end inside one

@@ -1,7 +1,6 @@
 use Rattle.iim_audit.proofs.Words.{◌≡◌, ◌+◌, ◌++◌, ◌∷◌, [], length, None, ap, sym, subst, arith, rules, length_push, map_push, row_with, HaveShortIds, ids_of, place_of, Value}
 use Rattle.iim_audit.specs.Format.{AuditRow}
-use Rattle.iim_audit.proofs.Firsts.{places_push}
-use Rattle.iim_audit.proofs.Lines.{length_ids, short_push}
+use Rattle.iim_audit.proofs.{Firsts.places_push, Lines.length_ids, Lines.short_push}
 use Rattle.iim_audit.proofs.ledger.Ledger.enter.Goals as goal
 
 pub returns-clause-keeps : goal.returns-clause-keeps
@@ -11,7 +10,13 @@ returns-clause-keeps c = λ values v keeps taken.
 
 pub returns-clause-few : goal.returns-clause-few
 returns-clause-few c =
-    omega (arith, length_ids c.push-2.new.self.items, ap length c.in_ok-push-2.ensures.items, length_push c.args.self.now.rows.items c.row_of-row.result, c.requires.few)
+    omega (
+      arith,
+      length_ids c.push-2.new.self.items,
+      ap length c.in_ok-push-2.ensures.items,
+      length_push c.args.self.now.rows.items c.row_of-row.result,
+      c.requires.few,
+    )
 
 pub returns-clause-places : goal.returns-clause-places
 returns-clause-places c =
@@ -19,8 +24,16 @@ returns-clause-places c =
     let index : 0 + length rows ≡ length rows = omega arith in
     let is : c.push.new.self.items ≡ c.args.self.now.places.items ++ place_of c.row_of-row.result.id (length rows) ∷ [] = search rules in
     let row = c.row_of-row.result in
-    rw (c.in_ok-push-2.ensures.items, map_push (λ (r : AuditRow). r.id) rows row, places_push 0 (ids_of rows) row.id, length_ids rows, index, ← c.requires.places) is
+    rw (
+      c.in_ok-push-2.ensures.items,
+      map_push (λ (r : AuditRow). r.id) rows row,
+      places_push 0 (ids_of rows) row.id,
+      length_ids rows,
+      index,
+      ← c.requires.places,
+    ) is
 
 pub returns-clause-short : goal.returns-clause-short
 returns-clause-short c =
-    subst HaveShortIds (sym c.in_ok-push-2.ensures.items) (short_push c.args.self.now.rows.items c.row_of-row.result c.requires.short c.row_of-row.ensures.short)
+    subst HaveShortIds (sym c.in_ok-push-2.ensures.items)
+    (short_push c.args.self.now.rows.items c.row_of-row.result c.requires.short c.row_of-row.ensures.short)

@@ -14,4 +14,10 @@ pub returns-clause-len : goal.returns-clause-len
 returns-clause-len c =
     let few = length-decimal-le 20 c.args.number (omega arith) (omega (arith, c.ranges.number.fits)) c.ranges.number.fits in
     let held = ap length c.self.view_is in
-    omega (arith, few, held, ap length c.write_digits-self-inside.ensures.written, length-append (decimal c.args.number) (drop c.self.inside.from c.self.inside.room))
+    omega (
+      arith,
+      few,
+      held,
+      ap length c.write_digits-self-inside.ensures.written,
+      length-append (decimal c.args.number) (drop c.self.inside.from c.self.inside.room),
+    )

@@ -1,7 +1,6 @@
 use Rattle.std.proofs.Common.{◌≡◌, ◌∷◌, ◌++◌, [], sym, ap, ◌∙◌, Some, None, arith}
 use Rattle.iim_fields.proofs.Words.{handed_on, Dataset, head_of, HasStored, fields_of, vec_capacity, Building, add_fault}
-use Rattle.iim_fields.proofs.Build.{added_as, checking_of, building_more}
-use Rattle.iim_fields.proofs.Stand.{fields_held, keeps_holds, takes_holds}
+use Rattle.iim_fields.proofs.{Build.added_as, Build.checking_of, Build.building_more, Stand.fields_held, Stand.keeps_holds, Stand.takes_holds}
 use Rattle.iim_fields.proofs.Dies.{value_no_fault}
 use Rattle.iim_fields.proofs.builder.EnvelopeBuilder.add.Goals as goal
 

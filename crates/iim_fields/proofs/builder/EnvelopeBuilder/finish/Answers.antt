@@ -1,6 +1,5 @@
 use Rattle.std.proofs.Common.{◌≡◌, sym, ◌∙◌, subst, Some, None}
-use Rattle.iim_fields.proofs.Words.{Building, finish_fault}
-use Rattle.iim_fields.proofs.Finish.{finish_is, envelope_store}
+use Rattle.iim_fields.proofs.{Words.Building, Words.finish_fault, Finish.finish_is, Finish.envelope_store}
 use Rattle.iim_fields.proofs.builder.EnvelopeBuilder.finish.Goals as goal
 
 pub invariant_of-result : goal.invariant_of-result

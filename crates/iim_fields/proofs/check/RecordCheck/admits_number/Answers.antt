@@ -1,7 +1,5 @@
 use Rattle.std.proofs.Common.{Bool, ap, ◌&&◌, sym, ◌∙◌}
-use Rattle.iim_fields.proofs.Words.{has_seen}
-use Rattle.iim_fields.proofs.Numbers.{admits_once, number_exact}
-use Rattle.iim_fields.proofs.Wholes.{exactly_by}
+use Rattle.iim_fields.proofs.{Words.has_seen, Numbers.admits_once, Numbers.number_exact, Wholes.exactly_by}
 use Rattle.iim_fields.proofs.check.RecordCheck.admits_number.Goals as goal
 
 pub returns-then-is_number : goal.returns-then-is_number

@@ -1,6 +1,5 @@
 use Rattle.std.proofs.Common.{[], subst, inl}
-use Rattle.iim_fields.proofs.Words.{same_Some, IsRecordPlace}
-use Rattle.iim_fields.proofs.Checking.{checked_start}
+use Rattle.iim_fields.proofs.{Words.same_Some, Words.IsRecordPlace, Checking.checked_start}
 use Rattle.iim_fields.proofs.check.RecordCheck.new.Goals as goal
 
 pub invariant_of-result : goal.invariant_of-result

@@ -1,7 +1,6 @@
 use Rattle.std.proofs.Common.{List, [], ◌∷◌, ◌++◌, ℕ, Some, true, sym, ◌∙◌, subst, arith, refl}
 use Rattle.iim_fields.proofs.Words.{same_Some, Dataset, data_of, HasChecked, IsRecordPlace, MayTake, RecordPlace}
-use Rattle.iim_fields.proofs.Checking.{place_led}
-use Rattle.iim_fields.proofs.Wholes.{took_by}
+use Rattle.iim_fields.proofs.{Checking.place_led, Wholes.took_by}
 use Rattle.iim_fields.proofs.check.RecordCheck.put.Goals as goal
 
 -- it is at this place now

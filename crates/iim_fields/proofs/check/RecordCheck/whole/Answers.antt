@@ -1,6 +1,5 @@
 use Rattle.std.proofs.Common.{◌≡◌, List, [], ◌∷◌, ◌++◌, Some, true, sym, ◌∙◌, subst, arith}
-use Rattle.iim_fields.proofs.Words.{same_Some, are_octets, Dataset, data_of, HasChecked, IsRecordPlace}
-use Rattle.iim_fields.proofs.Checking.{place_led}
+use Rattle.iim_fields.proofs.{Words.same_Some, Words.are_octets, Words.Dataset, Words.data_of, Words.HasChecked, Words.IsRecordPlace, Checking.place_led}
 use Rattle.iim_fields.proofs.Wholes.{exactly_by, took_by, none_where}
 use Rattle.iim_fields.proofs.check.RecordCheck.whole.Goals as goal
 

@@ -1,7 +1,6 @@
 use Rattle.std.proofs.Common.{◌≡◌, List, [], ◌∷◌, ◌++◌, None, Some, true, ap, sym, ◌∙◌, subst, arith}
 use Rattle.iim_fields.proofs.Words.{is_none, same_Some, Octets, Dataset, head_of, HasChecked, IsRecordPlace}
-use Rattle.iim_fields.proofs.Sections.{some_data}
-use Rattle.iim_fields.proofs.Checking.{checked_more, none_begun, place_led, record_fault_is, told_at}
+use Rattle.iim_fields.proofs.{Sections.some_data, Checking.checked_more, Checking.none_begun, Checking.place_led, Checking.record_fault_is, Checking.told_at}
 use Rattle.iim_fields.proofs.Wholes.{none_where}
 use Rattle.iim_fields.proofs.check.RecordCheck.whole_subfile.Goals as goal
 

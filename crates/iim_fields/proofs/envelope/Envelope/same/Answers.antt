@@ -13,15 +13,19 @@ entry_decides E is x y = (
       let second = and_parts (nat_eq x.set y.set) (nat_eq x.end y.end) first.1 in
       λ i. record { rec = eqb-true x.rec y.rec first.0 i; set = eqb-true x.set y.set second.0 i; end = eqb-true x.end y.end second.1 i }),
   (λ e. is x y ∙ subst (λ (z : Entry). (nat_eq x.rec z.rec && (nat_eq x.set z.set && nat_eq x.end z.end)) ≡ true) e
-      (and_from (nat_eq x.rec x.rec) (nat_eq x.set x.set && nat_eq x.end x.end) (eq-eqb x.rec x.rec refl) (and_from (nat_eq x.set x.set) (nat_eq x.end x.end) (eq-eqb x.set x.set refl) (eq-eqb x.end x.end refl)))),
+      (and_from (nat_eq x.rec x.rec) (nat_eq x.set x.set && nat_eq x.end x.end) (eq-eqb x.rec x.rec refl)
+      (and_from (nat_eq x.set x.set) (nat_eq x.end x.end) (eq-eqb x.set x.set refl) (eq-eqb x.end x.end refl)))),
 )
 
 pub returns-then-eq : goal.returns-then-eq
 returns-then-eq c =
-    let slices_same : c.as_slice.result.now ≡ c.as_slice-2.result.now = (bytes_decides c.as_slice.result.now c.as_slice-2.result.now).0 (sym c.eq.ensures ∙ c.if-eq.true) in
+    let slices_same : c.as_slice.result.now ≡ c.as_slice-2.result.now = (bytes_decides c.as_slice.result.now c.as_slice-2.result.now).0 (sym c.eq.ensures
+    ∙ c.if-eq.true) in
     let octets_same : c.self.inside.store.octets.items ≡ c.other.inside.store.octets.items = sym c.as_slice.ensures ∙ (slices_same ∙ c.as_slice-2.ensures) in
-    let decides = pointwise_decides {E = eq-value.it} (entry_decides eq-value.it (λ x y. refl)) c.self.inside.store.entries.items c.other.inside.store.entries.items in (
+    let decides = pointwise_decides {E = eq-value.it} (entry_decides eq-value.it (λ x y. refl)) c.self.inside.store.entries.items
+    c.other.inside.store.entries.items in (
       (λ h. sym c.self.view_is ∙ ((λ i. fields_from 0 (decides.0 (sym c.eq-then-eq.ensures ∙ h) i) (octets_same i)) ∙ c.other.view_is)),
       (λ e. c.eq-then-eq.ensures
-          ∙ decides.1 (c.self.invariant.holds.entries ∙ (ap (entries_of 0) (c.self.view_is ∙ (e ∙ sym c.other.view_is)) ∙ sym c.other.invariant.holds.entries))),
+          ∙ decides.1 (c.self.invariant.holds.entries
+          ∙ (ap (entries_of 0) (c.self.view_is ∙ (e ∙ sym c.other.view_is)) ∙ sym c.other.invariant.holds.entries))),
     )

@@ -1,7 +1,6 @@
 use Rattle.std.proofs.Common.{List, ℕ, ◌++◌, sym, ap, refl, ◌∙◌}
-use Rattle.iim_fields.proofs.Words.{handed_on, Dataset, Head, data_of, IsValueFault, StandsIn}
+use Rattle.iim_fields.proofs.{Words.handed_on, Words.Dataset, Words.Head, Words.data_of, Words.IsValueFault, Words.StandsIn, Stand.Kept.Passed}
 use Rattle.iim_fields.proofs.Stand.{ends_within, closed_subfile, closes_in, stands_closed, refused_value, somewhere_closed, kept_in_store, reading_kept, reading_between, entry_room, in_store_alone}
-use Rattle.iim_fields.proofs.Stand.Kept.{Passed}
 use Rattle.iim_fields.proofs.fields.Fields.close.Goals as goal
 
 -- ---- a subfile
@@ -78,7 +77,8 @@ returns-clause-stands c =
     let keeps = sym c.is_kept.ensures ∙ c.if-not-is_kept.false in
     let closes = closes_in (rw (← c.self.view_is) at c.requires) begun in
     let none = c.self.invariant.in_store c.in-Some.head begun keeps in
-    let both = kept_in_store c.self.inside.store c.keep.new.self c.self.inside.size.items c.in-Some.head none c.self.invariant.store_is keeps c.keep.ensures.octets c.keep.ensures.entries in
+    let both = kept_in_store c.self.inside.store c.keep.new.self c.self.inside.size.items c.in-Some.head none c.self.invariant.store_is keeps
+    c.keep.ensures.octets c.keep.ensures.entries in
     stands_closed c.keep.new.self c.self.inside.size.items c.self.invariant c.self.view_is closes.0 c.if-head-eq-OBJECT.false c.in_ok-number-2.ensures.between
     (c.begun-2.ensures ∙ sym (in_store_alone c.self.inside.store c.self.inside.size.items none)) both.1 both.0 c.in_ok-number-2.ensures.stands
 
@@ -88,7 +88,8 @@ invariant_of-self-2 c =
     let keeps = sym c.is_kept.ensures ∙ c.if-not-is_kept.false in
     let closes = closes_in (rw (← c.self.view_is) at c.requires) begun in
     let none = c.self.invariant.in_store c.in-Some.head begun keeps in
-    let both = kept_in_store c.self.inside.store c.keep.new.self c.self.inside.size.items c.in-Some.head none c.self.invariant.store_is keeps c.keep.ensures.octets c.keep.ensures.entries in
+    let both = kept_in_store c.self.inside.store c.keep.new.self c.self.inside.size.items c.in-Some.head none c.self.invariant.store_is keeps
+    c.keep.ensures.octets c.keep.ensures.entries in
     reading_kept c.in-Some.head c.self.invariant c.in_ok-number-2.ensures.between c.keep.ensures.octets c.keep.ensures.entries c.keep.ensures.capacity
     (somewhere_closed c.self.invariant.stands closes.0 closes.1
     (stands_closed c.keep.new.self c.self.inside.size.items c.self.invariant refl closes.0 c.if-head-eq-OBJECT.false c.in_ok-number-2.ensures.between

@@ -1,6 +1,5 @@
 use Rattle.std.proofs.Common.{ℕ, List, refl}
-use Rattle.iim_fields.proofs.Words.{data_of, MayTake, Admits}
-use Rattle.iim_fields.proofs.Wholes.{number_stands, reading_whole, may_take}
+use Rattle.iim_fields.proofs.{Words.data_of, Words.MayTake, Words.Admits, Wholes.number_stands, Wholes.reading_whole, Wholes.may_take}
 use Rattle.iim_fields.proofs.fields.Fields.put_number.Goals as goal
 
 -- the check may take it

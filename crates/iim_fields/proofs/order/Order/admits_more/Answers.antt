@@ -1,6 +1,5 @@
 use Rattle.std.proofs.Common.{arith}
-use Rattle.iim_fields.proofs.Words.{has_seen}
-use Rattle.iim_fields.proofs.Numbers.{more_admitted}
+use Rattle.iim_fields.proofs.{Words.has_seen, Numbers.more_admitted}
 use Rattle.iim_fields.proofs.order.Order.admits_more.Goals as goal
 
 pub returns-then-row-clause-exactly : goal.returns-then-row-clause-exactly

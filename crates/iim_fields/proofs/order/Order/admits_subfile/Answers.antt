@@ -1,6 +1,5 @@
 use Rattle.std.proofs.Common.{arith}
-use Rattle.iim_fields.proofs.Words.{has_seen}
-use Rattle.iim_fields.proofs.Subfiles.{subfile_admitted}
+use Rattle.iim_fields.proofs.{Words.has_seen, Subfiles.subfile_admitted}
 use Rattle.iim_fields.proofs.order.Order.admits_subfile.Goals as goal
 
 pub returns-else-is_subfile : goal.returns-else-is_subfile

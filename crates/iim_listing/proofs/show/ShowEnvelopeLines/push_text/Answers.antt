@@ -14,7 +14,8 @@ returns c = λ e counts parts.
     let got = c.args.got.now in
     let old = c.args.text.now.items in
     on_ok_weaker {Q = c.push_sizes.new.text.items ≡ old ++ shown_of c.args.number e} _ (λ sizes.
-    let all = joined old (number_line c.args.number) (flat_map field_line got.envelope) (message_line got.head.now) (trailer_line got.trailer.now) (sizes_line got.sizes)
+    let all = joined old (number_line c.args.number) (flat_map field_line got.envelope) (message_line got.head.now) (trailer_line got.trailer.now)
+    (sizes_line got.sizes)
     c.push_number.new.text.items c.push_fields.new.text.items c.push_message.new.text.items c.push_trailer.new.text.items c.push_sizes.new.text.items
     c.in_ok-push_number.ensures c.in_ok-push_fields.ensures c.in_ok-push_message.ensures c.in_ok-push_trailer.ensures sizes in
     cc) c.push_sizes.ensures

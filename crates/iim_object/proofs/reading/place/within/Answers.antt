@@ -14,7 +14,8 @@ returns-clause-exactly c =
     let takes : TakesSubfile c.in_ok-before.before = search rules in
     let e = c.take_subfile.ensures in
     rw c.ok.ensures.value
-    (finds_after c.args.numbers c.args.taken c.args.count c.args.left c.args.heads c.take_subfile.result (search rules) (search rules) (rw same at takes) (rw same at e.leads_on) (rw same at e.refused)).0
+    (finds_after c.args.numbers c.args.taken c.args.count c.args.left c.args.heads c.take_subfile.result (search rules) (search rules) (rw same at takes)
+    (rw same at e.leads_on) (rw same at e.refused)).0
 
 pub returns-clause-stands : goal.returns-clause-stands
 returns-clause-stands c =
@@ -23,4 +24,5 @@ returns-clause-stands c =
     let takes : TakesSubfile c.in_ok-before.before = search rules in
     let e = c.take_subfile.ensures in
     rw c.ok.ensures.value
-    (finds_after c.args.numbers c.args.taken c.args.count c.args.left c.args.heads c.take_subfile.result (search rules) (search rules) (rw same at takes) (rw same at e.leads_on) (rw same at e.refused)).1
+    (finds_after c.args.numbers c.args.taken c.args.count c.args.left c.args.heads c.take_subfile.result (search rules) (search rules) (rw same at takes)
+    (rw same at e.leads_on) (rw same at e.refused)).1

@@ -1,5 +1,4 @@
-use Rattle.iim_object.proofs.Words.{Some, ObjectEnded}
-use Rattle.iim_object.proofs.Steps.{leads_on, refused, lives_with}
+use Rattle.iim_object.proofs.{Words.Some, Words.ObjectEnded, Steps.leads_on, Steps.refused, Steps.lives_with}
 use Rattle.iim_object.proofs.reading.step.take_end.Goals as goal
 
 pub returns-in-Some-clause-refused : goal.returns-in-Some-clause-refused

@@ -1,6 +1,4 @@
-use Rattle.iim_object.proofs.Words.{rules, SubfileBegun}
-use Rattle.iim_object.proofs.Steps.{leads_on, refused}
-use Rattle.iim_object.proofs.Staying.{subfile_state}
+use Rattle.iim_object.proofs.{Words.rules, Words.SubfileBegun, Steps.leads_on, Steps.refused, Staying.subfile_state}
 use Rattle.iim_object.proofs.reading.step.take_subfile.Goals as goal
 
 pub returns-in-Some-clause-refused : goal.returns-in-Some-clause-refused

@@ -4,7 +4,8 @@ use Rattle.iim_output.proofs.Holding.{lets_out, puts_of_put, puts_of_stuck, stay
 use Rattle.iim_output.proofs.block_writer.BlockWriter.flush.Goals as goal
 
 pub returns-in-Ok-clause-put : goal.returns-in-Ok-clause-put
-returns-in-Ok-clause-put g c = lets_out g.W.Target.state _ _ c.octets.result.now refl c.octets.ensures c.clear.ensures c.in-Ok.ensures.ok c.in-Ok.ensures.patience
+returns-in-Ok-clause-put g c = lets_out g.W.Target.state _ _ c.octets.result.now refl c.octets.ensures c.clear.ensures c.in-Ok.ensures.ok
+    c.in-Ok.ensures.patience
 
 pub returns-in-Ok-clause-puts : goal.returns-in-Ok-clause-puts
 returns-in-Ok-clause-puts g c = puts_of_put g.W.Target.state _ _ [] (returns-in-Ok-clause-put g c) refl

@@ -10,7 +10,8 @@ pub returns-in-Ok-clause-puts : goal.returns-in-Ok-clause-puts
 returns-in-Ok-clause-puts g c = puts_of_put g.W.Target.state _ _ c.args.text.now (returns-in-Ok-clause-put g c) refl
 
 pub returns-in-Err-clause-stuck : goal.returns-in-Err-clause-stuck
-returns-in-Err-clause-stuck g c = breaks_through g.W.Target.state _ _ c.args.text.now c.in-Err.taken refl c.requires refl c.in-Err.ensures.err c.in-Err.ensures.given_up
+returns-in-Err-clause-stuck g c = breaks_through g.W.Target.state _ _ c.args.text.now c.in-Err.taken refl c.requires refl c.in-Err.ensures.err
+    c.in-Err.ensures.given_up
 
 pub returns-in-Err-clause-front : goal.returns-in-Err-clause-front
 returns-in-Err-clause-front g c =

@@ -9,4 +9,5 @@ returns-clause-ok g c = on_ok c.put.result _ _ (λ puts. told_line g.W.Target.st
 
 pub returns-clause-front : goal.returns-clause-front
 returns-clause-front g c =
-    IfErr-weaker c.put.result _ _ (λ stop puts. told_line g.W.Target.state c.args.self.now c.put.new.self (take stop.taken c.args.run.now) puts) c.put.ensures.front
+    IfErr-weaker c.put.result _ _ (λ stop puts. told_line g.W.Target.state c.args.self.now c.put.new.self (take stop.taken c.args.run.now) puts)
+    c.put.ensures.front

@@ -1,26 +1,27 @@
 use Rattle.iim_pack.proofs.Words.{length, ap, sym, ◌∙◌, arith, if_none}
 use Rattle.iim_object.specs.States.Writing as object
 use Rattle.iim_pack.specs.States.Packing.{finish_cause}
-use Rattle.iim_pack.proofs.Endings.{ends}
-use Rattle.iim_pack.proofs.Finishings.{may_end, finished, unfinished}
-use Rattle.iim_pack.proofs.Beginnings.{begun_ends}
+use Rattle.iim_pack.proofs.{Endings.ends, Finishings.may_end, Finishings.finished, Finishings.unfinished, Beginnings.begun_ends}
 use Rattle.iim_pack.proofs.packer.Packer.finish.Goals as goal
 
 pub end_object-requires-clause-fits : goal.end_object-requires-clause-fits
 end_object-requires-clause-fits g c =
     let old = c.self.inside.object in
     let octets = rw c.unwrap-tail.ensures at c.tail_text.ensures.octets in
-    let may = may_end old.plan (object.total_of old) c.args.trailer.now (rw (c.plan.ensures, c.total.ensures.total) at (sym c.ending_cause.ensures ∙ c.in_default.is)) in
+    let may = may_end old.plan (object.total_of old) c.args.trailer.now
+    (rw (c.plan.ensures, c.total.ensures.total) at (sym c.ending_cause.ensures ∙ c.in_default.is)) in
     omega (arith, may.fits, ap length (c.as_slice.ensures.value ∙ octets))
 
 pub returns-in-Ok-clause-ok : goal.returns-in-Ok-clause-ok
 returns-in-Ok-clause-ok g c =
     let old = c.self.inside.object in
     let octets = rw c.unwrap-tail.ensures at c.tail_text.ensures.octets in
-    let may = may_end old.plan (object.total_of old) c.args.trailer.now (rw (c.plan.ensures, c.total.ensures.total) at (sym c.ending_cause.ensures ∙ c.in_default.is)) in
+    let may = may_end old.plan (object.total_of old) c.args.trailer.now
+    (rw (c.plan.ensures, c.total.ensures.total) at (sym c.ending_cause.ensures ∙ c.in_default.is)) in
     let (last, lengthens, finishes) = rw (c.as_slice.ensures.value ∙ octets) at c.in-Ok.ensures.ok in
     rw (← c.self.view_is)
-    (finished g.W.Target.state c.self.inside.before old c.args.trailer.now c.in-Ok.writer c.story_laws.ensures.events_are_packed_as_lines c.message_laws.ensures.canonical_objects_are_messages may
+    (finished g.W.Target.state c.self.inside.before old c.args.trailer.now c.in-Ok.writer c.story_laws.ensures.events_are_packed_as_lines
+    c.message_laws.ensures.canonical_objects_are_messages may
     (ends g.W.Target.state old last _ c.in-Ok.writer c.texts_join.ensures lengthens finishes))
 
 pub returns-in-Err-clause-broke : goal.returns-in-Err-clause-broke

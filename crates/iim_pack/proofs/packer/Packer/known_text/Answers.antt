@@ -1,7 +1,6 @@
 use Rattle.iim_pack.proofs.Words.{ℕ, List, length, map, sym, ◌∙◌, on_ok_weaker, on_err_weaker, if_none, LineOctet, AreEvents, line_packed, text_cause}
 use Rattle.iim_object.specs.States.Writing as object
-use Rattle.iim_pack.proofs.Goings.{of_none, line_events, lengthened, broken, may_write}
-use Rattle.iim_pack.proofs.Beginnings.{begun_on}
+use Rattle.iim_pack.proofs.{Goings.of_none, Goings.line_events, Goings.lengthened, Goings.broken, Goings.may_write, Beginnings.begun_on}
 use Rattle.iim_pack.proofs.packer.Packer.known_text.Goals as goal
 
 pub returns-clause-ok : goal.returns-clause-ok
@@ -9,16 +8,19 @@ returns-clause-ok g c =
     let xs : List ℕ = c.args.octets.now in
     let are : AreEvents (map LineOctet xs) = line_events xs c.requires in
     rw (← c.self.view_is)
-    (on_ok_weaker c.write.result (lengthened g.W.Target.state c.self.inside.before c.self.inside.object c.write.new.self (map LineOctet xs) are) (rw line_packed c.write.ensures.ok))
+    (on_ok_weaker c.write.result (lengthened g.W.Target.state c.self.inside.before c.self.inside.object c.write.new.self (map LineOctet xs) are)
+    (rw line_packed c.write.ensures.ok))
 
 pub returns-clause-broke : goal.returns-clause-broke
 returns-clause-broke g c =
     let xs : List ℕ = c.args.octets.now in
     let old = c.self.inside.object in
-    let may = may_write old (length xs) 2 (sym c.is_failed.ensures ∙ c.if-is_failed.false) (rw (c.plan.ensures, c.total.ensures.total) at (sym c.passes_plan.ensures ∙ c.if-passes_plan.false)) in
+    let may = may_write old (length xs) 2 (sym c.is_failed.ensures ∙ c.if-is_failed.false)
+    (rw (c.plan.ensures, c.total.ensures.total) at (sym c.passes_plan.ensures ∙ c.if-passes_plan.false)) in
     if_none (text_cause c.args.self.now xs) _
     (rw (← c.self.view_is)
-    (on_err_weaker c.write.result (broken g.W.Target.state c.self.inside.before old c.write.new.self (map LineOctet xs) c.lines_are_packed_as_their_events.ensures)
+    (on_err_weaker c.write.result (broken g.W.Target.state c.self.inside.before old c.write.new.self (map LineOctet xs)
+    c.lines_are_packed_as_their_events.ensures)
     (rw line_packed (of_none (object.write_cause old (length xs)) _ may c.write.ensures.broke))))
 
 pub returns-clause-begun : goal.returns-clause-begun

@@ -1,18 +1,19 @@
 use Rattle.iim_pack.proofs.Words.{[], ◌∷◌, sym, ◌∙◌, on_ok_weaker, on_err_weaker, if_none, LineEnd, line_end_cause}
 use Rattle.iim_object.specs.States.Writing as object
-use Rattle.iim_pack.proofs.Goings.{of_none, lengthened, broken, may_write}
-use Rattle.iim_pack.proofs.Beginnings.{begun_on}
+use Rattle.iim_pack.proofs.{Goings.of_none, Goings.lengthened, Goings.broken, Goings.may_write, Beginnings.begun_on}
 use Rattle.iim_pack.proofs.packer.Packer.line_end.Goals as goal
 
 pub returns-clause-ok : goal.returns-clause-ok
 returns-clause-ok g c =
     rw (← c.self.view_is)
-    (on_ok_weaker c.write.result (lengthened g.W.Target.state c.self.inside.before c.self.inside.object c.write.new.self (LineEnd ∷ []) (tt, tt)) c.write.ensures.ok)
+    (on_ok_weaker c.write.result (lengthened g.W.Target.state c.self.inside.before c.self.inside.object c.write.new.self (LineEnd ∷ []) (tt, tt))
+    c.write.ensures.ok)
 
 pub returns-clause-broke : goal.returns-clause-broke
 returns-clause-broke g c =
     let old = c.self.inside.object in
-    let may = may_write old 2 2 (sym c.is_failed.ensures ∙ c.if-is_failed.false) (rw (c.plan.ensures, c.total.ensures.total) at (sym c.passes_plan.ensures ∙ c.if-passes_plan.false)) in
+    let may = may_write old 2 2 (sym c.is_failed.ensures ∙ c.if-is_failed.false)
+    (rw (c.plan.ensures, c.total.ensures.total) at (sym c.passes_plan.ensures ∙ c.if-passes_plan.false)) in
     if_none (line_end_cause c.args.self.now) _
     (rw (← c.self.view_is)
     (on_err_weaker c.write.result (broken g.W.Target.state c.self.inside.before old c.write.new.self (LineEnd ∷ []) c.lines_are_packed_as_their_events.ensures)

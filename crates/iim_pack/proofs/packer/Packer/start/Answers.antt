@@ -7,15 +7,21 @@ pub returns-in-Err-put_fields-clause-fault : goal.returns-in-Err-put_fields-clau
 returns-in-Err-put_fields-clause-fault g c =
     if_none (start_cause c.args.head.now c.args.plan) _
     (rw c.unbegun-in-Err-put_fields.ensures
-    (inr (fields_broke g.W.Target.state c.args.writer c.args.envelope.now c.args.head.now c.args.plan (record { cause = causes.Write; writer = c.put_fields.new.writer; written = c.in-Err-put_fields.written }) refl c.in-Err-put_fields.ensures.err c.in-Err-put_fields.ensures.given_up)))
+    (inr (fields_broke g.W.Target.state c.args.writer c.args.envelope.now c.args.head.now c.args.plan (record {
+      cause = causes.Write;
+      writer = c.put_fields.new.writer;
+      written = c.in-Err-put_fields.written;
+    }) refl c.in-Err-put_fields.ensures.err c.in-Err-put_fields.ensures.given_up)))
 
 pub returns-in-Ok-open_object-clause-ok : goal.returns-in-Ok-open_object-clause-ok
 returns-in-Ok-open_object-clause-ok g c =
     let state = g.W.Target.state in
     let front = c.as_slice-front.ensures.value ∙ c.head_text-text.ensures.octets in
     let opens = rw (c.in-Ok.ensures, front) at c.in-Ok-open_object.ensures.ok in
-    started state c.args.writer c.put_fields.new.writer c.args.envelope.now c.args.head.now c.args.plan c.in-Ok-put_fields.before c.in-Ok-open_object.object c.texts_join.ensures
-    c.put_fields.ensures.envelope c.head_text-text.ensures.header c.in-Ok-put_fields.ensures.ok c.in-Ok-put_fields.ensures.all c.in-Ok-put_fields.ensures.patience opens
+    started state c.args.writer c.put_fields.new.writer c.args.envelope.now c.args.head.now c.args.plan c.in-Ok-put_fields.before c.in-Ok-open_object.object
+    c.texts_join.ensures
+    c.put_fields.ensures.envelope c.head_text-text.ensures.header c.in-Ok-put_fields.ensures.ok c.in-Ok-put_fields.ensures.all
+    c.in-Ok-put_fields.ensures.patience opens
 
 pub returns-in-Err-open_object-clause-fault : goal.returns-in-Err-open_object-clause-fault
 returns-in-Err-open_object-clause-fault g c =
@@ -26,7 +32,11 @@ returns-in-Err-open_object-clause-fault g c =
     if_none (start_cause c.args.head.now c.args.plan) _
     (rw c.unbegun-in-Err-open_object.ensures
     (inr (object_broke state c.args.writer c.put_fields.new.writer c.args.envelope.now c.args.head.now c.args.plan c.in-Ok-put_fields.before fault
-    (record { cause = fault.cause; writer = fault.writer; written = c.in-Ok-put_fields.before + fault.written }) c.texts_join.ensures c.in-Ok-put_fields.ensures.ok c.in-Ok-put_fields.ensures.all c.in-Ok-put_fields.ensures.patience halts refl refl refl)))
+    (record {
+      cause = fault.cause;
+      writer = fault.writer;
+      written = c.in-Ok-put_fields.before + fault.written;
+    }) c.texts_join.ensures c.in-Ok-put_fields.ensures.ok c.in-Ok-put_fields.ensures.all c.in-Ok-put_fields.ensures.patience halts refl refl refl)))
 
 pub returns-in-Ok-open_object-clause-begun : goal.returns-in-Ok-open_object-clause-begun
 returns-in-Ok-open_object-clause-begun g c = (returns-in-Ok-open_object-clause-ok g c).begun

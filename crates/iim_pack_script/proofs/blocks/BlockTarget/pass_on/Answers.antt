@@ -9,7 +9,8 @@ returns-in-Ok-clause-ok g c =
     let taken = length-take b.used b.block.now in
     let some : 0 < length (held_in b) = omega (arith, taken, c.requires, b.within) in
     let few : c.in-Ok.count ≤ b.used = omega (arith, taken, h.ok.0, b.within) in
-    passed_on (g.W.Target.state b.first.value).octets (held_in b) _ (g.W.Target.state b.writer) (g.W.Target.state c.write_front.new.writer) c.in-Ok.count _ h.ok h.rest some
+    passed_on (g.W.Target.state b.first.value).octets (held_in b) _ (g.W.Target.state b.writer) (g.W.Target.state c.write_front.new.writer) c.in-Ok.count _
+    h.ok h.rest some
     (λ pos. omega (arith, pos, few, h.room, b.within, b.some))
 
 pub returns-in-Err-clause-err : goal.returns-in-Err-clause-err

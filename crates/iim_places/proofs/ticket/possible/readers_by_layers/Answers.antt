@@ -1,10 +1,8 @@
 use Rattle.std.proofs.Common.{◌∙◌, arith}
-use Rattle.iim_places.proofs.Words.{numbers_told, Split}
+use Rattle.iim_places.proofs.{Words.numbers_told, Words.Split, AtPlaces.four_back, Fitting.part_told}
+use Rattle.iim_places.proofs.PlacesTold.{no_records, no_message, place_told, place_is, told_same}
 use Rattle.iim_places.specs.States.Restored.{split_told}
 use Rattle.wire_message.specs.declared.saved.MessagePart.TheVariants.{AfterEnd}
-use Rattle.iim_places.proofs.AtPlaces.{four_back}
-use Rattle.iim_places.proofs.Fitting.{part_told}
-use Rattle.iim_places.proofs.PlacesTold.{no_records, no_message, place_told, place_is, told_same}
 use Rattle.iim_places.proofs.ticket.possible.readers_by_layers.Goals as goal
 
 pub returns-then-not-records_lead-clause-none : goal.returns-then-not-records_lead-clause-none

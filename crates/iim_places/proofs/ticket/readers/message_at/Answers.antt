@@ -4,7 +4,8 @@ use Rattle.iim_places.proofs.AtPlaces.{same_message, leads_saved}
 use Rattle.iim_places.proofs.ticket.readers.message_at.Goals as goal
 
 pub returns-in_err-message_place-clause-none : goal.returns-in_err-message_place-clause-none
-returns-in_err-message_place-clause-none c = rw c.from_residual.ensures (λ m octets text is leads count. c.in_err-message_place.ensures.none m octets text is leads)
+returns-in_err-message_place-clause-none c = rw c.from_residual.ensures
+    (λ m octets text is leads count. c.in_err-message_place.ensures.none m octets text is leads)
 
 pub returns-in_err-reader-clause-none : goal.returns-in_err-reader-clause-none
 returns-in_err-reader-clause-none c =

@@ -1,7 +1,6 @@
-use Rattle.iim_places.proofs.Words.{TagsLead, head_of_numbers}
+use Rattle.iim_places.proofs.{Words.TagsLead, Words.head_of_numbers, AtPlaces.no_place}
 use Rattle.iim_dataset.specs.declared.place.DatasetPlace.TheVariants.{Tag, Inside}
 use Rattle.iim_places.specs.States.Restored.{phase_told}
-use Rattle.iim_places.proofs.AtPlaces.{no_place}
 use Rattle.iim_places.proofs.ticket.readers.tags_at.Goals as goal
 
 pub returns-in-Data-clause-none : goal.returns-in-Data-clause-none

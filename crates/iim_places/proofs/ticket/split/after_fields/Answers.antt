@@ -11,4 +11,6 @@ returns-in_err-rest-clause-none c =
 
 pub loop-preserved : goal.loop-preserved
 loop-preserved c =
-    one_more c.loop.counter c.args.octets.now c.loop.rest.now c.in_ok-rest.field-0-1.now (dataset c.in_ok-rest.field-0-0.0 c.in_ok-rest.field-0-0.1 c.in_ok-rest.field-0-0.2.now) c.loop.invariant c.in_ok-rest.ensures.fits c.in_ok-rest.ensures.parts
+    one_more c.loop.counter c.args.octets.now c.loop.rest.now c.in_ok-rest.field-0-1.now
+    (dataset c.in_ok-rest.field-0-0.0 c.in_ok-rest.field-0-0.1 c.in_ok-rest.field-0-0.2.now) c.loop.invariant c.in_ok-rest.ensures.fits
+    c.in_ok-rest.ensures.parts

@@ -1,5 +1,4 @@
-use Rattle.iim_places.proofs.Splitting.{no_body}
-use Rattle.iim_places.proofs.Splitting.Lacks.{Missing, After}
+use Rattle.iim_places.proofs.{Splitting.no_body, Splitting.Lacks.Missing, Splitting.Lacks.After}
 use Rattle.iim_places.proofs.ticket.split.read_body.Goals as goal
 
 pub returns-in_err-fields-clause-none : goal.returns-in_err-fields-clause-none

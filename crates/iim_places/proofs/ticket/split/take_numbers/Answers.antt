@@ -1,5 +1,4 @@
-use Rattle.iim_places.proofs.Splitting.{no_numbers}
-use Rattle.iim_places.proofs.Splitting.Lacks.{Missing, After}
+use Rattle.iim_places.proofs.{Splitting.no_numbers, Splitting.Lacks.Missing, Splitting.Lacks.After}
 use Rattle.iim_places.proofs.ticket.split.take_numbers.Goals as goal
 
 pub returns-in_err-mode-clause-none : goal.returns-in_err-mode-clause-none

@@ -1,7 +1,6 @@
 use Rattle.std.proofs.Common.{◌≡◌, true, false, [], ◌∷◌, ◌++◌, sym, ◌∙◌, append_assoc}
-use Rattle.iim_places.proofs.Words.{Dataset, is_kept, all_append, all_back}
+use Rattle.iim_places.proofs.{Words.Dataset, Words.is_kept, Words.all_append, Words.all_back, Taking.took_more, Taking.no_more}
 use Rattle.iim_places.specs.TicketParts.{dataset}
-use Rattle.iim_places.proofs.Taking.{took_more, no_more}
 use Rattle.iim_places.proofs.ticket.taker.take_fields.Goals as goal
 
 pub returns-then-not-is_kept-clause-all : goal.returns-then-not-is_kept-clause-all

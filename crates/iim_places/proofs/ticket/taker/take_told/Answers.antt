@@ -1,8 +1,8 @@
 use Rattle.std.proofs.Common.{◌≡◌, Bool, true, false, cond, List, [], ◌∷◌, ◌++◌, append_assoc}
 use Rattle.std.proofs.Math.Seq.{take-nil}
 use Rattle.iim_places.proofs.Words.{Dataset, Numbers, plain, plain_end, plain_numbers, numbers_told}
-use Rattle.iim_places.specs.TicketParts.{dataset}
 use Rattle.iim_places.proofs.Taking.{no_more, took_more}
+use Rattle.iim_places.specs.TicketParts.{dataset}
 use Rattle.iim_places.proofs.ticket.taker.take_told.Goals as goal
 
 -- one subfile without octets, or none

@@ -7,7 +7,8 @@ feeding-init g c = record {
   alive = c.in_default.is;
   octets = refl;
   fed = (
-    fed_none g.S.StorySink.goes c.gifts_join.ensures (in_line g.R.Source.state c.args.self.now) c.args.unpacker.now _ c.stands_somewhere.ensures.counts (g.met.S.StorySink.nothing _),
+    fed_none g.S.StorySink.goes c.gifts_join.ensures (in_line g.R.Source.state c.args.self.now) c.args.unpacker.now _ c.stands_somewhere.ensures.counts
+        (g.met.S.StorySink.nothing _),
     λ none. (refl, refl),
   );
   ready = c.requires.ready;
@@ -47,8 +48,10 @@ returns-in-Ok-Done-clause-fed g c =
 pub returns-in-Ok-End-clause-fed : goal.returns-in-Ok-End-clause-fed
 returns-in-Ok-End-clause-fed g c =
     let here = somewhere c.args.unpacker.now c.requires.ready c.stands_somewhere.ensures.stood in
-    let ended = end_of g.S.StorySink.goes c.next_piece.new.unpacker c.in-Ok-End.field-0-is (c.in-Ok-End.ensures.fed c.feeding.invariant.alive) in
-    (c.next_piece.ensures.octets ∙ c.feeding.invariant.octets, fed_and_ended c.next_piece.new.unpacker c.gifts_join.ensures c.feeding.invariant.fed.0 c.feeding.invariant.fed.1 ended here.0 here.1 here.2)
+    let ended = end_of g.S.StorySink.goes c.next_piece.new.unpacker c.in-Ok-End.field-0-is (c.in-Ok-End.ensures.fed c.feeding.invariant.alive) in (
+      c.next_piece.ensures.octets ∙ c.feeding.invariant.octets,
+      fed_and_ended c.next_piece.new.unpacker c.gifts_join.ensures c.feeding.invariant.fed.0 c.feeding.invariant.fed.1 ended here.0 here.1 here.2,
+    )
 
 pub returns-in-Err-clause-faults : goal.returns-in-Err-clause-faults
 returns-in-Err-clause-faults g c =
@@ -56,6 +59,7 @@ returns-in-Err-clause-faults g c =
     λ none. (
       faults.0,
       faults.1,
-      fed_and_faults g.S.StorySink.failures g.met.S.StorySink.joined c.gifts_join.ensures c.delivery_may_be_cut.ensures (in_line g.R.Source.state c.next_piece.new.self) c.next_piece.new.unpacker
+      fed_and_faults g.S.StorySink.failures g.met.S.StorySink.joined c.gifts_join.ensures c.delivery_may_be_cut.ensures
+          (in_line g.R.Source.state c.next_piece.new.self) c.next_piece.new.unpacker
           c.next_piece.new.sink faults.0 c.in-Err.fault c.feeding.invariant.fed.0 c.feeding.invariant.calm faults.2,
     )

@@ -1,6 +1,6 @@
 use Rattle.iim_unpack.proofs.Words.{IfErr-weaker, ap, in_line, inr, refl, with_held}
-use Rattle.std.proofs.lemmas.Result.{IfOk-weaker}
 use Rattle.iim_unpack.proofs.Intakes.{none_missed, none_truncated, read_and_fed, read_and_refused}
+use Rattle.std.proofs.lemmas.Result.{IfOk-weaker}
 use Rattle.iim_unpack.proofs.intake.Intake.next_piece.Goals as goal
 
 pub returns-in-Ok-true-clause-fed : goal.returns-in-Ok-true-clause-fed

@@ -3,7 +3,12 @@ use Rattle.iim_unpack.proofs.Carrying.{stopped_object, tells_parts_object, tells
 use Rattle.iim_unpack.proofs.parts.Parts.run.Goals as goal
 
 pub returns-then-head-ne-OBJECT-clause-takes : goal.returns-then-head-ne-OBJECT-clause-takes
-returns-then-head-ne-OBJECT-clause-takes g c = λ left t. record { head = t.head; fields = c.bytes.ensures.inside t.head left t.fields; object = t.object; message = t.message }
+returns-then-head-ne-OBJECT-clause-takes g c = λ left t. record {
+  head = t.head;
+  fields = c.bytes.ensures.inside t.head left t.fields;
+  object = t.object;
+  message = t.message;
+}
 
 pub returns-then-head-ne-OBJECT-clause-went : goal.returns-then-head-ne-OBJECT-clause-went
 returns-then-head-ne-OBJECT-clause-went g c =

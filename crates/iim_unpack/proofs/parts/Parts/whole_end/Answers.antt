@@ -1,6 +1,6 @@
 use Rattle.iim_unpack.proofs.Words.{Admits, Spells, arith, refl, subst, ℕ}
-use Rattle.iim_object.specs.States.Reading.{EndsAs}
 use Rattle.iim_unpack.proofs.Closing.{admits_where, end_ends, end_went, spells_number}
+use Rattle.iim_object.specs.States.Reading.{EndsAs}
 use Rattle.iim_unpack.proofs.parts.Parts.whole_end.Goals as goal
 
 pub admits_number-requires-clause-spelled : goal.admits_number-requires-clause-spelled

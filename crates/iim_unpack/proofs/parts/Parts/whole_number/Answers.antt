@@ -1,6 +1,6 @@
 use Rattle.iim_unpack.proofs.Words.{Admits, NumberRead, Spells, arith, refl, subst, ℕ}
-use Rattle.iim_object.specs.States.Reading.{LeadsOn}
 use Rattle.iim_unpack.proofs.Closing.{admits_where, number_went, spells_number, takes_next}
+use Rattle.iim_object.specs.States.Reading.{LeadsOn}
 use Rattle.iim_unpack.proofs.parts.Parts.whole_number.Goals as goal
 
 pub admits_number-requires-clause-spelled : goal.admits_number-requires-clause-spelled

@@ -1,12 +1,16 @@
-use Rattle.iim_unpack.proofs.Words.{IsRestored, Unpacking, heads_within, refl, split_told, subst, sym}
+use Rattle.iim_unpack.proofs.{Words.IsRestored, Words.Unpacking, Words.heads_within, Words.refl, Words.split_told, Words.subst, Words.sym, Restored.restored_at}
 use Rattle.iim_places.specs.Format.TicketForm.{split_octets}
-use Rattle.iim_unpack.proofs.Restored.{restored_at}
 use Rattle.iim_unpack.proofs.ticket.restore.unpacker_at.Goals as goal
 
 pub fields_at-requires-clause-leads : goal.fields_at-requires-clause-leads
 fields_at-requires-clause-leads c =
     let at = c.requires.readers.at in
-    record { place = at.place; parts = at.parts; leads = at.leads; within = heads_within c.args.limits (split_told c.args.parts.now) c.args.readers at c.requires.within }
+    record {
+      place = at.place;
+      parts = at.parts;
+      leads = at.leads;
+      within = heads_within c.args.limits (split_told c.args.parts.now) c.args.readers at c.requires.within;
+    }
 
 pub at_place-requires : goal.at_place-requires
 at_place-requires c =

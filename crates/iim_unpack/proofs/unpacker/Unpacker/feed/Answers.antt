@@ -1,8 +1,7 @@
 use Rattle.iim_unpack.proofs.Words.{HoldsFew, IsOctet, IsRefusedIn, IsUnpacking, None, Stands, Unpacking, [], ap, arith, false, has_ended, limits_in, refl, refusal_at, slice_index, subst, sym, true, ℕ, ◌∙◌, ◌≡◌}
 use Rattle.iim_unpack.specs.States.Unpacking.{room_in}
 use Rattle.wire_story.specs.Format.Texts as story
-use Rattle.iim_unpack.proofs.Held.{holds_few}
-use Rattle.iim_unpack.proofs.Feeding.{goes_done, goes_more, refused_in, sound_done, sound_more}
+use Rattle.iim_unpack.proofs.{Held.holds_few, Feeding.goes_done, Feeding.goes_more, Feeding.refused_in, Feeding.sound_done, Feeding.sound_more}
 use Rattle.iim_unpack.proofs.unpacker.Unpacker.feed.Given.{Over}
 use Rattle.iim_unpack.proofs.unpacker.Unpacker.feed.Goals.{Else-has_ended-2, Then-has_ended-2}
 use Rattle.iim_unpack.proofs.unpacker.Unpacker.feed.Goals as goal

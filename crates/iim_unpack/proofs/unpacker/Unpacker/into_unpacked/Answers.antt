@@ -16,7 +16,8 @@ pub unreachable-requires-in_default-try_extend_from_slice : goal.unreachable-req
 unreachable-requires-in_default-try_extend_from_slice c =
     let (p, w) = whole_of c.lower_laws.ensures _ _ c.self.view_is (c.is_done.ensures.0 c.if-not-is_done.false) c.self.invariant in
     let short = w.message.is_trailer.2 in
-    let bad : false ≡ true = c.in_default-try_extend_from_slice.ensures.variant.1 (omega (arith, short, ap length c.trailer.ensures, ap length c.new-trailer.ensures)) in cc
+    let bad : false ≡ true = c.in_default-try_extend_from_slice.ensures.variant.1
+    (omega (arith, short, ap length c.trailer.ensures, ap length c.new-trailer.ensures)) in cc
 
 pub returns-clause-value : goal.returns-clause-value
 returns-clause-value c = λ p a at v admits.

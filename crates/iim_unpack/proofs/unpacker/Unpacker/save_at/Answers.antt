@@ -5,7 +5,8 @@ use Rattle.iim_unpack.proofs.unpacker.Unpacker.save_at.Goals as goal
 
 -- a ticket that was put where there is room
 has_put : (u : Unpacking) (ticket out : List ℕ) (n : ℕ) → n ≡ length ticket → (length ticket ≤ length out → take (length ticket) out ≡ ticket)
-    → ((p : List ℕ) (a : ℕ) → Stands u p a ⊎ IsDoneWith u p a → IsTicketOf p ticket) → length ticket ≤ (limits_in u).octets + 6 * (limits_in u).fields + 256 → HasTicketIn u out n
+    → ((p : List ℕ) (a : ℕ) → Stands u p a ⊎ IsDoneWith u p a → IsTicketOf p ticket) → length ticket ≤ (limits_in u).octets + 6 * (limits_in u).fields + 256
+    → HasTicketIn u out n
 has_put u ticket out n is stands tells few =
     subst (λ (k : ℕ). HasTicketIn u out k) (sym is) (record { ticket = ticket; is_ticket = tells; counts = refl; few = few; stands = stands })
 

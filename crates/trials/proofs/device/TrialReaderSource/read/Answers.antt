@@ -3,7 +3,8 @@ use Rattle.std.proofs.lemmas.List.{drop_more, length-set}
 use Rattle.trials.proofs.device.TrialReaderSource.read.Goals as goal
 
 -- the octet that was stored is the next
-moved : (xs buffer : List ℕ) (at : ℕ) → at < length xs → 0 < length buffer → drop at xs ≡ take 1 (slice_set buffer 0 (slice_index_or xs at 0)) ++ drop (at + 1) xs
+moved : (xs buffer : List ℕ) (at : ℕ) → at < length xs → 0 < length buffer
+    → drop at xs ≡ take 1 (slice_set buffer 0 (slice_index_or xs at 0)) ++ drop (at + 1) xs
 moved xs [] at h k = absurd (omega arith)
 moved xs (b ∷ buffer) at h k = drop_more xs at 0 h
 

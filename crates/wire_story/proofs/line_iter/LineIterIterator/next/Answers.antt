@@ -19,7 +19,8 @@ first_line octets end e l =
 -- the last line
 last_line : (octets : List ℕ) (end : ℕ) → end ≡ position_or_len (λ b. b == 10) octets → length octets ≤ end → lines_in octets ≡ octets ∷ []
 last_line octets end e l =
-    slice_split_none (λ b. b == 10) octets (All-from_get_or (λ b. (b == 10) ≡ false) octets 0 (λ k within. fails_before_first (λ b. b == 10) octets k 0 (omega (arith, e, l, within))))
+    slice_split_none (λ b. b == 10) octets (All-from_get_or (λ b. (b == 10) ≡ false) octets 0
+    (λ k within. fails_before_first (λ b. b == 10) octets k 0 (omega (arith, e, l, within))))
 
 -- what is seen of an iterator with octets left
 seen : (left : Option (Bor (List ℕ))) (rest : Bor (List ℕ)) (lines : List (List ℕ))
@@ -32,7 +33,11 @@ returns-then-end-rest-clause-steps c =
     ∙ first_line c.in_ok-rest.rest.now c.first_len-end.result c.first_len-end.ensures c.if-end-rest.true
 
 pub returns-then-end-rest-clause-goes : goal.returns-then-end-rest-clause-goes
-returns-then-end-rest-clause-goes c = record { on = λ finite. (tt, tt, omega (arith, ap length (returns-then-end-rest-clause-steps c))); keeps = tt; rests = λ finite. tt }
+returns-then-end-rest-clause-goes c = record {
+  on = λ finite. (tt, tt, omega (arith, ap length (returns-then-end-rest-clause-steps c)));
+  keeps = tt;
+  rests = λ finite. tt;
+}
 
 pub returns-else-end-rest-clause-steps : goal.returns-else-end-rest-clause-steps
 returns-else-end-rest-clause-steps c =
@@ -40,4 +45,8 @@ returns-else-end-rest-clause-steps c =
     ∙ last_line c.in_ok-rest.rest.now c.first_len-end.result c.first_len-end.ensures c.if-end-rest.false
 
 pub returns-else-end-rest-clause-goes : goal.returns-else-end-rest-clause-goes
-returns-else-end-rest-clause-goes c = record { on = λ finite. (tt, tt, omega (arith, ap length (returns-else-end-rest-clause-steps c))); keeps = tt; rests = λ finite. tt }
+returns-else-end-rest-clause-goes c = record {
+  on = λ finite. (tt, tt, omega (arith, ap length (returns-else-end-rest-clause-steps c)));
+  keeps = tt;
+  rests = λ finite. tt;
+}

@@ -6,5 +6,9 @@ pub returns : goal.returns
 returns c =
     let found = c.calm_before.ensures in
     let r : CalmTo c.args.octets.now c.calm_before.result.0 c.calm_before.result.1 =
-    calm_to {at = 0} (λ k. (c.type_inv.octets k).fits) (record { within = omega arith; line = refl; marks = c.requires }) found.count found.digits (omega arith) in
+    calm_to {at = 0} (λ k. (c.type_inv.octets k).fits) (record {
+      within = omega arith;
+      line = refl;
+      marks = c.requires;
+    }) found.count found.digits (omega arith) in
     record { within = r.within; line = r.line; short = omega (arith, found.count, lowest_few c.args.octets.now c.args.self c.requires, c.requires.few) }

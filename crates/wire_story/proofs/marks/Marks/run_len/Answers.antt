@@ -4,7 +4,11 @@ use Rattle.wire_story.proofs.marks.Marks.run_len.Goals as goal
 
 pub loop-left-init : goal.loop-left-init
 loop-left-init c =
-    calm_to {at = 0} (λ k. (c.type_inv.octets k).fits) (record { within = omega arith; line = refl; marks = c.requires }) c.calm_before-first.ensures.count c.calm_before-first.ensures.digits (omega arith)
+    calm_to {at = 0} (λ k. (c.type_inv.octets k).fits) (record {
+      within = omega arith;
+      line = refl;
+      marks = c.requires;
+    }) c.calm_before-first.ensures.count c.calm_before-first.ensures.digits (omega arith)
 
 pub loop-left-preserved : goal.loop-left-preserved
 loop-left-preserved c =

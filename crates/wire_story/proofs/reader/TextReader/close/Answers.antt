@@ -1,7 +1,6 @@
 use Rattle.std.proofs.Common.{subst, sym, ◌∙◌, arith}
 use Rattle.wire_story.specs.Format.Texts.{Holds}
-use Rattle.wire_story.proofs.Lives.{dies_at_end, lines_of}
-use Rattle.wire_story.proofs.Pieces.{stood}
+use Rattle.wire_story.proofs.{Lives.dies_at_end, Lives.lines_of, Pieces.stood}
 use Rattle.wire_story.proofs.reader.TextReader.close.Goals as goal
 
 pub returns-then-unwrap-eq0-clause-text : goal.returns-then-unwrap-eq0-clause-text
@@ -10,4 +9,5 @@ returns-then-unwrap-eq0-clause-text c octets stands =
 
 pub returns-clause-refused : goal.returns-clause-refused
 returns-clause-refused c octets stands =
-    dies_at_end octets c.unwrap.result (stood c.args.self.now c.unwrap.result octets (sym c.self.view_is ∙ c.unwrap.ensures) stands) (omega (arith, c.if-unwrap-eq0.false))
+    dies_at_end octets c.unwrap.result (stood c.args.self.now c.unwrap.result octets (sym c.self.view_is ∙ c.unwrap.ensures) stands)
+    (omega (arith, c.if-unwrap-eq0.false))

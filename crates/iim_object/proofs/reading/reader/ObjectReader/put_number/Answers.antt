@@ -1,6 +1,5 @@
 use Rattle.iim_object.proofs.Words.{◌∙◌, sym, same_Some, NumberRead}
-use Rattle.iim_object.proofs.Steps.{leads_on}
-use Rattle.iim_object.proofs.Staying.{number_state}
+use Rattle.iim_object.proofs.{Steps.leads_on, Staying.number_state}
 use Rattle.iim_object.proofs.reading.reader.ObjectReader.put_number.Goals as goal
 
 pub invariant_of-self : goal.invariant_of-self

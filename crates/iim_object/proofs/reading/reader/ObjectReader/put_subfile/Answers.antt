@@ -1,6 +1,5 @@
 use Rattle.iim_object.proofs.Words.{◌∙◌, sym, arith, same_Some, SubfileBegun}
-use Rattle.iim_object.proofs.Steps.{leads_on}
-use Rattle.iim_object.proofs.Staying.{room_for, subfile_state}
+use Rattle.iim_object.proofs.{Steps.leads_on, Staying.room_for, Staying.subfile_state}
 use Rattle.iim_object.proofs.reading.reader.ObjectReader.put_subfile.Goals as goal
 
 pub add_subfile-requires : goal.add_subfile-requires

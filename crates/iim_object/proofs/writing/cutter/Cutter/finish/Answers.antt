@@ -1,7 +1,5 @@
 use Rattle.iim_object.proofs.Words.{◌++◌, sym, ◌∙◌, arith, length-append, canonical_dataset, number_dataset, subfile_dataset, total_of, finish_cause, writing_of, dataset_length}
-use Rattle.iim_object.proofs.Outputs.{puts_more, cuts_later, cuts_more}
-use Rattle.iim_object.proofs.PlanParts.{number_length}
-use Rattle.iim_object.proofs.Rooms.{room_halted}
+use Rattle.iim_object.proofs.{Outputs.puts_more, Outputs.cuts_later, Outputs.cuts_more, PlanParts.number_length, Rooms.room_halted}
 use Rattle.iim_object.proofs.Written.{finished, unfinished, if_none, may_finish}
 use Rattle.iim_object.proofs.writing.cutter.Cutter.finish.Goals as goal
 
@@ -12,7 +10,8 @@ returns-in-Err-clause-broke g c =
     let last = canonical_dataset (number_dataset 9 10 (total_of (writing_of old))) in
     let first = (rw c.as_slice.ensures at c.in-Err.ensures.err) in
     if_none (finish_cause (writing_of old)) _
-    (unfinished g.W.Target.state old c.put_dataset.new.self c.objects_are_cut_one_way.ensures (cuts_more g.W.Target.state old.output c.put_dataset.new.self text last first))
+    (unfinished g.W.Target.state old c.put_dataset.new.self c.objects_are_cut_one_way.ensures
+    (cuts_more g.W.Target.state old.output c.put_dataset.new.self text last first))
 
 pub returns-in-Ok-put_number-clause-ok : goal.returns-in-Ok-put_number-clause-ok
 returns-in-Ok-put_number-clause-ok g c =
@@ -21,7 +20,8 @@ returns-in-Ok-put_number-clause-ok g c =
     let last = canonical_dataset (number_dataset 9 10 (total_of (writing_of old))) in
     let first = (rw c.as_slice.ensures at c.in-Ok.ensures.ok) in
     let second = (rw c.total-total.ensures at c.in-Ok-put_number.ensures.ok) in
-    finished g.W.Target.state old c.put_number.new.self (puts_more g.W.Target.state old.output c.put_dataset.new.self c.put_number.new.self text last c.texts_join.ensures first second)
+    finished g.W.Target.state old c.put_number.new.self
+    (puts_more g.W.Target.state old.output c.put_dataset.new.self c.put_number.new.self text last c.texts_join.ensures first second)
 
 pub returns-in-Err-put_number-clause-broke : goal.returns-in-Err-put_number-clause-broke
 returns-in-Err-put_number-clause-broke g c =
@@ -31,7 +31,8 @@ returns-in-Err-put_number-clause-broke g c =
     let first = (rw c.as_slice.ensures at c.in-Ok.ensures.ok) in
     let second = (rw c.total-total.ensures at c.in-Err-put_number.ensures.err) in
     if_none (finish_cause (writing_of old)) _
-    (unfinished g.W.Target.state old c.put_number.new.self c.objects_are_cut_one_way.ensures (cuts_later g.W.Target.state old.output c.put_dataset.new.self c.put_number.new.self text last c.texts_join.ensures first second))
+    (unfinished g.W.Target.state old c.put_number.new.self c.objects_are_cut_one_way.ensures
+    (cuts_later g.W.Target.state old.output c.put_dataset.new.self c.put_number.new.self text last c.texts_join.ensures first second))
 
 pub returns-in-Err-clause-room : goal.returns-in-Err-clause-room
 returns-in-Err-clause-room g c =

@@ -10,7 +10,8 @@ loop-at-init g c = record {
   within = omega arith;
   room = c.requires;
   same_room = refl;
-  lengthened = goes_nowhere g.W.Target.state (writing_of c.args.self.now) c.texts_join.ensures (may_write (writing_of c.args.self.now) (length c.args.octets.now) (sym c.write_cause.ensures ∙ c.in_default.is));
+  lengthened = goes_nowhere g.W.Target.state (writing_of c.args.self.now) c.texts_join.ensures
+      (may_write (writing_of c.args.self.now) (length c.args.octets.now) (sym c.write_cause.ensures ∙ c.in_default.is));
 }
 
 pub loop-at-preserved : goal.loop-at-preserved
@@ -22,7 +23,9 @@ loop-at-preserved g c =
       within = omega (arith, ap length (take_rest xs at), length-drop at xs, c.in-Ok.ensures.ok.1, c.loop-at.invariant.within);
       room = c.take_front.ensures.room;
       same_room = c.take_front.ensures.same_room ∙ c.loop-at.invariant.same_room;
-      lengthened = rw (take-add at c.in-Ok.taken xs) (leads_on g.W.Target.state (writing_of c.args.self.now) (writing_of c.loop-at.self) (writing_of c.take_front.new.self) (take at xs) (take c.in-Ok.taken (drop at xs))
+      lengthened = rw (take-add at c.in-Ok.taken xs)
+          (leads_on g.W.Target.state (writing_of c.args.self.now) (writing_of c.loop-at.self) (writing_of c.take_front.new.self) (take at xs)
+          (take c.in-Ok.taken (drop at xs))
           c.texts_join.ensures c.loop-at.invariant.lengthened more);
     }
 
@@ -34,4 +37,5 @@ returns-in-Err-clause-broke g c =
     let here = (rw (take_rest xs at) at c.in-Err.ensures.err.1) in
     if_none (write_cause a (length xs)) _
     (rw (take-append-drop at xs) at
-    (breaks_later g.W.Target.state a (writing_of c.loop-at.self) (writing_of c.take_front.new.self) (take at xs) (drop at xs) c.texts_join.ensures c.loop-at.invariant.lengthened here))
+    (breaks_later g.W.Target.state a (writing_of c.loop-at.self) (writing_of c.take_front.new.self) (take at xs) (drop at xs) c.texts_join.ensures
+    c.loop-at.invariant.lengthened here))

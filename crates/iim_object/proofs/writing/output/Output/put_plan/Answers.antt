@@ -12,4 +12,5 @@ returns-in-Err-put_number-clause-err g c =
 pub returns-clause-err : goal.returns-clause-err
 returns-clause-err g c =
     let first = (rw c.mode_of.ensures at c.in-Ok.ensures.ok) in
-    on_err c.put_size.result _ _ (λ q. cuts_later _ _ _ _ _ _ c.texts_join.ensures first (cuts_later _ _ _ _ _ _ c.texts_join.ensures c.in-Ok-put_number.ensures.ok q)) c.put_size.ensures.err
+    on_err c.put_size.result _ _ (λ q. cuts_later _ _ _ _ _ _ c.texts_join.ensures first
+    (cuts_later _ _ _ _ _ _ c.texts_join.ensures c.in-Ok-put_number.ensures.ok q)) c.put_size.ensures.err

@@ -6,11 +6,13 @@ use Rattle.iim_places.proofs.ticket.fields.TicketFieldsIterator.next.Goals as go
 
 pub returns-in_err-field-clause-steps : goal.returns-in_err-field-clause-steps
 returns-in_err-field-clause-steps c =
-    rw c.from_residual.ensures (let none = sym c.self.view_is ∙ none_held c.self.inside.octets.now c.self.inside.holds c.in_err-field.ensures.none in (none, none))
+    rw c.from_residual.ensures (let none = sym c.self.view_is
+    ∙ none_held c.self.inside.octets.now c.self.inside.holds c.in_err-field.ensures.none in (none, none))
 
 pub walk_over-requires : goal.walk_over-requires
 walk_over-requires c =
-    rest_held c.self.inside.octets.now c.in_ok-field.octets.now (dataset c.in_ok-field.field.0 c.in_ok-field.field.1 c.in_ok-field.field.2.now) c.self.inside.holds c.in_ok-field.ensures.fits c.in_ok-field.ensures.parts
+    rest_held c.self.inside.octets.now c.in_ok-field.octets.now (dataset c.in_ok-field.field.0 c.in_ok-field.field.1 c.in_ok-field.field.2.now)
+    c.self.inside.holds c.in_ok-field.ensures.fits c.in_ok-field.ensures.parts
 
 pub returns-clause-steps : goal.returns-clause-steps
 returns-clause-steps c =
