@@ -1,8 +1,5 @@
 //! What the commands leave where devices are interrupted, and where an output takes nothing more.
 
-ghost use Rattle.std.specs.Prelude.{◌≡◌};
-ghost use Rattle.wire_story.specs.States.Reading.{stops_of};
-
 use crate::outcome::{Trouble, right, right_at};
 use crate::told::Told;
 use iim_listing::check::Check;
@@ -15,7 +12,6 @@ use iim_unpack::Intake;
 use std::alloc::Global;
 use std::io;
 use trials::{TrialReader, TrialWriter, Trouble as DeviceTrouble};
-use wire_story::LineWriter;
 use worked::STORY;
 
 /// The script of the smallest envelope, which has 114 octets.
@@ -101,21 +97,18 @@ fn is_checked<const N: usize>(
 /// What `story` of the envelope answers.
 fn told(
     alloc: Global,
-    lines: &mut LineWriter<TrialWriter<256>>,
+    output: &mut TrialWriter<256>,
     errors: &mut TrialWriter<256>,
-) -> Result<u8, CommandFault>
-    requires { stops_of lines.old ≡ 0 }
-{
+) -> Result<u8, CommandFault> {
     let reader = TrialReader::new(STORY, CALM.0, CALM.1);
-    narrate(alloc, &mut Intake::new(reader), lines, errors)
+    narrate(alloc, &mut Intake::new(reader), output, errors)
 }
 
 /// Whether `story` of the envelope over devices answers and writes this.
 fn is_told(alloc: Global, output: Calls, errors: Calls, want: Want) -> bool {
-    let mut lines = LineWriter::new(writer(output));
+    let mut output = writer(output);
     let mut errors = writer(errors);
-    let answer = told(alloc, &mut lines, &mut errors);
-    let output = lines.into_writer();
+    let answer = told(alloc, &mut output, &mut errors);
     is_met(answer, output.octets(), errors.octets(), want)
 }
 

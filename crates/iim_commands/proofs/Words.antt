@@ -12,5 +12,5 @@ pub use Rattle.iim_output.specs.States.Holding.{HasPut, HoldsNothing, IsCutShort
 pub use Rattle.iim_output.specs.declared.fault.CommandFault.{CommandFault}
 pub use Rattle.iim_pack_script.specs.Format.{Answered, Asked, IsScriptOf, IsUnanswered, ScriptContent, asked}
 pub use Rattle.iim_unpack.specs.States.Intakes.{in_line}
-pub use Rattle.std.proofs.Common.{Err, IfErr, IfOk, List, None, Ok, OnErr, Option, Result, Some, [], ap, append-nil, append_assoc, arith, drop, false, inl, inr, length, length-append, refl, rules, subst, subst₂, sym, take, true, ℕ, ℤ, ◌++◌, ◌+◌, ◌<◌, ◌∙◌, ◌∷◌, ◌≡◌, ◌≤◌, ◌⊎◌}
+pub use Rattle.std.proofs.Common.{Err, IfErr, IfOk, List, None, Ok, OnErr, Option, Result, Some, [], ap, append-nil, append_assoc, arith, drop, false, inl, inr, length, length-append, refl, rules, subst, sym, take, true, ℕ, ℤ, ◌++◌, ◌+◌, ◌<◌, ◌∙◌, ◌∷◌, ◌≡◌, ◌≤◌, ◌⊎◌}
 pub use Rattle.std.proofs.lemmas.List.{take-append-drop, take_all}

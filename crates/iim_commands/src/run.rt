@@ -19,7 +19,6 @@ use iim_request::instant::Instant;
 use iim_request::request::{Job, Request};
 use iim_unpack::Intake;
 use std::alloc::Global;
-use wire_story::LineWriter;
 
 /// Tells a fault. The status is the same whether the line of it could be written or not.
 fn complain<E: Target>(errors: &mut E, fault: CommandFault) -> u8
@@ -74,11 +73,11 @@ fn tell<R: Source + Drop, W: Target, E: Target>(
         (devices (with_held held (R.state last)) (W.state result.1) (E.state result.2)) result.0 }
 {
     let mut intake = Intake::new(reader);
-    let mut lines = LineWriter::new(output);
+    let mut output = output;
     let mut errors = errors;
-    let answer = narrate(alloc, &mut intake, &mut lines, &mut errors);
+    let answer = narrate(alloc, &mut intake, &mut output, &mut errors);
     let status = finish(&mut errors, answer);
-    (status, lines.into_writer(), errors)
+    (status, output, errors)
 }
 
 /// Reports the audit of a reader: the status, and both writers.

@@ -6,7 +6,8 @@ use Rattle.std.proofs.Math.Seq.{take-append_seam}
 use Rattle.std.proofs.lemmas.List.{map-append}
 use Rattle.iim_dataset.specs.{Laws.OctetsAreHandedOnOneWay, Laws.EventsTellTheDatasets, States.Reading.handed_on, States.Reading.HandsOn, Steps.appends_joined}
 use Rattle.iim_dataset.specs.Format.Datasets.{count_octets, InTag}
-use Rattle.iim_dataset.proofs.{Each.all_append, Each.all_back, Each.all_front, Lists.some_none}
+use Rattle.iim_dataset.proofs.Each.{all_append, all_back, all_front}
+use Rattle.iim_dataset.proofs.Lists.{some_none}
 use Rattle.wire_message.specs.{Laws.TextsStandBetweenStxAndEtx, Format.Messages.text_so_far}
 use Rattle.wire_message.specs.declared.place.Place.TheVariants.{AfterEnd}
 use Rattle.wire_story.specs.{Format.Texts.delivered, Laws.LinesAreJoinedByLineFeeds, Laws.TextsAreDeliveredAsLines}
@@ -16,7 +17,8 @@ use Rattle.iim_output.proofs.Holding.{puts_of_stuck}
 use Rattle.iim_places.specs.{Format.Admitted.object_of, Format.Open.object_so_far}
 use Rattle.iim_places.proofs.Answering.{leads_to, reads_envelope}
 use Rattle.iim_listing.specs.Format.{line_of, AreToldWith, IsTextIn, LeavesText, Narrated, stories, story_of}
-use Rattle.iim_listing.specs.{Laws.EnvelopesAreDeliveredAsLines, Steps.HoldsLines, Steps.IsSettled, Steps.IsUnended, Steps.Stands}
+use Rattle.iim_listing.specs.Steps.{HoldsLines, IsSettled, IsUnended, Stands}
+use Rattle.iim_listing.specs.Laws.{EnvelopesAreDeliveredAsLines}
 use Rattle.iim_listing.proofs.Listings.{divided, missed_after, none_taken, taken_more, taken_then, texts_parts, whole}
 
 -- ---- what is delivered of an envelope

@@ -13,7 +13,8 @@ use Rattle.iim_unpack.proofs.Intakes.{fed_and_done, fed_and_faults, missed_open,
 use Rattle.iim_places.specs.declared.refusal.Cause.{Cause}
 use Rattle.iim_places.specs.declared.refusal.Cause.TheVariants.{Message, Truncated}
 use Rattle.wire_message.specs.declared.fault.MessageCause.TheVariants as messages
-use Rattle.iim_listing.specs.{Steps.IsOfFault, States.CanAskForMore, States.IsCutOff, States.IsHeldUp, States.IsUnheard}
+use Rattle.iim_listing.specs.States.{CanAskForMore, IsCutOff, IsHeldUp, IsUnheard}
+use Rattle.iim_listing.specs.Steps.{IsOfFault}
 use Rattle.iim_listing.specs.declared.coming.Next.{Next}
 
 delivered_of : (octets : List ℕ) (more : List StoryEvent) → Delivers [] octets more → IsDelivered octets more

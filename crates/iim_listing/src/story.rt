@@ -2,9 +2,7 @@
 
 ghost use Rattle.std.specs.Prelude.{◌≡◌, ◌<◌, ◌≤◌, None, Ok, Err, IfOk, IfErr};
 ghost use Rattle.iim_unpack.specs.States.Intakes.{in_line};
-ghost use Rattle.iim_listing.specs.Steps.{IsSettled, KeepsTargets, errors_of, output_of, TellsNext};
-ghost use Rattle.iim_listing.specs.Steps as narrators;
-ghost use Rattle.wire_story.specs.States.Reading.{device_of, stops_of};
+ghost use Rattle.iim_listing.specs.Steps.{IsSettled, KeepsTargets, errors_of, output_of, stops_of, TellsNext};
 ghost use Rattle.iim_listing.specs.Format.{IsUnnarrated, Narrated};
 ghost use Rattle.iim_places.specs.Format.Streams.{max_envelopes};
 ghost use Rattle.iim_unpack.specs.States.Unpacking.{limits_in};
@@ -21,7 +19,6 @@ use iim_output::lines::TOO_MANY;
 use iim_output::status::{ACCEPTED, REFUSED};
 use iim_unpack::{Intake, MAX_ENVELOPES, Unpacker};
 use std::alloc::Global;
-use wire_story::LineWriter;
 use wire_story::laws::story_laws;
 
 /// Tells what comes next, after `count` envelopes, and answers the status where it is the last.
@@ -72,7 +69,7 @@ fn tell_stories<R: Source, W: Target, E: Target>(
 ) -> Result<u8, CommandFault>
     requires alive { intake.old.failed ≡ None }
     requires settled { IsSettled narrator.old }
-    requires unbroken { narrators.stops_of narrator.old ≡ 0 }
+    requires unbroken { stops_of narrator.old ≡ 0 }
     ensures ok { IfOk result (Narrated (in_line R.state intake.old) (in_line R.state intake.new)
         (output_of W.state narrator.old) (output_of W.state narrator.new)
         (errors_of E.state narrator.old) (errors_of E.state narrator.new)) }
@@ -102,17 +99,14 @@ fn tell_stories<R: Source, W: Target, E: Target>(
 pub fn narrate<R: Source, W: Target, E: Target>(
     alloc: Global,
     intake: &mut Intake<R>,
-    output: &mut LineWriter<W>,
+    output: &mut W,
     errors: &mut E,
 ) -> Result<u8, CommandFault>
     requires alive { intake.old.failed ≡ None }
-    requires unbroken { stops_of output.old ≡ 0 }
-    ensures ok { IfOk result
-        (Narrated (in_line R.state intake.old) (in_line R.state intake.new) (device_of W.state output.old)
-        (device_of W.state output.new) (E.state errors.old) (E.state errors.new)) }
-    ensures err { IfErr result
-        (IsUnnarrated (in_line R.state intake.old) (in_line R.state intake.new) (device_of W.state output.old)
-        (device_of W.state output.new) (E.state errors.old) (E.state errors.new)) }
+    ensures ok { IfOk result (Narrated (in_line R.state intake.old) (in_line R.state intake.new)
+        (W.state output.old) (W.state output.new) (E.state errors.old) (E.state errors.new)) }
+    ensures err { IfErr result (IsUnnarrated (in_line R.state intake.old) (in_line R.state intake.new)
+        (W.state output.old) (W.state output.new) (E.state errors.old) (E.state errors.new)) }
     ensures leads { R.leads intake.old.reader intake.new.reader }
 {
     gifts_join();

@@ -1,4 +1,5 @@
-use Rattle.iim_commands.proofs.{Words.IfOk, Words.IfErr, Words.subst, Words.Device, Words.in_line, Words.Audited, Words.IsUnaudited, Runs.begun, Runs.ends}
+use Rattle.iim_commands.proofs.Words.{IfOk, IfErr, subst, Device, in_line, Audited, IsUnaudited}
+use Rattle.iim_commands.proofs.Runs.{begun, ends}
 use Rattle.iim_commands.proofs.run.review.Goals as goal
 
 pub returns : goal.returns

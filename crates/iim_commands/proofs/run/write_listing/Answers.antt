@@ -1,4 +1,5 @@
-use Rattle.iim_commands.proofs.{Words.IfOk, Words.IfErr, Words.subst, Words.Device, Words.in_line, Runs.begun, Runs.ends}
+use Rattle.iim_commands.proofs.Words.{IfOk, IfErr, subst, Device, in_line}
+use Rattle.iim_commands.proofs.Runs.{begun, ends}
 use Rattle.iim_listing.specs.Format.{WritesListing, FailsListing}
 use Rattle.iim_commands.proofs.run.write_listing.Goals as goal
 
