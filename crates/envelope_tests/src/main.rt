@@ -2,9 +2,9 @@
 //!
 //! First come the calls that take memory ([`memory`]); with the word `memory` these alone. Then come the unpacker and the audit with
 //! readers that fail and sinks that count, the packer and the commands over devices that fail, what was packed and is unpacked again,
-//! and laws. The file `stdout` has the lines that are wanted.
+//! and laws; and last the trials of the layers below (`layer_tests`). The file `stdout` has the lines that are wanted.
 //!
-//! All stand in one program, since each crate that is proved reads first all that it stands on, and since a test would be proved
+//! All stand in one program, since each program that is proved reads first all that it links, and since a test would be proved
 //! twice. What is asked of octets alone stands in `crates/vectors`, and what an operating system can do to the command in
 //! `tests/command`.
 #![tactic(auto)]
@@ -23,7 +23,7 @@ mod unpacking;
 use outcome::End;
 use std::alloc::Global;
 use std::env::Env;
-use std::io;
+use std::io::{self, Write};
 use std::process::ExitCode;
 use told::Told;
 
@@ -43,6 +43,16 @@ fn tell_trials(rt: &impl Print, told: &mut Told, alloc: Global) -> io::Result<()
     unpacking::tell(rt, told, alloc)
 }
 
+/// Prints the trials of the layers below.
+fn tell_layers(rt: &HostRuntime) -> Result<(), End> {
+    let lines = layer_tests::lines(rt.alloc());
+    let Some(text) = lines.text() else {
+        return Err(End::Refused);
+    };
+    rt.stdout().write_all(text)?;
+    Ok(())
+}
+
 /// Makes the calls that take memory, and then all trials, where these are asked for too.
 fn tell(rt: &HostRuntime) -> Result<(), End> {
     memory::tell_all(rt)?;
@@ -51,6 +61,7 @@ fn tell(rt: &HostRuntime) -> Result<(), End> {
     }
     let mut told = Told::new();
     tell_trials(rt, &mut told, rt.alloc())?;
+    tell_layers(rt)?;
     told.end()
 }
 

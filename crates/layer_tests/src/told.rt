@@ -6,7 +6,7 @@ use std::io::Write;
 
 /// The lines that the trials have told so far. Where memory is refused they have no text any more: no trial has to ask at each line.
 #[derive(Drop)]
-pub(crate) struct Told {
+pub struct Told {
     text: Vec<u8>,
     is_cut: bool,
 }
@@ -21,7 +21,7 @@ impl Told {
     }
 
     /// The text of the lines; None where memory was refused.
-    pub(crate) fn text(&self) -> Option<&[u8]> {
+    pub fn text(&self) -> Option<&[u8]> {
         if self.is_cut {
             return None;
         }
