@@ -3,6 +3,7 @@
 ghost use Rattle.std.specs.Prelude.{◌≢◌, length, OnOk};
 ghost use Rattle.iim_fields.specs.States.Standing.{IsBetween, IsInside, TakesHead};
 
+use crate::values::limits_of;
 use crate::views::{print_fields, print_views, print_walk};
 use iim_dataset::Head;
 use iim_fields::{Envelope, EnvelopeBuilder, EnvelopeId, FieldFault, Fields, Limits, RecordCheck};
@@ -283,12 +284,6 @@ fn add_datasets(text: &mut Answers, builder: &mut EnvelopeBuilder, octets: &[u8]
         rest = after;
     }
     text.line("added");
-}
-
-/// The limits that the next word tells, as `65536/512`.
-fn limits_of(words: &mut Words) -> Limits {
-    let (octets, fields) = words.pair();
-    Limits { octets, fields }
 }
 
 /// Prints the limit that so many octets and fields pass, or `none`.

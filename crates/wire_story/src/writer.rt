@@ -7,7 +7,7 @@ ghost use Rattle.wire_story.specs.Format.Texts.{IsLine, LineOctet, LineEnd};
 
 use crate::sink::StorySink;
 use iim_dataset::octets::LF;
-use iim_dataset::{IoFault, Stop, Target, put};
+use iim_dataset::{Stop, Target, put};
 
 /// A sink that writes the lines joined by LF to a target. It counts its stops up to the greatest number of 64 bits.
 #[derive(Drop)]
@@ -105,15 +105,5 @@ impl<W: Target> StorySink for LineWriter<W> {
         ensures patience { WithinInterruptionLimit 1 (device_of W.state self.old) (device_of W.state self.new) }
     {
         self.write(&[LF])
-    }
-}
-
-impl<W: Target> Target for LineWriter<W> {
-    ghost use Rattle.wire_story.specs.States.Reading.{device_of};
-
-    ghost state = { device_of W.state };
-
-    fn write(&mut self, piece: &[u8]) -> Result<usize, IoFault> {
-        self.writer.write(piece)
     }
 }
