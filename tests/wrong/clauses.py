@@ -36,6 +36,6 @@ def answered(part):
 
 
 def answers_alone(text, clause):
-    """A file of answers without those for clauses that say nothing in a copy."""
-    parts = re.split(r"\n(?=pub )", text)
-    return "\n".join(part for part in parts if not re.match(r"pub returns", part) or is_kept(clause, answered(part)))
+    """A file of answers without those for clauses that say nothing in a copy. What stands between answers stays: others may cite it."""
+    parts = re.split(r"\n(?=pub )|\n(?=\n\S)", text)
+    return "\n".join(part for part in parts if not re.match(r"\n?pub returns", part) or is_kept(clause, answered(part.lstrip("\n"))))

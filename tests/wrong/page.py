@@ -34,8 +34,8 @@ body is empty. Beside these there is one for each rule of the format that a body
 a count of nine octets, of a line's end, or of which cause is told first; and one for each pair of a body and a definition that
 could be wrong alike. Two wrong bodies are refused by one clause of one function only where they pass over different rules.
 
-`rt ci` tries two besides, `crates/CRATE/must-fail/`, by the toolchain's own judgement: one of a library and one of a program. Each takes a
-whole check of its crate, so these are crates of short checks. `tests/wrong_bodies --write` takes them from here.
+`rt ci` tries one besides, `crates/CRATE/must-fail/`, by the toolchain's own judgement. It takes a whole check of its crate, so this is a
+crate of a short check. `tests/wrong_bodies --write` takes it from here.
 """
 
 

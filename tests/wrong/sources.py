@@ -6,7 +6,7 @@ A file has many, each with lines in front of what it changes:
   # function: whose proof is asked, by its path below the crate
   # clause: what has to fail there, one of the forms below
   # means: a sentence, where the name doesn't say enough
-  # must-fail: yes         of a few: `rt ci` tries them too, each by a whole check of its crate
+  # must-fail: yes         of one or a few: `rt ci` tries them too, each by a whole check of its crate
   file: src/x.rt         what it changes: a text that stands there once, and what takes its place; each is one line,
   old: TEXT              and further pairs apply to what the earlier ones made
   new: TEXT
