@@ -99,8 +99,63 @@ def of_trait(text, at):
     return text[at:].startswith(" ") and bool(heads) and bool(re.search(r"\btrait\b|\bfor\b", heads[-1]))
 
 
+def own_place(texts, body):
+    """The function of a wrong body that is written whole: its file, its name, and how many before it have that name. None where it is not
+    there, or where more than one of its type can be meant."""
+    *above, name = body.function.split("::")
+    path, text = body.whole[0], texts[body.whole[0]]
+    named = [start for each, start, *_ in functions(text) if each == name]
+    owner = above[-1] if above and above[-1][0].isupper() else None
+    own = [at for at, start in enumerate(named) if owner is None and is_free(text, start) or owner and is_of(text, start, owner)]
+    return (path, name, own[0]) if len(own) == 1 else None
+
+
+def is_of(text, at, owner):
+    """Whether what stands there is of a type's own impl."""
+    heads = re.findall(r"^(?:unsafe )?impl\b.*", text[:at], re.M)
+    return not is_free(text, at) and bool(heads) and bool(re.match(rf"(?:unsafe )?impl(?:<[^{{]*?>)? {owner}\b(?!.* for )", heads[-1]))
+
+
+def parameters(function):
+    """The names of a function's parameters, `self` among them."""
+    first = function.index("(", function.index("fn "))
+    depth, parts, begun = 0, [], first + 1
+    for mark in re.finditer(r"->|[(\[<{>\]}),]", function[first:]):
+        at = first + mark.start()
+        if mark[0] in ("(", "[", "<", "{"):
+            depth += 1
+        elif mark[0] in (")", "]", ">", "}"):
+            depth -= 1
+        if depth == 0 or depth == 1 and mark[0] == ",":
+            parts.append(function[begun:at].strip())
+            begun = at + 1
+        if depth == 0:
+            break
+    return [re.sub(r"^(&(?:'\w+ )?)?(?:mut )?", "", part).split(":")[0].strip() for part in parts if part]
+
+
+def with_body(function, text):
+    """A function with its contract and another body, and without the words to the prover that stand before it."""
+    _, start, body, _ = functions(function)[0]
+    kept = [line for line in function[:start].splitlines(True) if not line.lstrip().startswith("#[tactic")]
+    return f"{''.join(kept)}{function[start:body]}{{ {text} }}"
+
+
+def called(function, path):
+    """A call of a function with its own parameters."""
+    *above, name = path.split("::")
+    words = parameters(function)
+    if words[:1] == ["self"]:
+        return f"self.{name}({', '.join(words[1:])})"
+    owner = f"{above[-1]}::" if above and above[-1][0].isupper() else ""
+    return f"{owner}{name}({', '.join(words)})"
+
+
 def places(texts, body):
     """The functions that a wrong body changes; None where it changes something outside of their bodies."""
+    if body.whole:
+        at = own_place(texts, body)
+        return at and {at}
     found, texts = set(), dict(texts)
     for path, old, new in body.pairs:
         at = place(path, texts[path], old, new) if path.startswith("src/") and texts[path].count(old) == 1 else None

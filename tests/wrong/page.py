@@ -13,8 +13,9 @@ the prover has to refuse. They stand in `crates/CRATE/wrong-bodies.edits`, and t
 `tests/wrong_bodies` judges each by itself. Many stand in one check, each in a copy of its function under another name, and the prover is
 asked for these copies alone: all else is taken at its word and without its body, since `rt ci` has proved it. A copy requires what its
 function requires, and keeps its loops and what is known at each turn of them; of what the function tells of its result the copy has to show
-the clause that the row names, and no other. A method of a trait's impl can't be copied and is changed itself, as is what several functions
-change; an edit of more than the bodies of functions stands in a copy of its crate. A wrong body passes where the prover does not prove its copy, and the goal that fails there is of the clause that its
+the clause that the row names, and no other. Some have their body written whole: it calls the right function, of which what the contract says
+is known, and errs in one case or hands on another answer. A method of a trait's impl can't be copied and is changed itself, as is what
+several functions change; an edit of more than the bodies of functions stands in a copy of its crate. A wrong body passes where the prover does not prove its copy, and the goal that fails there is of the clause that its
 row names. What is not plainly refused so is tried again alone, in the function itself with all of its contract, and fails where the
 function is proved, where another clause refuses it, and where only a name is gone that a written answer cites. *Weak* are those that pass
 since an answer that is written by hand for that clause no longer fits: that says less, as the clause may be true all the same. The run
@@ -23,7 +24,7 @@ those below it, the toolchain and the judge (`--anew` judges all).
 
 That a verdict stands on its clause can be seen: `tests/wrong_bodies CRATE --without NAME` judges the wrong bodies of the function of this
 one with that clause saying nothing, and names as accepted those that are held to it. `tests/wrong_bodies --right` judges the copies with
-their right bodies, each of which has to be proved.
+their right bodies, each of which has to be proved; for one that is written whole, a body that calls the right function and no more.
 
 A clause is `ensures` where a function has one clause without a name, or where the prover doesn't say which of them fails, `ensures x` where
 it is named `x`, `requires of f` where a call of `f` is no longer allowed, `loop` what holds at each turn of a loop, `invariant` that of the function's type, and `lemma x in F.antt` a lemma on

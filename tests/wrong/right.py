@@ -5,8 +5,14 @@ from wrong import code, rounds, sources
 
 
 def unchanged(body):
-    """A body that changes nothing where the wrong one changes something."""
-    return replace(body, pairs=[(path, old, old) for path, old, _ in body.pairs])
+    """A body that changes nothing where the wrong one changes something; one that calls the right function where the wrong one is written
+    whole."""
+    if not body.whole:
+        return replace(body, pairs=[(path, old, old) for path, old, _ in body.pairs])
+    path, name, before = code.own_place(sources.original(body), body)
+    text = sources.text_in(body.crate, path)
+    first, end = code.span(text, name, before)
+    return replace(body, whole=(path, code.called(text[first:end], body.function)))
 
 
 def copies(bodies):

@@ -26,10 +26,10 @@ def last(path):
 
 
 def shows_one(body, text):
-    """Whether a copy has to show one clause alone: not where its whole proof is written by hand, nor where its file lacks the sign of what
-    says nothing."""
+    """Whether a copy has to show one clause alone: not where its whole proof is written by hand and taken over, nor where its file lacks the
+    sign of what says nothing."""
     by_hand = f"proofs/{'/'.join(body.function.split('::'))}/Proof.antt"
-    return "◌≡◌" in text and not sources.is_there(body.crate, by_hand)
+    return "◌≡◌" in text and (bool(body.whole) or not sources.is_there(body.crate, by_hand))
 
 
 def copied(body, text, at, named):
@@ -44,12 +44,17 @@ def copied(body, text, at, named):
         if copy.count(old) != 1:
             return None
         copy = copy.replace(old, new)
+    if body.whole:
+        copy = code.with_body(copy, body.whole[1])
     copy = copy.replace(f"fn {name}", f"fn {named}", 1)
     return clauses.kept_alone(copy, body.clause) if shows_one(body, text) else copy
 
 
 def copied_proof(body, text, named):
-    """The files of proof of a function for its copy of that name, without answers for clauses that the copy lacks."""
+    """The files of proof of a function for its copy of that name, without answers for clauses that the copy lacks. A body that is written
+    whole has none: it stands on what the right function says."""
+    if body.whole:
+        return {}
     crate, path = f"{sources.TOP}/crates/{body.crate}", body.function.split("::")
     own, other = "/".join(["proofs", *path]), "/".join(["proofs", *path[:-1], named])
     files = os.listdir(f"{crate}/{own}") if os.path.isdir(f"{crate}/{own}") else []
@@ -69,7 +74,7 @@ class Round:
 
     def add(self, body, places):
         """Adds a wrong body that changes these functions, in a copy or in its function itself, and returns whether it fits."""
-        return self.add_copy(body, places) or self.add_itself(body, places)
+        return self.add_copy(body, places) or not body.whole and self.add_itself(body, places)
 
     def add_itself(self, body, places):
         """Adds a wrong body in its function itself, where none of the functions that it changes is taken."""
@@ -114,14 +119,17 @@ class Round:
         return list(dict.fromkeys(self.functions.values()))
 
     def is_plain(self):
-        """Whether it is of one wrong body, which stands in its function itself."""
-        return len(self.bodies) == 1 and self.asked() == [self.bodies[0].function]
+        """Whether it is of one wrong body, which stands in its function itself or calls that."""
+        return len(self.bodies) == 1 and (bool(self.bodies[0].whole) or self.asked() == [self.bodies[0].function])
 
 
 def alone(body):
-    """A round of one wrong body, in its function itself, with all of its contract."""
+    """A round of one wrong body, in its function itself, with all of its contract; in a copy where it calls that."""
     found = Round(body.crate)
-    found.add_itself(body, set())
+    if body.whole:
+        found.add_copy(body, code.places(sources.original(body), body))
+    else:
+        found.add_itself(body, set())
     return found
 
 

@@ -11,6 +11,11 @@ A file has many, each with lines in front of what it changes:
   old: TEXT              and further pairs apply to what the earlier ones made
   new: TEXT
 
+or, in the place of such pairs, a whole body, which can call the right function by its name:
+
+  file: src/x.rt
+  body: TEXT             what stands between its braces
+
 A clause is `ensures` (one without a name, or where the prover doesn't say which of them fails), `ensures NAME`, `requires of CALLEE`, `loop` (what holds at each turn),
 `invariant` (its type's), `ensures of std's METHOD`, or `lemma NAME in FILE.antt` (a lemma on which the function's proof stands).
 """
@@ -32,12 +37,14 @@ class Unread(Exception):
 
 @dataclass
 class Body:
-    """A wrong body: what it is, and its pairs of a file, the text there, and what takes its place."""
+    """A wrong body: what it is, and its pairs of a file, the text there, and what takes its place; or the file of its function and all that
+    stands in its braces."""
 
     crate: str
     file: str
     said: dict = field(default_factory=dict)
     pairs: list = field(default_factory=list)
+    whole: tuple = ()
 
     @property
     def name(self):
@@ -70,6 +77,8 @@ def read_line(body, line, changing):
         body.said[said[1]] = said[2]
     elif line.startswith("new:") and changing.get("old"):
         body.pairs.append((changing["file"], changing.pop("old"), line[4:].removeprefix(" ")))
+    elif line.startswith("body: ") and changing.get("file") and not body.whole:
+        body.whole = changing["file"], line[6:]
     elif said := re.fullmatch(r"(file|old): (.+)", line):
         changing[said[1]] = said[2]
     else:
@@ -88,7 +97,7 @@ def read(crate, path):
         if line:
             read_line(found[-1], line, changing)
     for body in found:
-        if not ("function" in body.said and body.pairs and FORMS.fullmatch(body.said.get("clause", ""))):
+        if not ("function" in body.said and bool(body.pairs) != bool(body.whole) and FORMS.fullmatch(body.said.get("clause", ""))):
             raise Unread(f"{body.file}: {body.name}: it lacks its function or what it changes, or its clause has no form that is known")
     return found
 
@@ -127,7 +136,7 @@ def is_there(crate, path):
 
 def original(body):
     """The texts of the files that a wrong body changes."""
-    return {path: text_in(body.crate, path) for path, *_ in body.pairs}
+    return {path: text_in(body.crate, path) for path, *_ in [*body.pairs, *filter(None, [body.whole])]}
 
 
 def applied(texts, body):
