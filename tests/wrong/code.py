@@ -135,10 +135,9 @@ def parameters(function):
 
 
 def with_body(function, text):
-    """A function with its contract and another body, and without the words to the prover that stand before it."""
-    _, start, body, _ = functions(function)[0]
-    kept = [line for line in function[:start].splitlines(True) if not line.lstrip().startswith("#[tactic")]
-    return f"{''.join(kept)}{function[start:body]}{{ {text} }}"
+    """A function with its attributes and its contract, and another body."""
+    _, _, body, _ = functions(function)[0]
+    return f"{function[:body]}{{ {text} }}"
 
 
 def called(function, path):
