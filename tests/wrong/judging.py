@@ -73,7 +73,7 @@ class Judging:
 
     def __init__(self, crates, jobs, passed, proofs):
         self.pool, self.running, self.waiting, self.crates = ThreadPoolExecutor(jobs), {}, [], crates
-        self.jobs, self.passed, self.proofs, self.apart = jobs, passed, proofs, []
+        self.jobs, self.passed, self.proofs, self.apart, self.has_begun = jobs, passed, proofs, [], False
         # (what takes longest begins first)
         for crate in sorted(crates, key=lambda crate: -crate.size()):
             self.waiting += [(crate, these) for these in crate.planned]
@@ -82,7 +82,8 @@ class Judging:
 
     def next(self):
         """What waits and can be checked together, the first of it first: rounds of crates that are proved. None while these are few and more
-        crates are still to be proved: what a check reads first, it would read for few."""
+        crates are still to be proved: what a check reads first, it would read for few. But the first check begins with those of the first
+        crate: until more are proved `rt ci` leaves processors idle."""
         most = min(TOGETHER, math.ceil(sum(len(these.bodies) for _, these in self.waiting) / self.jobs))
         found, count = [], 0
         for crate, these in self.waiting:
@@ -90,9 +91,11 @@ class Judging:
             if self.proofs.has(crate.name) and (not found or count + len(these.bodies) <= most and not apart):
                 found.append((crate, these))
                 count += len(these.bodies)
-        if count < most - LEAST and not self.proofs.ended and not any(these in self.apart for _, these in found):
+        least = most - LEAST if self.has_begun else LEAST
+        if count < least and not self.proofs.ended and not any(these in self.apart for _, these in found):
             return []
         self.waiting = [task for task in self.waiting if task not in found]
+        self.has_begun = True
         return found
 
     def begin(self):
