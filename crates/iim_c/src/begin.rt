@@ -10,7 +10,6 @@ use iim_unpack::{TicketFault, Unpacker};
 use std::alloc::Global;
 
 /// The unpacker at the place of a ticket, or of none: at the beginning of an envelope.
-#[tactic(auto, using(crate::proofs::Places::begun_none))]
 pub(crate) fn begin(
     alloc: Global,
     limits: Limits,

@@ -85,7 +85,6 @@ fn try_all(alloc: Global, limits: Limits, ticket: &[u8]) -> Result<Option<[u8; 3
 }
 
 /// The octets that come next, and the answer.
-#[tactic(auto, using(crate::proofs::Tried::nowhere))]
 fn next_of(alloc: Global, limits: Limits, ticket: &[u8]) -> ([u8; 32], IimAnswer)
     ensures { IsNext limits ticket.now result.0 result.1 }
 {

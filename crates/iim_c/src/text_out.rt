@@ -69,7 +69,6 @@ impl<'t> StorySink for TextOut<'t> {
     ghost joined = { writes_joined };
 
     #[inline(always)]
-    #[tactic(auto, using(wire_story::specs::Steps::octets_of_line))]
     fn text(&mut self, run: &[u8]) -> Result<(), Stop> {
         self.put(run);
         Ok(())

@@ -59,7 +59,6 @@ const MAX_STANDARD: u64 = 32_767;
 ///
 /// A count of two octets has its top bit clear. An extended count is 80 hex, how many octets follow (1 to 8), and the
 /// count in these, high octet first; leading zeros are accepted, and so is an extended count of few octets.
-#[tactic(auto, using(crate::proofs::Fronts::front_of_tag))]
 pub(crate) fn read_head(octets: &[u8]) -> Result<Option<(Head, usize)>, HeadFault>
     ensures found { IfOk result (λ found.
         MatchOption found (BeginsTag count_octets octets.now) (λ f. HasTag octets.now f.0 f.1)) }

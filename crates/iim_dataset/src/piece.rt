@@ -24,7 +24,6 @@ pub(crate) struct Front {
 }
 
 /// Between datasets.
-#[tactic(auto, using(crate::proofs::Fronts::begun_none))]
 pub(crate) fn start() -> DatasetPlace
     ensures place { result ≡ between }
     ensures is_place { IsPlace result }
@@ -144,7 +143,6 @@ fn take_data<D: DatasetSink>(
 
 /// The dataset that lies at the front whole, its count a standard one: its head, its data, and how many octets it has. One with an
 /// extended count comes as a head, data and an end.
-#[tactic(auto, using(crate::proofs::Stopping::standard_front))]
 #[inline(always)]
 fn whole_dataset(rest: &[u8]) -> Option<(Head, &[u8], usize)>
     ensures { IfSome result (λ front. WholeFront rest.now front.0 front.1.now front.2) }
@@ -169,7 +167,6 @@ fn whole_dataset(rest: &[u8]) -> Option<(Head, &[u8], usize)>
 
 /// Takes whole datasets at the front, as long as the sink takes them at once: up to the one that it called the last, and answers
 /// its last answer and how many octets they have; or up to the octet that it refuses.
-#[tactic(auto, using(crate::proofs::Fronts::begun_none))]
 #[inline(always)]
 fn take_wholes<D: DatasetSink>(rest: &[u8], sink: &mut D) -> Result<(Step, usize), usize>
     requires stands { D.stands sink.old None }

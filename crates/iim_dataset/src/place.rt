@@ -35,7 +35,6 @@ pub(crate) fn lengthen<const ROOM: usize>(held: &mut ArrayVec<u8, ROOM>, octets:
 }
 
 /// The first octets of two slices, joined: as many as a tag may have.
-#[tactic(auto, using(crate::proofs::HeldTags::room_is))]
 fn tag_room(held: &[u8], next: &[u8]) -> ArrayVec<u8, TAG_OCTETS>
     requires { length held.now ≤ HELD_OCTETS }
     ensures { result.items ≡ take TAG_OCTETS (held.now ++ next.now) }
@@ -48,7 +47,6 @@ fn tag_room(held: &[u8], next: &[u8]) -> ArrayVec<u8, TAG_OCTETS>
 }
 
 /// Reads the tag that begins with the held octets and continues with the next ones, as [`read_head`] does.
-#[tactic(auto, using(crate::proofs::HeldTags::first_have, crate::proofs::HeldTags::first_begin, crate::proofs::HeldTags::first_refuse))]
 pub(crate) fn read_tag(held: &[u8], next: &[u8]) -> Result<Option<(Head, usize)>, HeadFault>
     requires { length held.now ≤ HELD_OCTETS }
     ensures found { IfOk result (λ found.
@@ -71,7 +69,6 @@ fn begins_tag(octets: &[u8]) -> bool
 }
 
 /// Whether some octets of data are to come, no more than a tag counts: each count of 64 bits is one that a tag can tell.
-#[tactic(auto, using(crate::proofs::Canonical::inside))]
 fn is_inside(head: Head, left: u64) -> bool
     ensures { IsTrue result ↔ IsPlace (DatasetPlace.Inside head left) }
 {

@@ -34,7 +34,6 @@ ghost use Rattle.iim_dataset.specs.States.Reading.{LeadsTo, between, named_by, t
 
 impl HeadReader {
     /// The reader of a stream of which no octet has come.
-    #[tactic(auto, using(crate::proofs::Places::begins))]
     pub fn new() -> HeadReader
         ensures takes_calls { TakesCalls result }
         ensures between { result.place ≡ between }

@@ -41,7 +41,6 @@ pub fn is_plain(octet: u8) -> bool
 }
 
 /// Whether the first 16 octets stand for themselves.
-#[tactic(auto, using(crate::proofs::PlainLanes::plain_first))]
 #[inline(always)]
 fn are_plain_16(octets: &[u8]) -> bool
     requires { 16 ≤ length octets.now }
@@ -54,7 +53,6 @@ fn are_plain_16(octets: &[u8]) -> bool
 }
 
 /// How many octets stand for themselves before the first sixteen of which one doesn't, by sixteen at a time.
-#[tactic(auto, using(crate::proofs::PlainLanes::more_plain, std::proofs::lemmas::List::take_rest))]
 fn plain_blocks(octets: &[u8]) -> usize
     ensures within { result ≤ length octets.now }
     ensures plain { list_all is_plain (take result octets.now) ≡ true }

@@ -51,7 +51,6 @@ impl RecordPlace {
 
     /// Takes a whole dataset that may stand next, where none is begun; or changes nothing.
     #[inline(always)]
-    #[tactic(auto, using(crate::proofs::Wholes::first_fails, crate::proofs::Wholes::neither_fails))]
     fn whole(&mut self, head: Head, octets: &[u8]) -> bool
         requires { head.count ≡ length octets.now }
         ensures exactly { result ≡ is_none (place_fault self.old head octets.now) }

@@ -46,7 +46,6 @@ impl Envelope {
     }
 
     /// How many octets the datasets have together, and how many they are.
-    #[tactic(auto, using(crate::proofs::Stand::totals))]
     pub(crate) fn totals(&self) -> (u64, u64)
         ensures { result ≡ (length (joined self.now), length self.now) }
     {
@@ -126,7 +125,6 @@ impl Envelope {
     }
 
     /// 1:00 Model Version.
-    #[tactic(auto, using(crate::proofs::RowsMet::first_of_one))]
     pub fn model_version(&self) -> &[u8]
         ensures { first_data 1 0 self.now ≡ Some result.now }
     {
@@ -134,7 +132,6 @@ impl Envelope {
     }
 
     /// 1:22 File Format Version.
-    #[tactic(auto, using(crate::proofs::RowsMet::first_of_one))]
     pub fn format_version(&self) -> &[u8]
         ensures { first_data 1 22 self.now ≡ Some result.now }
     {
@@ -142,7 +139,6 @@ impl Envelope {
     }
 
     /// 2:00 Record Version, of the Application Record.
-    #[tactic(auto, using(crate::proofs::RowsMet::first_of_two))]
     pub fn record_version(&self) -> &[u8]
         ensures { first_data 2 0 self.now ≡ Some result.now }
     {

@@ -38,7 +38,6 @@ impl<'a> EnvelopeRef<'a> {
     ghost use Rattle.iim_tables.specs.Format.Rows.{Meets};
 
     /// All datasets, in order: record, number and data of each.
-    #[tactic(auto, using(crate::proofs::Entries::sound))]
     pub fn fields(&self) -> FieldIter<'a>
         ensures fields { rest_of result ≡ self.now }
         ensures envelope { IsEnvelope self.now }
@@ -66,7 +65,6 @@ impl<'a> EnvelopeRef<'a> {
     }
 
     /// The data of the first dataset with these numbers, one that each envelope has.
-    #[tactic(auto, using(crate::proofs::RowsMet::found))]
     pub(crate) fn mandatory(&self, rec: u8, set: u8) -> &'a [u8]
         requires { (ds : List Dataset) → IsEnvelope ds → IsTrue (is_some (first_data rec set ds)) }
         ensures data { first_data rec set self.now ≡ Some result.now }
@@ -78,7 +76,6 @@ impl<'a> EnvelopeRef<'a> {
     }
 
     /// 1:30 Service Identifier, of the Envelope Record.
-    #[tactic(auto, using(crate::proofs::RowsMet::first_of_one, crate::proofs::RowsMet::service_fits))]
     pub fn service(&self) -> &'a [u8]
         ensures data { first_data 1 30 self.now ≡ Some result.now }
         ensures fits { length result.now ≤ 10 }
@@ -87,7 +84,6 @@ impl<'a> EnvelopeRef<'a> {
     }
 
     /// 1:40 Envelope Number: eight digits.
-    #[tactic(auto, using(crate::proofs::RowsMet::first_of_one, crate::proofs::RowsMet::number_fits))]
     pub fn number(&self) -> &'a [u8]
         ensures data { first_data 1 40 self.now ≡ Some result.now }
         ensures fits { length result.now ≡ 8 }
@@ -96,7 +92,6 @@ impl<'a> EnvelopeRef<'a> {
     }
 
     /// 1:70 Date Sent, as eight digits, CCYYMMDD.
-    #[tactic(auto, using(crate::proofs::RowsMet::first_of_one, crate::proofs::RowsMet::date_fits, crate::proofs::RowsMet::date_is))]
     pub fn date_sent_text(&self) -> &'a [u8]
         ensures data { first_data 1 70 self.now ≡ Some result.now }
         ensures fits { length result.now ≡ 8 }
@@ -115,7 +110,6 @@ impl<'a> EnvelopeRef<'a> {
     }
 
     /// The digit of 1:60 Envelope Priority, where it was sent: `1` is most urgent, `5` normal, `8` least urgent.
-    #[tactic(auto, using(crate::proofs::RowsMet::priority_is_one, crate::proofs::RowsMet::only_octet))]
     pub fn priority(&self) -> Option<u8>
         ensures { option_map (λ digit. digit ∷ []) result ≡ first_data 1 60 self.now }
     {

@@ -131,7 +131,6 @@ impl Fields {
 
     /// The record of the last head, which is the present one; 0 at the beginning of an envelope, and after a refusal.
     #[inline(always)]
-    #[tactic(auto, using(crate::proofs::Stand::section_in))]
     pub fn section(&self) -> u8
         ensures section { result ≡ section_of self.now }
         ensures after { (ds : List Dataset) → StandsAfter self.now ds → result ≡ section_after ds }
@@ -143,7 +142,6 @@ impl Fields {
 
     /// The head of the begun dataset; `None` between datasets, at the beginning of an envelope, and after a refusal.
     #[inline(always)]
-    #[tactic(auto, using(crate::proofs::Stand::begun_after, crate::proofs::Stand::begun_in))]
     pub fn begun_head(&self) -> Option<Head>
         ensures head { result ≡ begun_head_of self.now }
         ensures after { (ds : List Dataset) → StandsAfter self.now ds → result ≡ None }
@@ -154,7 +152,6 @@ impl Fields {
     }
 
     /// The octets that have come of the begun dataset. Those of a subfile do not pass here. The reader has not failed.
-    #[tactic(auto, using(crate::proofs::Stand::ends_within))]
     pub fn begun(&self) -> &[u8]
         requires { IsFailed self.now → ⊥ }
         ensures { result.now ≡ self.now.taken }
@@ -166,7 +163,6 @@ impl Fields {
     }
 
     /// The datasets that were kept, in order: record, number and data of each.
-    #[tactic(auto, using(crate::proofs::Entries::sound_holding))]
     pub fn kept(&self) -> FieldIter<'_>
         ensures { rest_of result ≡ self.now.kept }
     {

@@ -28,7 +28,6 @@ impl Model for NumberSet {
 impl NumberSet {
     /// No number is in it.
     #[inline(always)]
-    #[tactic(auto, using(crate::proofs::NumberSets::no_members))]
     pub(crate) fn new() -> NumberSet
         ensures { result ≡ replicate 256 false }
     {
@@ -44,7 +43,6 @@ impl NumberSet {
 
     /// Whether the number is in it.
     #[inline(always)]
-    #[tactic(auto, using(crate::proofs::NumberSets::bit_tested))]
     pub(crate) fn contains(&self, number: u8) -> bool
         ensures { result ≡ slice_index_or self.now number false }
     {
@@ -54,7 +52,6 @@ impl NumberSet {
 
     /// Adds a number.
     #[inline(always)]
-    #[tactic(auto, using(crate::proofs::NumberSets::bit_added))]
     pub(crate) fn insert(&mut self, number: u8)
         ensures { self.new ≡ slice_set self.old number true }
     {

@@ -46,7 +46,6 @@ fn missing_on(rec: u8, set: u8) -> FieldFault
 }
 
 /// The fault of an envelope without record 2.
-#[tactic(auto, using(crate::proofs::Table::no_application_fault))]
 fn no_application() -> Option<FieldFault>
     ensures { result ≡ missing_fault 2 (missing_of 2 (λ _. false)) }
 {
@@ -195,7 +194,6 @@ impl Order {
     /// Whether a record may begin: it follows the present one, which lacks nothing. Each record has an arm of its own, so that
     /// its mandatory numbers are constants there.
     #[inline(never)]
-    #[tactic(auto, using(crate::proofs::Table::mandatory_is))]
     fn may_begin(&self, rec: u8) -> bool
         ensures { result ≡ is_first rec (after self.now.rec) && is_none (missing_of self.now.rec (has_seen self.now)) }
     {
@@ -258,7 +256,6 @@ impl Order {
 
     /// Whether the head of a subfile may stand next, as `admits_more` and `admits_next` tell by its row.
     #[inline(always)]
-    #[tactic(auto, using(crate::proofs::Subfiles::subfile_admitted))]
     pub(crate) fn admits_subfile(&self, head: Head) -> bool
         requires { head.rec ≡ 8 }
         ensures { result ≡ is_none (head_fault self.now.rec (has_seen self.now) head) }

@@ -8,7 +8,6 @@ ghost use Rattle.iim_fields.specs.Format.Causes.{is_kept};
 use iim_tables::records::{APPLICATION, ENVELOPE, OBJECT, POST_OBJECT, PRE_OBJECT};
 
 /// The numbers of the datasets that a record must have, lowest first.
-#[tactic(auto, using(crate::proofs::Table::mandatory_is))]
 #[inline(always)]
 pub(crate) fn mandatory(rec: u8) -> &'static [u8]
     ensures { result.now ≡ mandatory rec }

@@ -66,7 +66,6 @@ impl Store {
 
     /// Where the octets of the kept datasets end, and those of the begun one begin.
     #[inline(always)]
-    #[tactic(auto, using(crate::proofs::Entries::ends_last))]
     fn end(&self) -> usize
         ensures { result ≡ ends_at 0 self.now.entries.items }
     {

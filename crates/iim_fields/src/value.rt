@@ -35,7 +35,6 @@ fn has_file_format(head: Head, octets: &[u8]) -> bool
 
 /// The first fault of a value.
 #[inline(always)]
-#[tactic(auto, using(crate::proofs::Table::file_format_length, crate::proofs::Table::admitted_length))]
 fn value_fault(head: Head, row: &Row, octets: &[u8]) -> Option<FieldFault>
     requires { row_of head.rec head.set ≡ Some row.now }
     ensures { result ≡ value_fault (data_of head octets.now) }
@@ -62,7 +61,6 @@ fn is_of_kind(kind: Kind, octets: &[u8]) -> bool
 
 /// Whether a value that is as long as its row allows has no fault for `value_fault` to tell.
 #[inline(always)]
-#[tactic(auto, using(crate::proofs::Table::file_format_length, crate::proofs::Table::fault_in_bounds))]
 pub(crate) fn is_value(head: Head, row: &Row, octets: &[u8]) -> bool
     requires row { row_of head.rec head.set ≡ Some row.now }
     requires bounds { IsInRange row.now.min row.now.max (length octets.now) }
@@ -104,7 +102,6 @@ fn number_told(head: Head, octets: &[u8]) -> Option<u64>
 
 /// The number that a complete value tells, or the first fault of the value.
 #[inline(always)]
-#[tactic(auto, using(crate::proofs::Table::size_length))]
 pub(crate) fn check_value(head: Head, row: &Row, octets: &[u8]) -> Result<Option<u64>, FieldFault>
     requires { row_of head.rec head.set ≡ Some row.now }
     ensures number { IfOk result (λ number. number ≡ number_told (data_of head octets.now)) }

@@ -69,7 +69,6 @@ impl<W: Target> Packer<W> {
     /// Refuses, in this order: `PastAnnounced` where the header and the least ending (ETX and EOT) pass the plan's bound;
     /// `OutOfMemory` where memory was refused; `Write` where a write failed. Nothing is written for the first two. At `Write` what is
     /// out, `written` octets, begins each packed form of the envelope, header and plan. The writer is handed back each time.
-    #[tactic(auto, using(crate::proofs::Orders::start_order))]
     pub fn start(
         alloc: Global,
         envelope: &Envelope,
@@ -113,7 +112,6 @@ impl<W: Target> Packer<W> {
     /// Refuses, in this order: `Failed` after a failed write; `BadTextOctet` where an octet may not stand in a line (CR and LF may
     /// not: `line_end` writes them); `PastAnnounced` where the object so far, these octets and the least ending pass the plan's
     /// bound; `Write` where a write failed. But for the last, nothing is written and nothing changes.
-    #[tactic(auto, using(crate::proofs::Orders::text_order))]
     pub fn text(&mut self, octets: &[u8]) -> Result<(), PackCause>
         ensures refused { IfSome (text_cause self.old octets.now)
             (λ cause. (result ≡ Err cause) × (self.new ≡ self.old)) }
@@ -140,7 +138,6 @@ impl<W: Target> Packer<W> {
     ///
     /// Refuses, in this order: `Failed` after a failed write; `PastAnnounced` where the object so far, these octets and the least
     /// ending pass the plan's bound; `Write` where a write failed. But for the last, nothing is written and nothing changes.
-    #[tactic(auto, using(crate::proofs::Orders::text_order))]
     pub fn known_text(&mut self, octets: &[u8]) -> Result<(), PackCause>
         requires { IsLine octets.now }
         ensures refused { IfSome (text_cause self.old octets.now)
@@ -174,7 +171,6 @@ impl<W: Target> Packer<W> {
     ///
     /// Refuses, in this order: `Failed` after a failed write; `PastAnnounced` where the object so far, the line end and the least
     /// ending pass the plan's bound; `Write` where a write failed. But for the last, nothing is written and nothing changes.
-    #[tactic(auto, using(crate::proofs::Orders::line_end_order))]
     pub fn line_end(&mut self) -> Result<(), PackCause>
         ensures refused { IfSome (line_end_cause self.old) (λ cause. (result ≡ Err cause) × (self.new ≡ self.old)) }
         ensures order { IsFirstOf (Against self.old.object.failed [] [] self.old.object.plan
@@ -204,7 +200,6 @@ impl<W: Target> Packer<W> {
     /// Refuses, in this order: `Failed` after a failed write; `BadTrailer` where the octets may be no trailer; `PastAnnounced` where the
     /// object with its ending (ETX, the trailer and EOT) passes the plan's bound; `ShortOfAnnounced` where it is below a known
     /// size; `Write` where a write failed. The packer is handed back, and but for the last nothing is written and nothing changes.
-    #[tactic(auto, using(crate::proofs::Orders::finish_order))]
     pub fn finish(self, trailer: &[u8]) -> Result<W, (Packer<W>, PackCause)>
         ensures refused { IfSome (finish_cause self trailer.now) (λ cause. result ≡ Err (self, cause)) }
         ensures order { IsFirstOf (Against self.object.failed [] trailer.now self.object.plan

@@ -61,7 +61,6 @@ fn given_back<W: Target>(packer: Packer<W>, cause: PackCause) -> StartFault<W>
 /// Refuses, in this order: `BadTrailer` where the octets may be no trailer; `PastAnnounced` where the object passes the plan's bound;
 /// `ShortOfAnnounced` where it is below a known size; `OutOfMemory` where memory was refused; `Write` where a write failed. Nothing is
 /// written but for the last: then what is out, `written` octets, begins the packed form. The writer is handed back each time.
-#[tactic(auto, using(crate::proofs::Orders::pack_order))]
 pub fn pack<W: Target>(
     alloc: Global,
     envelope: &Envelope,

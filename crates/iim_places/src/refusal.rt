@@ -74,7 +74,6 @@ impl Cause {
     pub const SINK: Cause = Cause::Message(MessageCause::Sink);
 
     /// The number, as it is printed.
-    #[tactic(auto, using(crate::proofs::Lowest::field_number, crate::proofs::Lowest::size_number, crate::proofs::Lowest::message_number))]
     pub fn number(self) -> u8
         ensures { result ≡ cause_number self }
     {

@@ -17,7 +17,6 @@ pub(crate) fn before_first(octets: &[u8], octet: u8) -> usize
 }
 
 /// What stands before the first of this octet, and what after it. None where there is none.
-#[tactic(auto, using(crate::proofs::Cuts::has_none))]
 pub(crate) fn cut_at(octets: &[u8], octet: u8) -> Option<(&[u8], &[u8])>
     ensures found { IfSome result (λ parts. HasNo octet parts.0.now
         × (octets.now ≡ parts.0.now ++ octet ∷ parts.1.now)) }

@@ -27,7 +27,6 @@ fn without_returns(ended: &[u8]) -> &[u8]
 }
 
 /// The first line of a text, and what follows its end; None where the text is one line.
-#[tactic(auto, using(crate::proofs::Next::split_one))]
 pub fn split_text(text: &[u8]) -> Option<(&[u8], &[u8])>
     ensures more { IfSome result (λ parts. (lines : List (List ℕ)) → IsText text.now lines
         → (rest : List (List ℕ)) × (lines ≡ parts.0.now ∷ rest) × IsText parts.1.now rest) }

@@ -27,7 +27,6 @@ struct Words<'a> {
 }
 
 /// The words, with one SP between each two. None where there are fewer than five.
-#[tactic(auto, using(crate::proofs::Heads::no_more))]
 fn cut_words(octets: &[u8]) -> Option<Words<'_>>
     ensures some { IfSome result (λ w.
         AreWords octets.now (header_of w.source.now w.number.now w.priority.now w.category.now w.words.now [])

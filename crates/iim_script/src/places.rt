@@ -77,7 +77,6 @@ fn put_by_sixteen(line: &mut [u8], at: usize, octets: &[u8]) -> usize
 }
 
 /// Puts octets there as they are shown, and answers where they end. Most stand for themselves, and are copied at once.
-#[tactic(auto, using(crate::proofs::Put::all_plain))]
 #[inline(always)]
 fn put_shown(line: &mut [u8], at: usize, octets: &[u8]) -> usize
     requires { at + 4 * length octets.now ≤ length line.old }
@@ -105,7 +104,6 @@ fn put_after_space(line: &mut [u8], at: usize, octets: &[u8]) -> usize
 }
 
 /// Puts a number there in decimal digits, and answers where they end.
-#[tactic(auto, using(std::proofs::lemmas::Fmt::decimal_digit, crate::proofs::Put::two_digits, crate::proofs::Put::three_digits))]
 #[inline(always)]
 fn put_number(line: &mut [u8], at: usize, number: u8) -> usize
     requires { at + 3 ≤ length line.old }

@@ -36,7 +36,6 @@ pub(crate) fn plain_in_16(octets: &[u8]) -> bool
 }
 
 /// Whether the first 8 octets stand for themselves.
-#[tactic(auto, using(crate::proofs::Put::plain_part))]
 #[inline(always)]
 fn plain_in_8(octets: &[u8]) -> bool
     requires { 8 ≤ length octets.now }
@@ -46,7 +45,6 @@ fn plain_in_8(octets: &[u8]) -> bool
 }
 
 /// Whether the first 4 octets stand for themselves.
-#[tactic(auto, using(crate::proofs::Put::plain_part))]
 #[inline(always)]
 fn plain_in_4(octets: &[u8]) -> bool
     requires { 4 ≤ length octets.now }
@@ -56,7 +54,6 @@ fn plain_in_4(octets: &[u8]) -> bool
 }
 
 /// Whether all octets stand for themselves: by parts of 32, 16, 8 or 4, of which the last one reaches back into that before.
-#[tactic(auto, using(iim_tables::proofs::LaneLemmas::front_fails, iim_tables::proofs::LaneLemmas::more_pass))]
 #[inline(always)]
 pub(crate) fn are_plain(octets: &[u8]) -> bool
     ensures { result ≡ list_all is_plain octets.now }

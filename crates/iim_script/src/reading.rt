@@ -197,7 +197,6 @@ fn read_front<'a>(alloc: Global, limits: Limits, script: &'a [u8]) -> Result<Fro
 }
 
 /// What a script tells, its datasets within the limits; or its first fault by line.
-#[tactic(auto, using(wire_story::proofs::Collected::text_collected))]
 pub fn read_script<'a>(
     alloc: Global,
     limits: Limits,

@@ -68,7 +68,6 @@ fn first_octet(shown: &[u8]) -> Option<(u8, &[u8])>
 }
 
 /// The octets that are shown. None where a backslash begins no escape.
-#[tactic(auto, using(crate::proofs::Texts::onto_end, crate::proofs::Texts::onto_none, crate::proofs::Texts::onto_step))]
 pub(crate) fn unshown(alloc: Global, shown: &[u8]) -> Result<Option<Vec<u8>>, AllocError>
     ensures some { IfOk result (λ told. IfSome told (λ octets. TellsOctets shown.now octets.items)) }
     ensures none { IfOk result (λ told. IfNone told ((octets : List ℕ) → TellsOctets shown.now octets → ⊥)) }

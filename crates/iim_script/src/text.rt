@@ -92,7 +92,6 @@ fn feeds_in_block(block: &[u8]) -> Option<usize>
 }
 
 /// How many LF stand among octets each of which is one, or may stand in a line.
-#[tactic(auto, using(crate::proofs::Plains::plain_all, std::proofs::lemmas::List::take_rest))]
 fn feeds_in(octets: &[u8]) -> Option<usize>
     ensures { IfSome result (λ count. IsTrue (list_all is_plain octets.now)
         × (count ≡ count_by (λ b. b == lf) octets.now)) }
@@ -123,7 +122,6 @@ fn without_feed(story: &[u8]) -> &[u8]
 }
 
 /// The text of a story in which no octet stands that may stand neither in a line nor be an LF.
-#[tactic(auto, using(crate::proofs::Plains::tells_plain))]
 pub(crate) fn plain_text(story: &[u8]) -> Option<StoryText<'_>>
     requires { length story.now ≤ max_script }
     ensures { IfSome result (λ text. TellsText story.now text.octets.now text.packed_len) }

@@ -48,7 +48,6 @@ fn clock_of(hour: u16, minute: u16, second: u16) -> Time
 }
 
 /// How many seconds the clock is ahead of universal time.
-#[tactic(auto, using(std::proofs::lemmas::Int::ints))]
 fn offset_seconds(is_behind: bool, hour: u16, minute: u16) -> i32
     requires hour_in { hour < 24 }
     requires minute_in { minute < 60 }

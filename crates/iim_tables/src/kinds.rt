@@ -30,7 +30,6 @@ macro_rules! lanes_are_text {
 }
 
 /// Whether the first 16 octets are text.
-#[tactic(auto, using(crate::proofs::LaneLemmas::text_first))]
 #[inline(always)]
 fn text_in_16(least: u8, lines: bool, octets: &[u8]) -> bool
     requires { 16 ≤ length octets.now }
@@ -40,7 +39,6 @@ fn text_in_16(least: u8, lines: bool, octets: &[u8]) -> bool
 }
 
 /// Whether the first 8 octets are text.
-#[tactic(auto, using(crate::proofs::LaneLemmas::text_first))]
 #[inline(always)]
 fn text_in_8(least: u8, lines: bool, octets: &[u8]) -> bool
     requires { 8 ≤ length octets.now }
@@ -50,7 +48,6 @@ fn text_in_8(least: u8, lines: bool, octets: &[u8]) -> bool
 }
 
 /// Whether the first 4 octets are text.
-#[tactic(auto, using(crate::proofs::LaneLemmas::text_first))]
 #[inline(always)]
 fn text_in_4(least: u8, lines: bool, octets: &[u8]) -> bool
     requires { 4 ≤ length octets.now }
@@ -60,7 +57,6 @@ fn text_in_4(least: u8, lines: bool, octets: &[u8]) -> bool
 }
 
 /// Whether all octets are text: by parts of 16, 8 or 4, of which the last one reaches back into that before.
-#[tactic(auto, using(crate::proofs::LaneLemmas::front_fails, crate::proofs::LaneLemmas::more_pass))]
 #[inline(always)]
 fn are_text(least: u8, lines: bool, octets: &[u8]) -> bool
     ensures { result ≡ list_all (is_text least lines) octets.now }
@@ -85,14 +81,12 @@ fn are_text(least: u8, lines: bool, octets: &[u8]) -> bool
     octets.iter().all(|octet| is_text(least, lines, *octet))
 }
 
-#[tactic(auto, using(crate::proofs::LaneLemmas::all_graphic))]
 fn are_graphic(octets: &[u8]) -> bool
     ensures { result ≡ list_all is_graphic octets.now }
 {
     are_text(SP + 1, false, octets)
 }
 
-#[tactic(auto, using(crate::proofs::LaneLemmas::all_spaced))]
 #[inline(never)]
 fn are_spaced(octets: &[u8]) -> bool
     ensures { result ≡ list_all is_spaced octets.now }
@@ -100,7 +94,6 @@ fn are_spaced(octets: &[u8]) -> bool
     are_text(SP, false, octets)
 }
 
-#[tactic(auto, using(crate::proofs::LaneLemmas::all_spaced_or_line_ends))]
 fn are_spaced_or_line_ends(octets: &[u8]) -> bool
     ensures { result ≡ list_all is_spaced_or_line_end octets.now }
 {
@@ -114,7 +107,6 @@ fn are_letters(octets: &[u8]) -> bool
 }
 
 /// Whether the first 8 octets are digits.
-#[tactic(auto, using(crate::proofs::LaneLemmas::digits_first))]
 #[inline(always)]
 fn digits_in_8(octets: &[u8]) -> bool
     requires { 8 ≤ length octets.now }
@@ -124,7 +116,6 @@ fn digits_in_8(octets: &[u8]) -> bool
     (lanes.simd_ge(u8x8::splat(b'0')) & lanes.simd_le(u8x8::splat(b'9'))).all()
 }
 
-#[tactic(auto, using(std::proofs::lemmas::List::take_all))]
 pub(crate) fn are_digits(octets: &[u8]) -> bool
     ensures { result ≡ list_all is_digit octets.now }
 {

@@ -115,7 +115,6 @@ fn may_end(object: &ObjectReader, message: &MessageReader, number: u64) -> bool
 impl Parts {
     /// Whether the last dataset has ended.
     #[inline(always)]
-    #[tactic(auto, using(crate::proofs::Sequences::ended_by, crate::proofs::Sequences::unended_by))]
     pub(crate) fn has_ended(&self) -> bool
         ensures { result ≡ has_ended self.now }
     {

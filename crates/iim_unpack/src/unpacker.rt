@@ -42,7 +42,6 @@ pub enum Progress {
 }
 
 /// `feed` of the tags at a router, whose references stay what they are.
-#[tactic(auto, using(crate::proofs::Feeding::fails_for, crate::proofs::Feeding::has_advanced, crate::proofs::Feeding::same_room))]
 fn feed_router<'p, 's, S: StorySink>(
     reader: &mut HeadReader,
     piece: &[u8],

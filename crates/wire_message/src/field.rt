@@ -59,7 +59,6 @@ pub(crate) fn append_part<const ROOM: usize>(out: &mut ArrayVec<u8, ROOM>, part:
 }
 
 /// The length of the longest front of the class.
-#[tactic(auto, using(std::proofs::lemmas::List::Folds::list_all_more))]
 #[inline(always)]
 pub(crate) fn run_len(class: Class, octets: &[u8]) -> usize
     ensures within { result ≤ length octets.now }

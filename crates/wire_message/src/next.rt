@@ -73,7 +73,6 @@ pub(crate) fn begin_next(place: &mut Place, rest: &[u8]) -> bool
 }
 
 /// Ends the text, and begins the trailer, which an EOT that stands next ends at once. Answers how many octets it took.
-#[tactic(auto, using(crate::proofs::Goings::first_is))]
 #[inline(never)]
 pub(crate) fn end_text(place: &mut Place, rest: &[u8]) -> usize
     ensures few { result ≤ 1 }

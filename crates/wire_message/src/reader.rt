@@ -53,7 +53,6 @@ ghost use Rattle.wire_message.specs.States.Reading.{StandsAt, TakesPiece, Refuse
 
 impl MessageReader {
     /// The reader of an object of which no octet has come.
-    #[tactic(auto, using(crate::proofs::Readings::nothing_stands))]
     pub fn new() -> MessageReader
         ensures takes_calls { IsSome result }
         ensures stands { StandsAt result [] [] }
@@ -151,7 +150,6 @@ impl MessageReader {
     }
 
     /// Takes the end of the object. Refused as Unfinished, with `taken` 0, before EOT. The reader has failed then.
-    #[tactic(auto, using(crate::proofs::Readings::is_whole))]
     pub fn close(&mut self) -> Result<(), MessageFault>
         requires { IsSome self.old }
 

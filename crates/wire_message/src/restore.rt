@@ -188,7 +188,6 @@ fn after_end(place: &MessagePlace) -> Option<Place>
 }
 
 /// The one place that may be saved so.
-#[tactic(auto, using(crate::proofs::Saving::back))]
 fn candidate(place: &MessagePlace) -> Option<Place>
     ensures place { IfSome result IsPlace }
     ensures only { IsOnly result place.now }

@@ -14,7 +14,6 @@ use iim_dataset::octets::{EOT, LF, STX};
 use wire_story::TextReader;
 
 /// Takes the first octet of the gap, which ends the info.
-#[tactic(auto, using(crate::proofs::Goings::info_to_gap))]
 #[inline(never)]
 pub(crate) fn after_info(head: MessageHead, rest: &[u8]) -> Option<Place>
     requires place { IsPlace (Place.Info head) }
@@ -60,7 +59,6 @@ pub(crate) fn after_gap(head: MessageHead, count: u8, feed: bool, rest: &[u8]) -
 }
 
 /// Takes EOT, which ends the trailer.
-#[tactic(auto, using(crate::proofs::Goings::trailer_ends))]
 #[inline(never)]
 pub(crate) fn after_trailer(
     head: MessageHead,

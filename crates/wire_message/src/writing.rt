@@ -23,7 +23,6 @@ fn append_info(out: &mut ArrayVec<u8, 128>, info: &[u8])
 }
 
 /// The octets of a message from SOH to STX, with the gap CR LF and no filler.
-#[tactic(auto, using(crate::proofs::Packed::head_joined))]
 pub fn head_text(head: &MessageHead) -> ArrayVec<u8, 128>
     ensures octets { result.items ≡ packed_head head.now }
     ensures header { IsHeader head.now }

@@ -30,7 +30,6 @@ fn feeds_in_rest(octets: &[u8]) -> usize
 }
 
 /// How many line ends stand in lines that are joined by LF.
-#[tactic(auto, using(crate::proofs::Collected::next_feeds, crate::proofs::Collected::rest_feeds, crate::proofs::Collected::few_feeds))]
 fn line_ends(octets: &[u8]) -> usize
     ensures { result ≡ count_by (λ b. b == lf) octets.now }
 {
@@ -44,7 +43,6 @@ fn line_ends(octets: &[u8]) -> usize
 }
 
 /// The number of octets of the lines joined by CR LF, or None above the greatest size of an object.
-#[tactic(auto, using(crate::proofs::Collected::packed_len))]
 pub fn text_len(lines: &Lines) -> Option<u64>
     ensures len { IfSome result (λ len. len ≡ length (packed_text lines.now.lines)) }
     ensures fits { IsSome result ↔ (length (packed_text lines.now.lines) ≤ greatest_size) }

@@ -65,7 +65,6 @@ fn wide_blanks(block: &[u8]) -> u64
 /// How many words begin in octets of a line, by the mask of their blanks. `before` is 1 where what stands before them is a blank, else 0,
 /// and `after` says the same of the last of them. A word begins with an octet of one after a blank, or at the beginning of a line.
 #[inline(always)]
-#[tactic(auto, using(crate::proofs::Blanks::begun_by_mask, crate::proofs::Blanks::blanks_small))]
 fn begun_in(before: u64, octets: &[u8], blanks: u64, after: u64) -> u64
     requires short { length octets.now < 64 }
     requires blanks { blanks ≡ mask_l (map is_blank octets.now) }
@@ -81,7 +80,6 @@ fn begun_in(before: u64, octets: &[u8], blanks: u64, after: u64) -> u64
 
 /// How many words begin in octets of a line, and 1 where the last one is a blank, else 0: by two blocks, which may overlap.
 #[inline(always)]
-#[tactic(auto, using(crate::proofs::Blanks::few_overlap, crate::proofs::Blanks::few_outside, crate::proofs::Blanks::blanks_small))]
 fn few_begun(before: u64, octets: &[u8]) -> (u64, u64)
     requires one { before ≤ 1 }
     requires some { 16 ≤ length octets.now }
@@ -98,7 +96,6 @@ fn few_begun(before: u64, octets: &[u8]) -> (u64, u64)
 
 /// The same by two wide blocks, which may overlap.
 #[inline(always)]
-#[tactic(auto, using(crate::proofs::Blanks::more_overlap, crate::proofs::Blanks::more_outside, crate::proofs::Blanks::blanks_small))]
 fn more_begun(before: u64, octets: &[u8]) -> (u64, u64)
     requires one { before ≤ 1 }
     requires some { 32 ≤ length octets.now }
@@ -115,7 +112,6 @@ fn more_begun(before: u64, octets: &[u8]) -> (u64, u64)
 
 /// The same by wide blocks, the last of which may overlap the one before.
 #[inline(always)]
-#[tactic(auto, using(crate::proofs::Blanks::next_begun, crate::proofs::Blanks::rest_begun, crate::proofs::Blanks::begun_few, crate::proofs::Blanks::outside_few))]
 fn many_begun(before: u64, octets: &[u8]) -> (u64, u64)
     requires one { before ≤ 1 }
     requires some { 32 ≤ length octets.now }
@@ -189,7 +185,6 @@ impl WordCount {
 
     /// Counts the words that begin in octets of the present line. `after` is 1 where the last octet is a blank, else 0.
     #[inline(always)]
-    #[tactic(auto, using(crate::proofs::Blanks::outside_count))]
     fn add(&mut self, begun: u64, after: u64)
         ensures { (xs : List ℕ) → begun ≡ words_begun self.old.inside xs → after ≡ outside_after self.old.inside xs
             → CountsWords self.old (map LineOctet xs) self.new }

@@ -40,7 +40,6 @@ impl Model for ObjectReader {
 
 impl ObjectReader {
     /// The reader of an object of which nothing has come.
-    #[tactic(auto, using(crate::proofs::Steps::starts))]
     pub fn new() -> ObjectReader
         ensures takes_calls { IsSome result }
         ensures stands { StandsAt result place_start }

@@ -85,7 +85,6 @@ fn confirmed(object: ObjectReader, size: u64) -> Option<ObjectReader>
 
 /// The reader of the object that has ended, where these numbers of record 7 have come, `taken` octets and `heads` heads; or None where no
 /// tokens lead there.
-#[tactic(auto, using(crate::proofs::ObjectPlaces::may_end, crate::proofs::ObjectPlaces::before_end))]
 fn ended_at(numbers: [Option<u64>; 4], taken: u64, heads: u64) -> Option<ObjectReader>
     ensures calls { IfSome result IsSome }
     ensures leads { IfSome result (λ r. (p : Place) × IsAt numbers taken None heads p

@@ -154,7 +154,6 @@ const COUNT_OCTETS_BEFORE: u8 = 4;
 const GREATEST_SIZE_BEFORE: u64 = 4_294_967_295;
 
 /// Whether octets that begin a tag begin one whose count has no more octets than counts had.
-#[tactic(auto, using(crate::proofs::SmallTags::small_tag, crate::proofs::SmallTags::no_small_tag))]
 fn is_small_tag(held: &[u8]) -> bool
     requires { BeginsTag count_octets held.now }
     ensures { IsTrue result ↔ BeginsTag count_octets_before held.now }

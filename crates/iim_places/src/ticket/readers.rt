@@ -111,7 +111,6 @@ fn can_continue(check: &mut RecordCheck, section: u8, phase: &TicketPhase<'_>) -
 
 /// Whether the record layer can be where these fields and numbers of record 7 have come, then subfiles where some have ended, and
 /// 9:10 where the object has; and then this, which is begun.
-#[tactic(auto, using(crate::proofs::AtPlaces::live_alive, crate::proofs::AtPlaces::kept_told, crate::proofs::Plain::kept_fields))]
 pub(crate) fn records_lead(
     section: u8,
     phase: &TicketPhase<'_>,

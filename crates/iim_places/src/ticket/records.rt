@@ -23,7 +23,6 @@ use iim_tables::records::OBJECT;
 use std::alloc::{AllocError, Global};
 
 /// Takes what is begun after a head of the section: of data the head, and those that have come. It has none of a subfile.
-#[tactic(auto, using(crate::proofs::PlacesTold::within_with))]
 fn take_phase(records: &mut Fields, section: u8, phase: &TicketPhase<'_>)
     requires stands { (ds : List Dataset) × StandsAfter records.old ds × RecordsLive section (phase_told phase.now) ds
         × AreWithinWith (limits_of records.old) section (phase_told phase.now) ds }
@@ -55,7 +54,6 @@ fn take_phase(records: &mut Fields, section: u8, phase: &TicketPhase<'_>)
 }
 
 /// The reader of records at a ticket's place, with memory for just what the limits allow. An error says that memory was refused.
-#[tactic(auto, using(crate::proofs::AtPlaces::live_alive, crate::proofs::AtPlaces::kept_told))]
 fn records_at(
     alloc: Global,
     limits: Limits,

@@ -210,7 +210,6 @@ fn take_texts(octets: &[u8]) -> Option<([&[u8]; 7], &[u8])>
 }
 
 /// What a ticket tells of the message, with which it ends.
-#[tactic(auto, using(crate::proofs::Splitting::cut, crate::proofs::Splitting::seven, crate::proofs::Splitting::ending))]
 fn read_message(octets: &[u8]) -> Option<MessageParts<'_>>
     ensures parts { IfSome result (λ m. octets.now ≡ message_parts m.part m.counter m.flag (map (λ t. t.now) m.texts)) }
     ensures fits { IfSome result (λ m. AreTexts (map (λ t. t.now) m.texts)) }

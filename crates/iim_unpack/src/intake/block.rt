@@ -45,7 +45,6 @@ impl Block {
     }
 
     /// Continues after the first `used` of the octets.
-    #[tactic(auto, using(crate::proofs::Intakes::passes, crate::proofs::Intakes::fits))]
     pub(crate) fn pass(&mut self, used: usize)
         requires { used ≤ length self.old }
         ensures { self.new ≡ drop used self.old }

@@ -44,7 +44,6 @@ impl<'m, 's, S: StorySink> ObjectSink for ToMessage<'m, 's, S> {
       λ some. let p = h.2 some in message_refuses_joined S.joined p (k.2 p.takes_calls),
     ) };
 
-    #[tactic(auto, using(crate::proofs::Carrying::message_refuses_octet))]
     fn run(&mut self, run: &[u8]) -> Result<(), Stop> {
         if run.is_empty() {
             return Ok(());
@@ -94,7 +93,6 @@ fn run_object<'m, 's, S: StorySink>(
 }
 
 /// Hands the end of the object to the object reader.
-#[tactic(auto, using(crate::proofs::Carrying::by_fault))]
 fn end_object<'m, 's, S: StorySink>(
     object: &mut ObjectReader,
     head: Head,

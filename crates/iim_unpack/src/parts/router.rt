@@ -88,7 +88,6 @@ impl<'p, 's, S: StorySink> DatasetSink for Router<'p, 's, S> {
         }
     }
 
-    #[tactic(auto, using(crate::proofs::Closing::tells_quietly, crate::proofs::Closing::stopped_closed))]
     fn close(&mut self) -> Result<Step, Stop> {
         match self.parts.close() {
             Ok(()) => {

@@ -64,3 +64,6 @@ returns-in-Err-clause-stopped g c =
     let stops = whole_stops t c.in-Some.ensures c.in-Err.ensures.refused c.in-Err.ensures.stopped in
     let front = refuses_front g.met.D.DatasetSink.joined rest at (k + t) g.met.D.DatasetSink.joined_stop None between c.whole.new.self in
     rw there (front c.loop-head.invariant.told (stops, refl)).0
+
+pub returns-clause-wholes : goal.returns-clause-wholes
+returns-clause-wholes g c = grind (arith, begun_none)

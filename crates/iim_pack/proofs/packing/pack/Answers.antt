@@ -1,3 +1,5 @@
+use Rattle.std.proofs.Common.{arith}
+use Rattle.iim_pack.proofs.Orders.{pack_order}
 use Rattle.iim_pack.proofs.Words.{List, ℕ, inr, sym, ◌∙◌, if_none, pack_cause, start_cause}
 use Rattle.iim_pack.specs.States.Packing.{finish_cause}
 use Rattle.iim_pack.proofs.Goings.{of_none}
@@ -52,3 +54,15 @@ returns-in-Err-finish-clause-fault g c =
     c.put_lines.new.packer c.in-Err-finish.packer c.given_back-in-Err-finish.result c.texts_join.ensures again
     c.in-Ok.ensures.ok c.in-Ok-put_lines.ensures.ok broke (c.given_back-in-Err-finish.ensures.cause ∙ cause) c.given_back-in-Err-finish.ensures.writer
     c.given_back-in-Err-finish.ensures.written))
+
+pub returns-in-Some-clause-order : goal.returns-in-Some-clause-order
+returns-in-Some-clause-order g c = grind (arith, pack_order)
+
+pub returns-in-Err-put_lines-clause-order : goal.returns-in-Err-put_lines-clause-order
+returns-in-Err-put_lines-clause-order g c = grind (arith, pack_order)
+
+pub returns-in-Ok-finish-clause-order : goal.returns-in-Ok-finish-clause-order
+returns-in-Ok-finish-clause-order g c = grind (arith, pack_order)
+
+pub returns-in-Err-finish-clause-order : goal.returns-in-Err-finish-clause-order
+returns-in-Err-finish-clause-order g c = grind (arith, pack_order)

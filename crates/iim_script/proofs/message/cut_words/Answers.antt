@@ -1,3 +1,4 @@
+use Rattle.std.proofs.Common.{arith}
 use Rattle.iim_script.proofs.Heads.{words_found, next_word, no_more}
 use Rattle.iim_script.proofs.message.cut_words.Goals as goal
 
@@ -26,3 +27,6 @@ returns-clause-some c =
     words_found c.args.octets.now c.in-Some.source.now c.in-Some.after_source.now c.in-Some-cut_at.number.now c.in-Some-cut_at.after_number.now
     c.in-Some-cut_at-2.priority.now c.in-Some-cut_at-2.after_priority.now c.in-Some-cut_at-3.category.now c.in-Some-cut_at-3.rest.now c.before_first-end.result
     one.0 one.1 two.0 two.1 three.0 three.1 four.0 four.1 c.before_first-end.ensures.place
+
+pub returns-in_default-clause-none : goal.returns-in_default-clause-none
+returns-in_default-clause-none c = grind (arith, no_more)

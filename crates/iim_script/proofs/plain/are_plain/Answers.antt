@@ -1,3 +1,4 @@
+use Rattle.iim_tables.proofs.LaneLemmas.{more_pass}
 use Rattle.std.proofs.Common.{sym, ◌∙◌, arith}
 use Rattle.iim_dataset.specs.Format.Datasets.{is_plain}
 use Rattle.iim_tables.proofs.LaneLemmas.{part_fails, front_fails, last_pass}
@@ -28,3 +29,6 @@ pub returns-then-plain_in_4 : goal.returns-then-plain_in_4
 returns-then-plain_in_4 c =
     c.plain_in_4-then-plain_in_4.ensures ∙ last_pass is_plain c.args.octets.now 4 4 c.if-count-ge4.true (omega arith) (sym c.plain_in_4.ensures
     ∙ c.if-plain_in_4.true)
+
+pub loop-at-preserved : goal.loop-at-preserved
+loop-at-preserved c = grind (arith, front_fails, more_pass)

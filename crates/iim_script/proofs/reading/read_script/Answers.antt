@@ -17,3 +17,9 @@ returns-clause-script c =
       is_story = t.is_story;
       texts = t.texts;
     })
+
+pub returns-clause-text : goal.returns-clause-text
+returns-clause-text c = grind (arith, text_collected)
+
+pub returns-clause-len : goal.returns-clause-len
+returns-clause-len c = grind (arith, text_collected)

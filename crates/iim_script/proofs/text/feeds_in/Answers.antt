@@ -1,3 +1,4 @@
+use Rattle.iim_script.proofs.Plains.{plain_all}
 use Rattle.iim_script.proofs.Words.{◌≡◌, ◌==◌, ℕ, List, count_by, take, subst, arith, IsTrue, list_all, take_rest}
 use Rattle.iim_script.specs.Steps.{is_plain}
 use Rattle.iim_script.proofs.Plains.{plain_more, count_next}
@@ -15,3 +16,6 @@ loop-at-preserved c =
       plain = plain_more xs at 16 i.plain block.0;
       counted = omega (arith, i.counted, block.1, count_next (λ b. b == 10) xs at 16);
     }
+
+pub returns-in-Some-feeds_in_rest : goal.returns-in-Some-feeds_in_rest
+returns-in-Some-feeds_in_rest c = grind (arith, plain_all, take_rest)

@@ -1,3 +1,4 @@
+use Rattle.iim_tables.proofs.LaneLemmas.{front_fails, more_pass}
 use Rattle.std.proofs.Common.{sym, ◌∙◌, arith}
 use Rattle.iim_tables.specs.Text.{is_text}
 use Rattle.iim_tables.proofs.LaneLemmas.{part_fails, last_pass}
@@ -22,3 +23,12 @@ pub returns-then-text_in_4 : goal.returns-then-text_in_4
 returns-then-text_in_4 c =
     c.text_in_4-then-text_in_4.ensures ∙ last_pass (is_text c.args.least c.args.lines) c.args.octets.now 4 4 c.if-count-ge4.true (omega arith)
     (sym c.text_in_4.ensures ∙ c.if-text_in_4.true)
+
+pub loop-at-preserved : goal.loop-at-preserved
+loop-at-preserved c = grind (arith, front_fails, more_pass)
+
+pub returns-else-text_in_8 : goal.returns-else-text_in_8
+returns-else-text_in_8 c = grind (arith, front_fails, more_pass)
+
+pub returns-else-text_in_4 : goal.returns-else-text_in_4
+returns-else-text_in_4 c = grind (arith, front_fails, more_pass)

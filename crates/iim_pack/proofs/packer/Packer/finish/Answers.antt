@@ -1,3 +1,4 @@
+use Rattle.iim_pack.proofs.Orders.{finish_order}
 use Rattle.iim_pack.proofs.Words.{length, ap, sym, ◌∙◌, arith, if_none}
 use Rattle.iim_object.specs.States.Writing as object
 use Rattle.iim_pack.specs.States.Packing.{finish_cause}
@@ -34,3 +35,15 @@ returns-in-Err-clause-broke g c =
 
 pub returns-in-Ok-clause-begun : goal.returns-in-Ok-clause-begun
 returns-in-Ok-clause-begun g c = begun_ends g.W.Target.state c.args.self c.args.trailer.now c.in-Ok.writer c.texts_join.ensures (returns-in-Ok-clause-ok g c)
+
+pub returns-then-is_failed-clause-order : goal.returns-then-is_failed-clause-order
+returns-then-is_failed-clause-order g c = grind (arith, finish_order)
+
+pub returns-in-Some-clause-order : goal.returns-in-Some-clause-order
+returns-in-Some-clause-order g c = grind (arith, finish_order)
+
+pub returns-in-Ok-clause-order : goal.returns-in-Ok-clause-order
+returns-in-Ok-clause-order g c = grind (arith, finish_order)
+
+pub returns-in-Err-clause-order : goal.returns-in-Err-clause-order
+returns-in-Err-clause-order g c = grind (arith, finish_order)

@@ -1,3 +1,5 @@
+use Rattle.std.proofs.Common.{arith}
+use Rattle.iim_pack.proofs.Orders.{line_end_order}
 use Rattle.iim_pack.proofs.Words.{[], ◌∷◌, sym, ◌∙◌, on_ok_weaker, on_err_weaker, if_none, LineEnd, line_end_cause}
 use Rattle.iim_object.specs.States.Writing as object
 use Rattle.iim_pack.proofs.{Goings.of_none, Goings.lengthened, Goings.broken, Goings.may_write, Beginnings.begun_on}
@@ -22,3 +24,9 @@ returns-clause-broke g c =
 pub returns-clause-begun : goal.returns-clause-begun
 returns-clause-begun g c =
     on_ok_weaker c.write.result (begun_on g.W.Target.state c.args.self.now _ (LineEnd ∷ []) c.texts_join.ensures) (returns-clause-ok g c)
+
+pub returns-then-is_failed-clause-order : goal.returns-then-is_failed-clause-order
+returns-then-is_failed-clause-order g c = grind (arith, line_end_order)
+
+pub returns-then-passes_plan-clause-order : goal.returns-then-passes_plan-clause-order
+returns-then-passes_plan-clause-order g c = grind (arith, line_end_order)

@@ -1,3 +1,5 @@
+use Rattle.std.proofs.Common.{arith}
+use Rattle.iim_pack.proofs.Orders.{start_order}
 use Rattle.iim_pack.proofs.Words.{◌+◌, inr, refl, ◌∙◌, if_none, start_cause}
 use Rattle.iim_object.specs.declared.writing.cause.PackCause.TheVariants as causes
 use Rattle.iim_pack.proofs.Startings.{fields_broke, object_broke, started}
@@ -40,3 +42,9 @@ returns-in-Err-open_object-clause-fault g c =
 
 pub returns-in-Ok-open_object-clause-begun : goal.returns-in-Ok-open_object-clause-begun
 returns-in-Ok-open_object-clause-begun g c = (returns-in-Ok-open_object-clause-ok g c).begun
+
+pub returns-then-passes_plan-clause-order : goal.returns-then-passes_plan-clause-order
+returns-then-passes_plan-clause-order g c = grind (arith, start_order)
+
+pub returns-in-Ok-open_object-clause-order : goal.returns-in-Ok-open_object-clause-order
+returns-in-Ok-open_object-clause-order g c = grind (arith, start_order)

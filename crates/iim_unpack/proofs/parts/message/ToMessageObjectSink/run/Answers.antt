@@ -1,3 +1,5 @@
+use Rattle.std.proofs.Common.{arith}
+use Rattle.iim_unpack.proofs.Carrying.{message_refuses_octet}
 use Rattle.std.proofs.Common.{refl}
 use Rattle.iim_unpack.proofs.Carrying.{tells_message_empty, tells_message_octets}
 use Rattle.iim_unpack.proofs.parts.message.ToMessageObjectSink.run.Goals as goal
@@ -14,3 +16,6 @@ pub returns-in-Ok-clause-ok : goal.returns-in-Ok-clause-ok
 returns-in-Ok-clause-ok g c =
     let now = c.in-Ok.ensures in
     (refl, refl, λ some. tells_message_octets g.S.StorySink.goes g.S.StorySink.failures _ _ _ _ c.args.run.now c.if-is_empty.ensures now.takes_calls now.taken)
+
+pub returns-in-Err-clause-stopped : goal.returns-in-Err-clause-stopped
+returns-in-Err-clause-stopped g c = grind (arith, message_refuses_octet)

@@ -1,0 +1,6 @@
+use Rattle.std.proofs.Common.{arith}
+use Rattle.iim_tables.proofs.LaneLemmas.{all_spaced_or_line_ends}
+use Rattle.iim_tables.proofs.kinds.are_spaced_or_line_ends.Goals as goal
+
+pub returns : goal.returns
+returns c = grind (arith, all_spaced_or_line_ends)
