@@ -86,15 +86,6 @@ entered_in : (subs : List Shape) (stop : Option (Text × List Text)) (found : Te
 entered_in subs None found e = cc
 entered_in subs (Some p) found e = found_in subs p.0 p.1 found e
 
--- the names of the commands are all names of a command
-pub no_verb : (name : Text) → (name ≡ codes "check" → ⊥) → (name ≡ codes "show" → ⊥) → (name ≡ codes "story" → ⊥) → (name ≡ codes "pack" → ⊥)
-    → (name ≡ codes "audit" → ⊥) → (verb : Verb) → name ≡ verb_name verb → ⊥
-no_verb name check show story pack audit Check = check
-no_verb name check show story pack audit Show = show
-no_verb name check show story pack audit Story = story
-no_verb name check show story pack audit Pack = pack
-no_verb name check show story pack audit Audit = audit
-
 -- a name of one of the program's commands is that of a verb
 verb_of : (name : Text) → NamedIn (built program).subs name → (verb : Verb) × (name ≡ verb_name verb)
 verb_of name (inl is) = (Check, is)
