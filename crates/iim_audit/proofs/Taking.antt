@@ -1,5 +1,5 @@
 -- From what an intake and an unpacker answer to what an audit takes of it.
-use Rattle.iim_audit.proofs.Words.{◌≡◌, ℕ, List, [], length, refl, sym, ap, subst, ◌∙◌, false, ◌≢◌, ◌⊎◌, Option, Some, None, Bool, true, inl, inr, ⊎_elim, arith, ℤ, ◌≤◌, ◌++◌, take, Result, Ok, Err, IfOk, IfErr, OctetsAreHandedOnOneWay, EventsTellTheDatasets, WordsSoFar, CountsWords, capped, words, Value, Admits, object_of, Device, IoFault, Limits, FedEnvelope, Faults, WasMissed, WasRefused, WasTruncated, Unpacking, IsDoneWith, Stands, limits_in, Goes, IsDone, IsRefusedIn, failed_at, cause_of, IsCutOff, IsRefusal, TookEnvelope, TookOne, TookNone, IsTaken, option_map, raised, ShowsParts, UnpackedRef, row_with, counted_words, PieceAudit}
+use Rattle.iim_audit.proofs.Words.{◌≡◌, ℕ, List, [], length, refl, sym, ap, subst, ◌∙◌, false, ◌≢◌, ◌⊎◌, Option, Some, None, Bool, true, inl, inr, ⊎_elim, arith, ℤ, ◌≤◌, ◌++◌, take, Result, Ok, Err, IfOk, IfErr, OctetsAreHandedOnOneWay, EventsTellTheDatasets, WordsSoFar, CountsWords, capped, words, Value, Admits, object_of, Device, IoFault, Limits, FedEnvelope, Faults, WasMissed, WasRefused, WasTruncated, Unpacking, IsDoneWith, Stands, limits_in, Progresses, IsDone, IsRefusedIn, failed_at, cause_of, IsCutOff, IsRefusal, TookEnvelope, TookOne, TookNone, IsTaken, option_map, raised, ShowsParts, UnpackedRef, row_with, counted_words, PieceAudit}
 use Rattle.iim_dataset.specs.{Format.Datasets.count_octets, Format.Datasets.InTag, States.Reading.handed_on, States.Reading.HandsOn}
 use Rattle.wire_story.specs.{Format.Texts.StoryEvent, Format.Texts.IsText, Laws.TextsAreCountedAsLines, Laws.DeliveryMayBeCut, Steps.counts_joined}
 use Rattle.wire_message.specs.{Laws.TextsStandBetweenStxAndEtx, Format.Messages.text_so_far}
@@ -141,12 +141,12 @@ module _ (u v : Unpacking) (piece : List ℕ) where
   IsSound progress = (v.refused ≡ None) × ((used : ℕ) → progress ≡ Done used → IsDone v × (used ≤ length piece))
 
   -- what is told of an unpacker is so: of one that was inside an envelope, and of one that was at the end of one
-  sound_on : (progress : Progress) (p : List ℕ) (a : ℕ) (more : List StoryEvent) → Goes v p a piece more progress → IsSound progress
+  sound_on : (progress : Progress) (p : List ℕ) (a : ℕ) (more : List StoryEvent) → Progresses v p a piece more progress → IsSound progress
   sound_on More p a more goes = (goes.0.taking, λ used is. absurd cc)
   sound_on (Done used) p a more goes = (goes.1.taking, λ now is. ((goes.1.taking, goes.1.ended), (let same : used ≡ now = cc in rw same at goes.0)))
 
   sound : (progress : Progress) (more : List StoryEvent) (b : Bool) → b ≡ has_ended u.parts → u.refused ≡ None
-      → ((IsDone u → ⊥) → (p : List ℕ) × (a : ℕ) × Stands u p a) → ((p : List ℕ) (a : ℕ) → Stands u p a → Goes v p a piece more progress)
+      → ((IsDone u → ⊥) → (p : List ℕ) × (a : ℕ) × Stands u p a) → ((p : List ℕ) (a : ℕ) → Stands u p a → Progresses v p a piece more progress)
       → (IsDone u → (progress ≡ Done 0) × (v ≡ u)) → IsSound progress
   sound progress more true is alive stood goes again =
       let done : IsDone u = (alive, sym is) in
@@ -159,7 +159,7 @@ module _ (u v : Unpacking) (piece : List ℕ) where
   -- what the unpacker answers, with the words that were counted
   pub fed_by : (r : Result Progress Refusal) (old new : WordsSoFar) → (u.refused ≡ None → (IsDone u → ⊥) → (p : List ℕ) × (a : ℕ) × Stands u p a)
       → IfOk r (λ progress. (◌≡◌ {A = ℕ} 0 0) × ((more : List StoryEvent) × CountsWords old more new
-      × ((p : List ℕ) (a : ℕ) → Stands u p a → Goes v p a piece more progress)))
+      × ((p : List ℕ) (a : ℕ) → Stands u p a → Progresses v p a piece more progress)))
       → (IsDone u → (r ≡ Ok (Done 0)) × ((v ≡ u) × (new ≡ old)))
       → ((octet : ℕ) → u.refused ≡ Some octet → (r ≡ Err (failed_at octet)) × ((v ≡ u) × (new ≡ old))) → IfOk r (HasFed u old piece v new)
   fed_by (Err e) old new stood fed done again = tt

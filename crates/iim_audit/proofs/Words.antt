@@ -11,7 +11,7 @@ pub use Rattle.iim_places.specs.Format.Admitted.{Admits, Value, object_of}
 pub use Rattle.iim_places.specs.Format.Streams.{Divides, IsListed, IsListing, Listed, RefusedBy, TooMany, Whole, joined, max_envelopes, values_of, raised}
 pub use Rattle.iim_unpack.specs.Format.Pieces.{ShowsParts}
 pub use Rattle.iim_unpack.specs.States.Intakes.{Faults, FedEnvelope, WasMissed, WasRefused, WasTruncated, in_line}
-pub use Rattle.iim_unpack.specs.States.Unpacking.{Goes, IsDone, IsDoneWith, IsRefusedIn, Stands, Unpacking, failed_at, limits_in}
+pub use Rattle.iim_unpack.specs.States.Unpacking.{Progresses, IsDone, IsDoneWith, IsRefusedIn, Stands, Unpacking, failed_at, limits_in}
 pub use Rattle.iim_unpack.specs.declared.unpacker.UnpackedRef.{UnpackedRef}
 pub use Rattle.std.proofs.Common.{Bool, Err, IfErr, IfOk, List, None, Ok, Option, Result, Some, [], add-one, add-zero, ap, append-nil, append_assoc, arith, decimal, drop, false, get_or, inl, inr, length, length-drop, lit<, map, refl, rules, set, subst, suc, sym, take, true, zero, ℕ, ℤ, ⊎_elim, ◌*◌, ◌++◌, ◌+◌, ◌-◌, ◌<◌, ◌^◌, ◌∙◌, ◌∷◌, ◌≡◌, ◌≢◌, ◌≤◌, ◌⊎◌}
 pub use Rattle.std.proofs.Math.Nat.{le_of_lt, pow-le-pow_right, pow-suc}

@@ -4,7 +4,7 @@ use Rattle.std.specs.{Option.option_cmp, List.Sorted.IsSortedBy, declared.cmp.Or
 use Rattle.std.specs.List.{All, Contains, slice_get}
 use Rattle.std.specs.Ordering.{is_lt, nat_cmp, on, then_cmp}
 use Rattle.wire_story.specs.Format.Texts.{StoryEvent, WordsSoFar, CountsWords}
-use Rattle.iim_unpack.specs.States.Unpacking.{Unpacking, Stands, Goes, IsDone, IsRefusedIn, limits_in, IsDoneWith}
+use Rattle.iim_unpack.specs.States.Unpacking.{Unpacking, Stands, Progresses, IsDone, IsRefusedIn, limits_in, IsDoneWith}
 use Rattle.iim_unpack.specs.{Format.Pieces.ShowsParts, declared.unpacker.Progress.Progress}
 use Rattle.iim_unpack.specs.{declared.unpacker.Progress.TheVariants.Done, declared.intake.IntakeFault.IntakeFault}
 use Rattle.iim_fields.specs.Format.Records.{Identity, id_cmp}
@@ -24,7 +24,7 @@ use Rattle.iim_dataset.specs.declared.device.IoFault.TheVariants as io
 pub record HasFed (u : Unpacking) (old : WordsSoFar) (piece : List ℕ) (v : Unpacking) (new : WordsSoFar) (progress : Progress) : Type 0 where
   pub more : List StoryEvent
   pub counts : CountsWords old more new
-  pub goes : (p : List ℕ) (a : ℕ) → Stands u p a → Goes v p a piece more progress
+  pub goes : (p : List ℕ) (a : ℕ) → Stands u p a → Progresses v p a piece more progress
   pub alive : v.refused ≡ None
   pub ends : (used : ℕ) → progress ≡ Done used → IsDone v × (used ≤ length piece)
 

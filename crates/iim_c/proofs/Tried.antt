@@ -1,5 +1,5 @@
 -- Which octets can come next at the place of a ticket.
-use Rattle.iim_c.proofs.Words.{◌≡◌, ◌≢◌, ℕ, ◌+◌, ◌<◌, ◌≤◌, List, [], ◌∷◌, ◌++◌, inl, inr, take, refl, sym, ap, subst, ◌∙◌, arith, append-nil, Bool, true, false, if◌then◌else◌, cases_eq, Limits, StoryEvent, IsOpen, raised, Refusal, Message, Sink, Unpacking, Goes, IsDoneWith, IsRefusedIn, limits_in, Progress, IsSet}
+use Rattle.iim_c.proofs.Words.{◌≡◌, ◌≢◌, ℕ, ◌+◌, ◌<◌, ◌≤◌, List, [], ◌∷◌, ◌++◌, inl, inr, take, refl, sym, ap, subst, ◌∙◌, arith, append-nil, Bool, true, false, if◌then◌else◌, cases_eq, Limits, StoryEvent, IsOpen, raised, Refusal, Message, Sink, Unpacking, Progresses, IsDoneWith, IsRefusedIn, limits_in, Progress, IsSet}
 use Rattle.iim_places.specs.{Format.Streams.IsEnvelopeWithin, Format.Streams.Kills, Laws.NothingContinuesFromRefusedOctets, Laws.OpenOctetsBeginWithNoEnvelope}
 use Rattle.iim_places.specs.declared.fault.TokenFault.{TokenFault}
 use Rattle.iim_unpack.specs.declared.unpacker.Progress.TheVariants.{More, Done}
@@ -26,7 +26,7 @@ taken_by limits v p a octet used law opens same few done =
     ]
 
 pub goes_taken : (limits : Limits) (v : Unpacking) (p : List ℕ) (a octet : ℕ) (more : List StoryEvent) (progress : Progress)
-    → OpenOctetsBeginWithNoEnvelope → IsOpen limits p → limits_in v ≡ limits → Goes v p a (octet ∷ []) more progress → IsTaken limits p octet
+    → OpenOctetsBeginWithNoEnvelope → IsOpen limits p → limits_in v ≡ limits → Progresses v p a (octet ∷ []) more progress → IsTaken limits p octet
 goes_taken limits v p a octet more More law opens same goes = inl (rw same at goes.0.is_open)
 goes_taken limits v p a octet more (Done used) law opens same goes = taken_by limits v p (raised a used) octet used law opens same goes.0 goes.1
 

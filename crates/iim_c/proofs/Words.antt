@@ -22,7 +22,7 @@ pub use Rattle.iim_places.specs.declared.refusal.Cause.{Cause}
 pub use Rattle.iim_places.specs.declared.refusal.Cause.TheVariants.{Message}
 pub use Rattle.iim_places.specs.declared.refusal.Refusal.{Refusal}
 pub use Rattle.iim_places.specs.declared.ticket.fault.TicketFault.{TicketFault}
-pub use Rattle.iim_unpack.specs.States.Unpacking.{CountsFor, Goes, IsDone, IsDoneWith, IsRefusedIn, Stands, Unpacking, limits_in}
+pub use Rattle.iim_unpack.specs.States.Unpacking.{CountsFor, Progresses, IsDone, IsDoneWith, IsRefusedIn, Stands, Unpacking, limits_in}
 pub use Rattle.iim_unpack.specs.declared.unpacker.Progress.{Progress}
 pub use Rattle.std.proofs.Common.{Bool, List, None, Some, [], ap, append-nil, append_assoc, arith, drop, false, get_or, if◌then◌else◌, inl, inr, length, length-append, length-drop, map, refl, set, subst, sym, take, true, ℕ, ℤ, ◌++◌, ◌+◌, ◌-◌, ◌<◌, ◌==◌, ◌^◌, ◌∙◌, ◌∷◌, ◌≡◌, ◌≢◌, ◌≤◌, ◌⊎◌}
 pub use Rattle.std.proofs.lemmas.Bool.{cases_eq, eqb-true}

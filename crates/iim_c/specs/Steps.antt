@@ -3,7 +3,7 @@ use Rattle.std.specs.Prelude.{◌≡◌, ℕ, ◌<◌, ◌≤◌, ◌⊎◌, Lis
 use Rattle.iim_places.specs.Format.Tickets.{Phase, TagBegun, DataBegun, AllEnded, width}
 use Rattle.iim_places.specs.Format.Streams.{raised}
 use Rattle.iim_places.specs.declared.refusal.{Refusal.Refusal, Cause.TheVariants.Message}
-use Rattle.iim_unpack.specs.States.Unpacking.{Unpacking, Stands, limits_in, Goes, IsRefusedIn}
+use Rattle.iim_unpack.specs.States.Unpacking.{Unpacking, Stands, limits_in, Progresses, IsRefusedIn}
 use Rattle.iim_unpack.specs.States.Restored.{IsRestored, HasTicketIn}
 use Rattle.iim_unpack.specs.declared.unpacker.Progress.{Progress, TheVariants.More, TheVariants.Done}
 use Rattle.iim_c.specs.Format.Answers.{status_answer, short_answer, IimAnswer, HasTaken}
@@ -45,7 +45,7 @@ IsBegun limits (x ∷ xs) at u = IsRestored limits (x ∷ xs) at u
 pub record HasFedText (u v : Unpacking) (piece out : List ℕ) (count : ℕ) (progress : Progress) : Type 0 where
   pub more : List StoryEvent
   pub taken : HasTaken out count (map octet_for more)
-  pub goes : (p : List ℕ) (n : ℕ) → Stands u p n → Goes v p n piece more progress
+  pub goes : (p : List ℕ) (n : ℕ) → Stands u p n → Progresses v p n piece more progress
 
 -- An octet of it was refused.
 pub record HasRefusedText (u : Unpacking) (piece out : List ℕ) (count : ℕ) (e : Refusal) : Type 0 where

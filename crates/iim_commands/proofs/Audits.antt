@@ -1,5 +1,5 @@
 -- What stops an audit's report.
-use Rattle.iim_commands.proofs.Words.{◌≡◌, ℕ, ◌+◌, ℤ, inl, inr, refl, sym, List, [], ◌∷◌, ◌++◌, length, take, drop, append_assoc, length-append, arith, take-append-drop, Device, FailsAt, lines_from, printed_report, row_line, sums_line, AuditRow, IsAuditAnswer, IsUnaudited, HasPut, HoldsNothing, IsCutShort, IsUnadded, limits, cut_on, stopped_in, CommandFault}
+use Rattle.iim_commands.proofs.Words.{◌≡◌, ℕ, ◌+◌, ℤ, inl, inr, refl, sym, List, [], ◌∷◌, ◌++◌, length, take, drop, append_assoc, length-append, arith, take-append-drop, Device, FailsAt, lines_from, printed_report, row_line, sums_line, AuditRow, IsAuditAnswer, FailsToAudit, HasPut, HoldsNothing, IsCutShort, FailsToAdd, limits, cut_on, stopped_in, CommandFault}
 use Rattle.iim_dataset.specs.Laws.{TextsJoin}
 use Rattle.iim_audit.specs.declared.fault.AuditCause.{AuditCause}
 use Rattle.iim_audit.specs.declared.fault.AuditCause.TheVariants as causes
@@ -9,14 +9,14 @@ use Rattle.iim_output.specs.declared.block_writer.BlockWriter.{BlockWriter}
 
 -- the output broke inside the answer, where nothing was held
 pub unsaid : {W : Type 0} (state : W → Device) (a b : BlockWriter W) (now : ℤ) (source rest : Device) (words : List ℕ) (status : ℕ) (fault : CommandFault)
-    → HoldsNothing a → IsAuditAnswer now source rest words status → IsUnadded state a b words fault
-    → IsUnaudited now source rest (device_of state a) (device_of state b) fault
+    → HoldsNothing a → IsAuditAnswer now source rest words status → FailsToAdd state a b words fault
+    → FailsToAudit now source rest (device_of state a) (device_of state b) fault
 unsaid state a b now source rest words status fault before answer (broke, cut) =
     rw broke (words, status, length cut.out, answer, stopped_in state a b words before cut)
 
 -- there is no line for the cause
 pub untold : (now : ℤ) (source rest old : Device) (number : ℕ) (cause : AuditCause) (fault : CommandFault) → FailsAt limits source rest number cause
-    → CannotTell cause fault → IsUnaudited now source rest old old fault
+    → CannotTell cause fault → FailsToAudit now source rest old old fault
 untold now source rest old number causes.Read fault h is = rw is (number, inl h, refl)
 untold now source rest old number causes.Interrupted fault h is = rw is (number, inr h, refl)
 untold now source rest old number (causes.Refused e) fault h is = rw is (h.input, h.given, refl)
@@ -52,7 +52,7 @@ cut_sooner state a b xs ys cut = record {
 -- the output broke inside the line of a row
 pub cut_in_line : {W : Type 0} (state : W → Device) → TextsJoin → (a b c : BlockWriter W) (rows : List AuditRow) (i : ℕ) (line : List ℕ)
     (fault : CommandFault) → lines_from 1 (take i rows) ++ line ≡ lines_from 1 (take (i + 1) rows) → HasPut state a b (lines_from 1 (take i rows))
-    → IsUnadded state b c line fault → IsUnadded state a c (printed_report rows) fault
+    → FailsToAdd state b c line fault → FailsToAdd state a c (printed_report rows) fault
 cut_in_line state texts a b c rows i line fault is put unadded =
     let (more, parts) = front rows (i + 1) in
     let cut = cut_on state texts a b c (lines_from 1 (take i rows)) line put unadded.1 in

@@ -11,8 +11,8 @@ use Rattle.iim_request.specs.declared.request.Job.{Job}
 use Rattle.iim_request.specs.declared.request.Job.TheVariants.{Check, Show, Story, Pack, Audit}
 use Rattle.iim_output.specs.States.Devices.{Devices}
 use Rattle.iim_places.specs.Format.Streams.{Listed}
-use Rattle.iim_listing.specs.Format.{line_of, IsUnnarrated, Narrated, WritesListing, FailsListing, shown_of}
-use Rattle.iim_pack_script.specs.Format.{Answered, IsUnanswered, asked}
+use Rattle.iim_listing.specs.Format.{line_of, FailsToNarrate, Narrated, WritesListing, FailsListing, shown_of}
+use Rattle.iim_pack_script.specs.Format.{Answered, FailsToAnswer, asked}
 
 -- ---- What `audit` leaves.
 
@@ -33,11 +33,11 @@ abbrev pub Audited : ℤ → Device → Device → Device → Device → ℕ →
 Audited now source rest old new status = (words : List ℕ) × IsAuditAnswer now source rest words status × Wrote old new words
 
 -- Why it isn't out. The reader failed, or memory was short: nothing is out. Or the output broke inside it.
-abbrev pub IsUnaudited : ℤ → Device → Device → Device → Device → CommandFault → Type 0
-IsUnaudited now source rest old new CannotRead = (number : ℕ) × (FailsAt limits source rest number causes.Read ⊎ FailsAt limits source rest number causes.Interrupted)
+abbrev pub FailsToAudit : ℤ → Device → Device → Device → Device → CommandFault → Type 0
+FailsToAudit now source rest old new CannotRead = (number : ℕ) × (FailsAt limits source rest number causes.Read ⊎ FailsAt limits source rest number causes.Interrupted)
     × (new ≡ old)
-IsUnaudited now source rest old new CannotWrite = (words : List ℕ) × (status : ℕ) × (n : ℕ) × IsAuditAnswer now source rest words status × Stopped old new words n
-IsUnaudited now source rest old new OutOfMemory = (input : List ℕ) × HasGiven source rest input × (new ≡ old)
+FailsToAudit now source rest old new CannotWrite = (words : List ℕ) × (status : ℕ) × (n : ℕ) × IsAuditAnswer now source rest words status × Stopped old new words n
+FailsToAudit now source rest old new OutOfMemory = (input : List ℕ) × HasGiven source rest input × (new ≡ old)
 
 -- ---- What a run leaves.
 
@@ -62,8 +62,8 @@ abbrev pub Ran : Job → Devices → Devices → ℕ → Type 0
 Ran Check old new status = EndsListing line_of old new status
 Ran Show old new status = EndsListing shown_of old new status
 Ran Story old new status = Ends (Narrated old.input new.input old.output new.output old.errors new.errors status)
-    (λ fault errors. IsUnnarrated old.input new.input old.output new.output old.errors errors fault) new.errors status
+    (λ fault errors. FailsToNarrate old.input new.input old.output new.output old.errors errors fault) new.errors status
 Ran (Pack request) old new status = Ends (Answered (asked request.subfile request.unknown request.max) old new status)
-    (λ fault errors. IsUnanswered (asked request.subfile request.unknown request.max) old new fault × (errors ≡ old.errors)) new.errors status
+    (λ fault errors. FailsToAnswer (asked request.subfile request.unknown request.max) old new fault × (errors ≡ old.errors)) new.errors status
 Ran (Audit now) old new status = Ends (Audited now.nanosecond old.input new.input old.output new.output status × (new.errors ≡ old.errors))
-    (λ fault errors. IsUnaudited now.nanosecond old.input new.input old.output new.output fault × (errors ≡ old.errors)) new.errors status
+    (λ fault errors. FailsToAudit now.nanosecond old.input new.input old.output new.output fault × (errors ≡ old.errors)) new.errors status

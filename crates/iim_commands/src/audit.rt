@@ -3,8 +3,8 @@
 ghost use Rattle.std.specs.Prelude.{◌≡◌, None, IfOk, IfErr, OnOk};
 ghost use Rattle.iim_audit.specs.Format.{printed_report};
 ghost use Rattle.iim_unpack.specs.States.Intakes.{in_line};
-ghost use Rattle.iim_commands.specs.Format.{Audited, IsUnaudited, TellsWhy};
-ghost use Rattle.iim_output.specs.States.Holding.{HasPut, HoldsNothing, KeepsWriter, device_of, IsUnadded};
+ghost use Rattle.iim_commands.specs.Format.{Audited, FailsToAudit, TellsWhy};
+ghost use Rattle.iim_output.specs.States.Holding.{HasPut, HoldsNothing, KeepsWriter, device_of, FailsToAdd};
 ghost use Rattle.iim_commands.specs.Endings.{CannotTell};
 
 use iim_audit::{AuditCause, AuditFault, Report, audit};
@@ -44,7 +44,7 @@ fn add_report<W: Target>(
 ) -> Result<(), CommandFault>
     ensures ok { OnOk result (HasPut W.state output.old output.new (printed_report report.now)) }
     ensures held { OnOk result (HoldsNothing output.new) }
-    ensures err { IfErr result (IsUnadded W.state output.old output.new (printed_report report.now)) }
+    ensures err { IfErr result (FailsToAdd W.state output.old output.new (printed_report report.now)) }
 {
     texts_join();
     'rows: for index in 0..report.rows().len() {
@@ -75,7 +75,7 @@ fn report_input<R: Source, W: Target>(
     requires held { HoldsNothing output.old }
     ensures ok { IfOk result (Audited now.nanosecond (in_line R.state intake.old) (in_line R.state intake.new)
         (device_of W.state output.old) (device_of W.state output.new)) }
-    ensures err { IfErr result (IsUnaudited now.nanosecond (in_line R.state intake.old) (in_line R.state intake.new)
+    ensures err { IfErr result (FailsToAudit now.nanosecond (in_line R.state intake.old) (in_line R.state intake.new)
         (device_of W.state output.old) (device_of W.state output.new)) }
     ensures same { KeepsWriter output.old output.new }
     ensures leads { R.leads intake.old.reader intake.new.reader }
@@ -106,7 +106,7 @@ pub fn write_audit<R: Source, W: Target>(
         (Audited now.nanosecond (in_line R.state intake.old) (in_line R.state intake.new) (W.state output.old)
         (W.state output.new)) }
     ensures err { IfErr result
-        (IsUnaudited now.nanosecond (in_line R.state intake.old) (in_line R.state intake.new) (W.state output.old)
+        (FailsToAudit now.nanosecond (in_line R.state intake.old) (in_line R.state intake.new) (W.state output.old)
         (W.state output.new)) }
     ensures leads { R.leads intake.old.reader intake.new.reader }
 {

@@ -62,7 +62,7 @@ fn write_listing<P: EnvelopeLines, R: Source + Drop, W: Target, E: Target>(
 }
 
 /// Tells the stories of a reader: the status, and both writers.
-fn tell<R: Source + Drop, W: Target, E: Target>(
+fn write_stories<R: Source + Drop, W: Target, E: Target>(
     alloc: Global,
     reader: R,
     output: W,
@@ -135,7 +135,7 @@ pub fn run<R: Source + Drop, W: Target, E: Target>(
     match request.job {
         Job::Check => write_listing(alloc, &Check, reader, output, errors),
         Job::Show => write_listing(alloc, &Show, reader, output, errors),
-        Job::Story => tell(alloc, reader, output, errors),
+        Job::Story => write_stories(alloc, reader, output, errors),
         Job::Pack(request) => pack(alloc, request, reader, output, errors),
         Job::Audit { now } => review(alloc, now, reader, output, errors),
     }

@@ -6,11 +6,11 @@ use Rattle.iim_dataset.specs.States.Devices.{MissedAfter}
 use Rattle.iim_dataset.specs.declared.device.IoFault.{IoFault}
 use Rattle.iim_places.proofs.Listings.{admitted_more, joined_more}
 use Rattle.iim_places.specs.Format.Streams.{IsDeadAfter}
-use Rattle.iim_output.specs.States.Holding.{HasPut, StaysStuck, device_of, IsCutShort, IsUnadded}
+use Rattle.iim_output.specs.States.Holding.{HasPut, StaysStuck, device_of, IsCutShort, FailsToAdd}
 use Rattle.iim_output.specs.HoldingLaws.{put_on}
 use Rattle.iim_output.specs.declared.silent.Silent.{Silent}
 use Rattle.iim_output.proofs.Holding.{all_out, cut_by_stuck, cut_on, stopped_in}
-use Rattle.iim_listing.specs.{Format.IsListingText, Format.WritesListing, Steps.IsUnlisted, Steps.Settles}
+use Rattle.iim_listing.specs.{Format.IsListingText, Format.WritesListing, Steps.FailsToList, Steps.Settles}
 
 -- ---- texts of envelopes
 
@@ -113,7 +113,7 @@ none_listed state joins text source old fresh = record { envelopes = []; taken =
 -- the output broke inside a text of the listing
 broke_in : {W : Type 0} {state : W → Device} {source rest : Device} {old new : BlockWriter W} {count : ℕ} {es : List Listed} {begun : List ℕ}
     (text : ℕ → Listed → List ℕ) → AreTaken source rest count es begun → HoldsNothing old → (words : List ℕ) → IsListingText text es begun words
-    → IsCutShort state old new words → IsUnlisted state text source rest old new CannotWrite × KeepsWriter old new
+    → IsCutShort state old new words → FailsToList state text source rest old new CannotWrite × KeepsWriter old new
 broke_in {state = state} {old = old} {new = new} {es = es} {begun = begun} text t fresh words is cut =
     ((joined es ++ begun, es, begun, words, length cut.out, t.divides, t.given, is, stopped_in state old new words fresh cut), cut.same)
 
@@ -159,13 +159,13 @@ module _ {W : Type 0} {state : W → Device} {text : ℕ → Listed → List ℕ
 
   -- ---- the listing isn't out
 
-  pub starved : (rest : Device) (begun : List ℕ) → HasGiven mid rest begun → IsUnlisted state text source rest old now OutOfMemory × KeepsWriter old now
+  pub starved : (rest : Device) (begun : List ℕ) → HasGiven mid rest begun → FailsToList state text source rest old now OutOfMemory × KeepsWriter old now
   starved rest begun given = let t = taken_then joins r.taken rest begun given in ((_, r.envelopes, begun, t.divides, t.given, r.put), r.put.same)
 
   -- the output broke inside the last line
   pub unended : TextsJoin → (rest : Device) (new : BlockWriter W) (begun line : List ℕ) (ending : InputEnding) (fault : CommandFault) → HasGiven mid rest begun
-      → EndsBy limits count begun ending → line ≡ ending_line count ending → IsUnadded state now new line fault
-      → IsUnlisted state text source rest old new fault × KeepsWriter old new
+      → EndsBy limits count begun ending → line ≡ ending_line count ending → FailsToAdd state now new line fault
+      → FailsToList state text source rest old new fault × KeepsWriter old new
   unended texts rest new begun line ending fault given ends words unsaid =
       let front = texts_from text 1 r.envelopes in
       let cut = cut_on state texts old now new front line r.put unsaid.1 in
@@ -174,8 +174,8 @@ module _ {W : Type 0} {state : W → Device} {text : ℕ → Listed → List ℕ
 
   -- the output broke inside the text of an envelope
   pub unsaid_of : TextsJoin → (rest : Device) (new : BlockWriter W) (line : List ℕ) (e : Listed) (fault : CommandFault) → IsListed limits e
-      → HasGiven mid rest e.octets → (count ≡ max_envelopes → ⊥) → line ≡ text (count + 1) e → IsUnadded state now new line fault
-      → IsUnlisted state text source rest old new fault × KeepsWriter old new
+      → HasGiven mid rest e.octets → (count ≡ max_envelopes → ⊥) → line ≡ text (count + 1) e → FailsToAdd state now new line fault
+      → FailsToList state text source rest old new fault × KeepsWriter old new
   unsaid_of texts rest new line e fault is given below words unsaid =
       let front = texts_from text 1 r.envelopes in
       let cut = cut_on state texts old now new front line r.put unsaid.1 in
@@ -191,7 +191,7 @@ pub failed : {W : Type 0} {state : W → Device} {text : ℕ → Listed → List
     → (mid rest : Device) (v : Unpacking) (a b : Silent W) (fault : CommandFault) → AreListed state text source mid old a.output count
     → IsNext (λ old events new. HasPut state old.output new.output []) (λ sink. 0) (λ sink. HoldsNothing sink.output)
     (λ old new. StaysStuck state old.output new.output) (mid, a) (rest, v, b) (Err fault)
-    → IsUnlisted state text source rest old b.output fault × KeepsWriter old b.output
+    → FailsToList state text source rest old b.output fault × KeepsWriter old b.output
 failed {state = state} {text = text} {source = source} {old = old} joins texts mid rest v a b CannotRead r (c, settled) =
     let put = put_still r c.told in
     let out = all_out state old b.output (texts_from text 1 r.envelopes) r.fresh settled put in
@@ -207,7 +207,7 @@ failed joins texts mid rest v a b OutOfMemory r c = absurd c
 -- ---- what was held is let out at the end
 
 pub settled_starved : {W : Type 0} (state : W → Device) → TextsJoin → (text : ℕ → Listed → List ℕ) (source rest : Device) (a b c : BlockWriter W)
-    (answer result : Result ℕ CommandFault) → HoldsNothing a → IfErr answer (IsUnlisted state text source rest a b) → Settles state b c answer result
+    (answer result : Result ℕ CommandFault) → HoldsNothing a → IfErr answer (FailsToList state text source rest a b) → Settles state b c answer result
     → IfErr result (FailsListing text source rest (device_of state a) (device_of state c))
 settled_starved state texts text source rest a b c (Ok x) result empty err s = rw s.0 tt
 settled_starved state texts text source rest a b c (Err OutOfMemory) result empty (input, es, begun, divided, given, put) (inl s) =

@@ -1,5 +1,5 @@
 -- What `story` writes.
-use Rattle.iim_listing.proofs.Words.{◌≡◌, ℕ, ◌+◌, ◌<◌, ◌⊎◌, inl, inr, refl, sym, ap, subst, ◌∙◌, arith, List, [], ◌∷◌, ◌++◌, length, map, take, append_assoc, length-append, append-nil, Err, take-length, take-append-le, Appends, Device, Wrote, HasGiven, Rose, GiftsJoin, TextsJoin, StoryEvent, octet_for, HoldsNothing, puts_nothing, BlockWriter, Refusal, Unpacking, no_text, EnvelopeHasCome, IsCalm, IsNext, IsRefusal, HasOctets, ending_line, status_of, texts_from, IsDelivered, limits, joined, max_envelopes, Divides, InputEnding, EndsBy, Listed, IsListed, IsRefusedAfter, RefusedBy, IsUnnarrated, text_of, IsLost, IsUntold, KeepsTargets, LetsOut, TellsOn, errors_of, output_of, stops_of, Narrator, CommandFault, CannotRead, CannotWrite, OutOfMemory, AreTaken, IsTelling}
+use Rattle.iim_listing.proofs.Words.{◌≡◌, ℕ, ◌+◌, ◌<◌, ◌⊎◌, inl, inr, refl, sym, ap, subst, ◌∙◌, arith, List, [], ◌∷◌, ◌++◌, length, map, take, append_assoc, length-append, append-nil, Err, take-length, take-append-le, Appends, Device, Wrote, HasGiven, Rose, GiftsJoin, TextsJoin, StoryEvent, octet_for, HoldsNothing, puts_nothing, BlockWriter, Refusal, Unpacking, no_text, EnvelopeHasCome, IsCalm, IsNext, IsRefusal, HasOctets, ending_line, status_of, texts_from, IsDelivered, limits, joined, max_envelopes, Divides, InputEnding, EndsBy, Listed, IsListed, IsRefusedAfter, RefusedBy, FailsToNarrate, text_of, IsLost, FailsToTell, KeepsTargets, LetsOut, TellsOn, errors_of, output_of, stops_of, Narrator, CommandFault, CannotRead, CannotWrite, OutOfMemory, AreTaken, IsTelling}
 use Rattle.std.proofs.Common.{◌≤◌}
 use Rattle.std.specs.List.{AllByRecursion}
 use Rattle.std.proofs.Math.Seq.{take-append_seam}
@@ -17,7 +17,7 @@ use Rattle.iim_output.proofs.Holding.{puts_of_stuck}
 use Rattle.iim_places.specs.{Format.Admitted.object_of, Format.Open.object_so_far}
 use Rattle.iim_places.proofs.Answering.{leads_to, reads_envelope}
 use Rattle.iim_listing.specs.Format.{line_of, AreToldWith, IsTextIn, LeavesText, Narrated, stories, story_of}
-use Rattle.iim_listing.specs.Steps.{HoldsLines, IsSettled, IsUnended, Stands}
+use Rattle.iim_listing.specs.Steps.{HoldsLines, IsSettled, FailsToEnd, Stands}
 use Rattle.iim_listing.specs.Laws.{EnvelopesAreDeliveredAsLines}
 use Rattle.iim_listing.proofs.Listings.{divided, missed_after, none_taken, taken_more, taken_then, texts_parts, whole}
 
@@ -359,7 +359,7 @@ module _ {W E : Type 0} {ws : W → Device} {es : E → Device} {first b : Narra
   -- the output broke inside a story, or inside the text in the octets
   broke_in_text : (d : Narrator W E) → PutsOn ws b.output d.output [] → KeepsTargets b d → errors_of es d ≡ errors_of es b
       → (k ≡ length begun → held_of d.output ≡ [] → (e : Listed) × IsListed limits e × (e.octets ≡ begun)) → 0 < stops_of d
-      → IsUnnarrated source rest (output_of ws first) (output_of ws d) (errors_of es first) (errors_of es d) CannotWrite × KeepsTargets first d
+      → FailsToNarrate source rest (output_of ws first) (output_of ws d) (errors_of es first) (errors_of es d) CannotWrite × KeepsTargets first d
   broke_in_text d put keeps same all rose =
       let s = stands_still h.stands put in
       let told = stories s.told in
@@ -424,7 +424,7 @@ module _ {W E : Type 0} {ws : W → Device} {es : E → Device} {first b : Narra
 
   -- what was held is lost
   lost : (d : Narrator W E) (line : List ℕ) → stops_of b ≡ 0 → (line ≡ []) ⊎ TellsEnd count begun words line → IsLost ws es b d line
-      → IsUnnarrated source rest (output_of ws first) (output_of ws d) (errors_of es first) (errors_of es d) CannotWrite × KeepsTargets first d
+      → FailsToNarrate source rest (output_of ws first) (output_of ws d) (errors_of es first) (errors_of es d) CannotWrite × KeepsTargets first d
   lost d line none why l = elim l.broke [
     | inl (stuck, same) ↦
         broke_in_text d (puts_of_stuck ws b.output d.output [] stuck.0 stuck.2) l.keeps same
@@ -440,8 +440,8 @@ module _ {W E : Type 0} {ws : W → Device} {es : E → Device} {first b : Narra
 
   -- a last line was not told, or nothing after what was held
   pub untold : (d : Narrator W E) (line : List ℕ) → stops_of b ≡ 0 → (line ≡ []) ⊎ TellsEnd count begun words line → (fault : CommandFault)
-      → IsUntold ws es b d line fault
-      → IsUnnarrated source rest (output_of ws first) (output_of ws d) (errors_of es first) (errors_of es d) fault × KeepsTargets first d
+      → FailsToTell ws es b d line fault
+      → FailsToNarrate source rest (output_of ws first) (output_of ws d) (errors_of es first) (errors_of es d) fault × KeepsTargets first d
   untold d line none why CannotRead l = absurd l
   untold d line none why CannotWrite l = lost d line none why l
   untold d line none why OutOfMemory l =
@@ -465,8 +465,8 @@ narrated_more {e = e} h is none d line below words (put, calm, lines) = record {
 -- or it is not
 pub unended : {W E : Type 0} {ws : W → Device} {es : E → Device} {first b : Narrator W E} {source rest : Device} {count : ℕ} {e : Listed} → TextsJoin
     → HasBegun ws es first source rest b count e.octets (length e.octets) (text_of e) → IsListed limits e → stops_of b ≡ 0 → (d : Narrator W E)
-    (fault : CommandFault) → IsUnended ws es b d fault
-    → IsUnnarrated source rest (output_of ws first) (output_of ws d) (errors_of es first) (errors_of es d) fault × KeepsTargets first d
+    (fault : CommandFault) → FailsToEnd ws es b d fault
+    → FailsToNarrate source rest (output_of ws first) (output_of ws d) (errors_of es first) (errors_of es d) fault × KeepsTargets first d
 unended texts h is none d fault (inl u) = untold texts h d [] none (inl refl) fault u
 unended {es = es} {b = b} {e = e} texts h is none d fault (inr (broke, put, rose, same)) =
     rw broke (broke_in_text texts h d put (put.same, ap (λ m. m.ghost_name) same) (ap (λ m. es m.now) same) (λ whole nothing. (e, is, refl))
@@ -476,7 +476,7 @@ unended {es = es} {b = b} {e = e} texts h is none d fault (inr (broke, put, rose
 pub unfed : {W E : Type 0} {ws : W → Device} {es : E → Device} {first : Narrator W E} {source : Device} {count : ℕ} → GiftsJoin → TextsJoin
     → (mid rest : Device) (v : Unpacking) (a b : Narrator W E) (fault : CommandFault) → IsTelling ws es first source mid a count
     → IsCalm (stops_of a) (stops_of b) (Err fault) → IsNext (TellsOn ws es) stops_of IsSettled (λ a b. IsLost ws es a b []) (mid, a) (rest, v, b) (Err fault)
-    → IsUnnarrated source rest (output_of ws first) (output_of ws b) (errors_of es first) (errors_of es b) fault × KeepsTargets first b
+    → FailsToNarrate source rest (output_of ws first) (output_of ws b) (errors_of es first) (errors_of es b) fault × KeepsTargets first b
 unfed joins texts mid rest v a b CannotRead r calm (c, settled) =
     let s = stands_told texts r.stands c.told in
     let out = stories_out s settled.0 (calm ∙ r.unbroken) in
@@ -494,7 +494,7 @@ unfed joins texts mid rest v a b CannotWrite r calm (inr u) =
 unfed joins texts mid rest v a b OutOfMemory r calm c = absurd c
 
 -- memory was short before anything was read
-pub nothing_told : GiftsJoin → TextsJoin → (source old new errors : Device) → new ≡ old → IsUnnarrated source source old new errors errors OutOfMemory
+pub nothing_told : GiftsJoin → TextsJoin → (source old new errors : Device) → new ≡ old → FailsToNarrate source source old new errors errors OutOfMemory
 nothing_told joins texts source old new errors same =
     let divides : Divides limits [] [] [] = record { admitted = tt; parts = refl; few = omega arith } in
     ([], [], [], 0, [], divides, joins.none source, ([], ([], no_text, refl), refl), rw same (texts.none old), texts.none errors)

@@ -1,7 +1,7 @@
 -- What a narrator loses.
-use Rattle.iim_listing.proofs.Words.{◌≡◌, ℕ, ◌+◌, inl, inr, ◌∙◌, arith, List, [], ◌++◌, length, append-nil, length-append, Result, Ok, Err, IfErr, take-append-le, MutBor, Device, TextsJoin, CommandFault, IsLost, IsUntold, LetsOut, errors_of, output_of, Narrator}
+use Rattle.iim_listing.proofs.Words.{◌≡◌, ℕ, ◌+◌, inl, inr, ◌∙◌, arith, List, [], ◌++◌, length, append-nil, length-append, Result, Ok, Err, IfErr, take-append-le, MutBor, Device, TextsJoin, CommandFault, IsLost, FailsToTell, LetsOut, errors_of, output_of, Narrator}
 use Rattle.iim_dataset.specs.States.Devices.{Stopped}
-use Rattle.iim_output.specs.Format.{IsUnsaid}
+use Rattle.iim_output.specs.Format.{FailsToSay}
 use Rattle.iim_listing.specs.Steps.{TextIsOut}
 
 stopped_before : (old new : Device) (xs ys : List ℕ) (n : ℕ) → Stopped old new (xs ++ []) n → Stopped old new (xs ++ ys) n
@@ -22,7 +22,7 @@ lost_more ws es a b line l = record {
 -- all that was held is out, and a line after it is not
 pub unsaid : {W E T : Type 0} (ws : W → Device) (es : E → Device) → TextsJoin → (a b d : Narrator W E) (said line : List ℕ) (r : Result T CommandFault)
     → said ≡ line → LetsOut ws es a b [] → TextIsOut ws a d → d.errors.ghost_name ≡ b.errors.ghost_name
-    → IfErr r (IsUnsaid (errors_of es b) (errors_of es d) said) → IfErr r (IsUntold ws es a d line)
+    → IfErr r (FailsToSay (errors_of es b) (errors_of es d) said) → IfErr r (FailsToTell ws es a d line)
 unsaid ws es texts a b d said line (Ok x) whole l text same u = tt
 unsaid ws es texts a b d said line (Err fault) whole l text same (is, n, stopped) =
     let lines = a.lines.items ++ [] in

@@ -13,7 +13,7 @@ use Rattle.iim_unpack.proofs.Intakes.{fed_and_done, fed_and_faults, missed_open,
 use Rattle.iim_places.specs.declared.refusal.Cause.{Cause}
 use Rattle.iim_places.specs.declared.refusal.Cause.TheVariants.{Message, Truncated}
 use Rattle.wire_message.specs.declared.fault.MessageCause.TheVariants as messages
-use Rattle.iim_listing.specs.States.{CanAskForMore, IsCutOff, IsHeldUp, IsUnheard}
+use Rattle.iim_listing.specs.States.{CanAskForMore, IsCutOff, IsHeldUp, SinkRefuses}
 use Rattle.iim_listing.specs.Steps.{IsOfFault}
 use Rattle.iim_listing.specs.declared.coming.Next.{Next}
 
@@ -64,7 +64,7 @@ module _ {S : Type 0} (goes : S → List StoryEvent → S → Type 0) (failures 
       )
 
   is_unheard : (e : Refusal) → e.cause ≡ Message messages.Sink → WasRefused goes failures old new u v a b e ⊎ WasTruncated goes failures old new u v a b e
-      → IsUnheard goes failures old new a b
+      → SinkRefuses goes failures old new a b
   is_unheard e sink (inl w) =
       let is = w.refuses [] 0 at in
       record {

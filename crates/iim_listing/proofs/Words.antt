@@ -3,8 +3,8 @@ pub use Rattle.iim_dataset.proofs.DeviceLaws.{missed_later}
 pub use Rattle.iim_dataset.specs.Format.Octets.{Rose}
 pub use Rattle.iim_dataset.specs.Laws.{GiftsJoin, TextsJoin}
 pub use Rattle.iim_dataset.specs.States.Devices.{Device, HasGiven, Wrote}
-pub use Rattle.iim_listing.specs.Format.{IsDelivered, ending_line, status_of, texts_from, IsUnnarrated, text_of, FailsListing}
-pub use Rattle.iim_listing.specs.Steps.{IsLost, IsUntold, KeepsTargets, LetsOut, TellsOn, errors_of, output_of, stops_of, AreListed, AreTaken, IsTelling}
+pub use Rattle.iim_listing.specs.Format.{IsDelivered, ending_line, status_of, texts_from, FailsToNarrate, text_of, FailsListing}
+pub use Rattle.iim_listing.specs.Steps.{IsLost, FailsToTell, KeepsTargets, LetsOut, TellsOn, errors_of, output_of, stops_of, AreListed, AreTaken, IsTelling}
 pub use Rattle.iim_listing.specs.States.{EnvelopeHasCome, IsCalm, IsNext, IsRefusal}
 pub use Rattle.iim_listing.specs.declared.narrator.Narrator.{Narrator}
 pub use Rattle.iim_output.specs.Format.{limits, accepted_line, refused_line}

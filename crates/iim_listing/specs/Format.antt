@@ -145,16 +145,16 @@ BreaksInLines old new errors_old errors_new envelopes rest = (told : List ℕ) �
 -- which may be that of an earlier envelope than the one that came last: the lines that were held are lost then, and no line is told
 -- before its story is out. Or the errors broke inside their lines, when all that came of the stories was out. Or memory was short: the
 -- stories of some of the envelopes that came are out, and of octets after them the text in the first k.
-abbrev pub IsUnnarrated : Device → Device → Device → Device → Device → Device → CommandFault → Type 0
-IsUnnarrated source rest old new errors_old errors_new CannotRead =
+abbrev pub FailsToNarrate : Device → Device → Device → Device → Device → Device → CommandFault → Type 0
+FailsToNarrate source rest old new errors_old errors_new CannotRead =
     (input : List ℕ) × (envelopes : List Listed) × (begun : List ℕ) × (fault : IoFault) × (words : List ℕ)
     × Divides limits input envelopes begun × IsOpen limits begun × MissedAfter source rest input fault × IsTextIn begun words
     × Wrote old new (stories envelopes ++ words) × Wrote errors_old errors_new (texts_from line_of 1 envelopes)
-IsUnnarrated source rest old new errors_old errors_new CannotWrite =
+FailsToNarrate source rest old new errors_old errors_new CannotWrite =
     (input : List ℕ) × (envelopes : List Listed) × (begun : List ℕ) × Divides limits input envelopes begun × HasGiven source rest input
     × ((BreaksInText old new envelopes begun × TellsFront errors_old errors_new envelopes)
     ⊎ BreaksInLines old new errors_old errors_new envelopes begun)
-IsUnnarrated source rest old new errors_old errors_new OutOfMemory =
+FailsToNarrate source rest old new errors_old errors_new OutOfMemory =
     (input : List ℕ) × (envelopes : List Listed) × (begun : List ℕ) × (k : ℕ) × (words : List ℕ)
     × Divides limits input envelopes begun × HasGiven source rest input × IsTextIn (take k begun) words
     × Wrote old new (stories envelopes ++ words) × Wrote errors_old errors_new (texts_from line_of 1 envelopes)

@@ -34,7 +34,7 @@ pub record IsRefusal {S : Type 0} (goes : S → List StoryEvent → S → Type 0
   pub delivered : IsDelivered (take k octets) more
 
 -- Octets came, of which the sink took the text of the first k and refused the next.
-pub record IsUnheard {S : Type 0} (goes : S → List StoryEvent → S → Type 0) (failures : S → ℕ) (old new : Device) (a b : S) : Type 0 where
+pub record SinkRefuses {S : Type 0} (goes : S → List StoryEvent → S → Type 0) (failures : S → ℕ) (old new : Device) (a b : S) : Type 0 where
   pub octets : List ℕ
   pub more : List StoryEvent
   pub came : Came goes old new a b octets more
@@ -72,7 +72,7 @@ IsNext goes failures settled stuck (old, a) (new, u, b) (Ok (next.Envelope octet
 IsNext goes failures settled stuck (old, a) (new, u, b) (Ok next.End) = HasGiven old new [] × IsAtEnd new.octets × goes a [] b × settled b
 IsNext goes failures settled stuck (old, a) (new, u, b) (Ok (next.Refused refusal)) = IsRefusal goes old new a b refusal
 IsNext goes failures settled stuck (old, a) (new, u, b) (Err CannotRead) = IsCutOff goes old new a b × settled b
-IsNext goes failures settled stuck (old, a) (new, u, b) (Err CannotWrite) = IsUnheard goes failures old new a b ⊎ IsHeldUp goes failures stuck old new a b
+IsNext goes failures settled stuck (old, a) (new, u, b) (Err CannotWrite) = SinkRefuses goes failures old new a b ⊎ IsHeldUp goes failures stuck old new a b
 IsNext goes failures settled stuck (old, a) (new, u, b) (Err OutOfMemory) = ⊥
 
 -- The sink counted a failure only where it refused.

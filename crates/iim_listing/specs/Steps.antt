@@ -7,7 +7,7 @@ use Rattle.iim_dataset.specs.States.Devices.{Device, Wrote, Stopped, HasGiven}
 use Rattle.wire_story.specs.Format.Texts.{StoryEvent}
 use Rattle.iim_output.specs.States.Holding.{HoldsNothing, KeepsWriter, PutsLines, PutsOn, StaysStuck, device_of, stops_of as writer_stops, HasPut}
 use Rattle.iim_output.specs.{HoldingLaws.puts_nothing, HoldingLaws.puts_joined, Format.limits}
-use Rattle.iim_listing.specs.Format.{CommandFault, CannotRead, CannotWrite, OutOfMemory, texts_from, line_of, FailsListing, WritesListing, IsTextIn, IsUnnarrated, Narrated, stories, story_of, text_of}
+use Rattle.iim_listing.specs.Format.{CommandFault, CannotRead, CannotWrite, OutOfMemory, texts_from, line_of, FailsListing, WritesListing, IsTextIn, FailsToNarrate, Narrated, stories, story_of, text_of}
 use Rattle.iim_places.specs.Format.Streams.{Divides, Listed, joined}
 pub use Rattle.iim_output.specs.declared.block_writer.BlockWriter.{BlockWriter}
 pub use Rattle.iim_listing.specs.declared.narrator.Narrator.{Narrator}
@@ -78,14 +78,14 @@ abbrev pub IsStuck : {W E : Type 0} → (W → Device) → (E → Device) → Na
 IsStuck ws es a b = IsLost ws es a b []
 
 -- Why a last line isn't told. Where memory was refused for it, all that was held is out.
-abbrev pub IsUntold : {W E : Type 0} → (W → Device) → (E → Device) → Narrator W E → Narrator W E → List ℕ → CommandFault → Type 0
-IsUntold ws es a b line CannotRead = ⊥
-IsUntold ws es a b line CannotWrite = IsLost ws es a b line
-IsUntold ws es a b line OutOfMemory = LetsOut ws es a b []
+abbrev pub FailsToTell : {W E : Type 0} → (W → Device) → (E → Device) → Narrator W E → Narrator W E → List ℕ → CommandFault → Type 0
+FailsToTell ws es a b line CannotRead = ⊥
+FailsToTell ws es a b line CannotWrite = IsLost ws es a b line
+FailsToTell ws es a b line OutOfMemory = LetsOut ws es a b []
 
 -- Why a story isn't ended: what is held is lost, or is out where memory was refused for the line; or the LF was not taken, and no line went out.
-abbrev pub IsUnended : {W E : Type 0} → (W → Device) → (E → Device) → Narrator W E → Narrator W E → CommandFault → Type 0
-IsUnended ws es a b fault = IsUntold ws es a b [] fault
+abbrev pub FailsToEnd : {W E : Type 0} → (W → Device) → (E → Device) → Narrator W E → Narrator W E → CommandFault → Type 0
+FailsToEnd ws es a b fault = FailsToTell ws es a b [] fault
     ⊎ ((fault ≡ CannotWrite) × PutsOn ws a.output b.output [] × Rose (stops_of a) (stops_of b) × (b.errors ≡ a.errors))
 
 pub tells_nothing : {W E : Type 0} (ws : W → Device) (es : E → Device) (n : Narrator W E) → TellsOn ws es n [] n
@@ -135,10 +135,10 @@ tells_joined ws es a b c xs ys first then = record {
 -- ---- How a listing is held and let out.
 
 -- Why the listing isn't out. Where memory was short, some of the envelopes that came are listed, out or held.
-abbrev pub IsUnlisted : {W : Type 0} → (W → Device) → (ℕ → Listed → List ℕ) → Device → Device → BlockWriter W → BlockWriter W → CommandFault → Type 0
-IsUnlisted state text source rest old new OutOfMemory = (input : List ℕ) × (envelopes : List Listed) × (begun : List ℕ)
+abbrev pub FailsToList : {W : Type 0} → (W → Device) → (ℕ → Listed → List ℕ) → Device → Device → BlockWriter W → BlockWriter W → CommandFault → Type 0
+FailsToList state text source rest old new OutOfMemory = (input : List ℕ) × (envelopes : List Listed) × (begun : List ℕ)
     × Divides limits input envelopes begun × HasGiven source rest input × HasPut state old new (texts_from text 1 envelopes)
-IsUnlisted state text source rest old new fault = FailsListing text source rest (device_of state old) (device_of state new) fault
+FailsToList state text source rest old new fault = FailsListing text source rest (device_of state old) (device_of state new) fault
 
 -- What was held is let out where memory was short, or the output breaks; any other answer is handed on, and nothing is done.
 abbrev pub Settles : {W : Type 0} → (W → Device) → BlockWriter W → BlockWriter W → Result ℕ CommandFault → Result ℕ CommandFault → Type 0
@@ -170,7 +170,7 @@ abbrev pub ListsNext : {W : Type 0} → (W → Device) → (ℕ → Listed → L
     → ℕ → Result (Option ℕ) CommandFault → Type 0
 ListsNext {W = W} state text mid rest now new count result = (source : Device) (old : BlockWriter W) → AreListed state text source mid old now count
     → NextOf (AreListed state text source rest old new (count + 1)) (WritesListing text source rest (device_of state old) (device_of state new))
-    (IsUnlisted state text source rest old new) (KeepsWriter old new) result
+    (FailsToList state text source rest old new) (KeepsWriter old new) result
 
 -- ---- stories
 
@@ -208,7 +208,7 @@ abbrev pub TellsNext : {W E : Type 0} → (W → Device) → (E → Device) → 
 TellsNext {W = W} {E = E} ws es mid rest now new count result = (source : Device) (first : Narrator W E) → IsTelling ws es first source mid now count
     → NextOf (IsTelling ws es first source rest new (count + 1))
     (Narrated source rest (output_of ws first) (output_of ws new) (errors_of es first) (errors_of es new))
-    (IsUnnarrated source rest (output_of ws first) (output_of ws new) (errors_of es first) (errors_of es new)) (KeepsTargets first new) result
+    (FailsToNarrate source rest (output_of ws first) (output_of ws new) (errors_of es first) (errors_of es new)) (KeepsTargets first new) result
 
 -- What it comes to that an intake gives nothing. Where the sink refused octets it is a fault of the output.
 abbrev pub IsOfFault : IntakeFault → Result Next CommandFault → Type 0

@@ -9,7 +9,7 @@ ghost use Rattle.iim_output.specs.Format.{limits};
 ghost use Rattle.iim_places.specs.Format.Streams.{Listed, max_envelopes};
 ghost use Rattle.iim_listing.specs.Format.{told, WritesListing, FailsListing};
 ghost use Rattle.iim_output.specs.States.Holding.{HoldsNothing, KeepsWriter, device_of};
-ghost use Rattle.iim_listing.specs.Steps.{IsUnlisted, Settles, ListsNext};
+ghost use Rattle.iim_listing.specs.Steps.{FailsToList, Settles, ListsNext};
 
 use crate::coming::{LIMITS, Next, take_next};
 use iim_dataset::device_laws::{gifts_join, texts_join};
@@ -97,7 +97,7 @@ fn list_texts<P: EnvelopeLines, R: Source, W: Target>(
     requires held { HoldsNothing silent.old.output }
     ensures ok { IfOk result (WritesListing P.written (in_line R.state intake.old) (in_line R.state intake.new)
         (device_of W.state silent.old.output) (device_of W.state silent.new.output)) }
-    ensures err { IfErr result (IsUnlisted W.state P.written (in_line R.state intake.old) (in_line R.state intake.new)
+    ensures err { IfErr result (FailsToList W.state P.written (in_line R.state intake.old) (in_line R.state intake.new)
         silent.old.output silent.new.output) }
     ensures same { KeepsWriter silent.old.output silent.new.output }
     ensures leads { R.leads intake.old.reader intake.new.reader }

@@ -31,7 +31,7 @@ pub(crate) struct Narrator<'o, 'e, W, E> {
 impl<'o, 'e, W: Target, E: Target> Narrator<'o, 'e, W, E> {
     ghost use Rattle.iim_dataset.specs.Format.Octets.{lf};
     ghost use Rattle.iim_output.specs.States.Holding.{PutsOn};
-    ghost use Rattle.iim_listing.specs.Steps.{HoldsLines, IsUnended, IsUntold, LetsOut, stops_of};
+    ghost use Rattle.iim_listing.specs.Steps.{HoldsLines, FailsToEnd, FailsToTell, LetsOut, stops_of};
 
     /// A narrator that holds no line.
     pub(crate) fn new(
@@ -67,7 +67,7 @@ impl<'o, 'e, W: Target, E: Target> Narrator<'o, 'e, W, E> {
 
     /// Lets out all that it holds where memory was refused, and answers which fault it comes to.
     fn starve(&mut self) -> CommandFault
-        ensures { IsUntold W.state E.state self.old self.new [] result }
+        ensures { FailsToTell W.state E.state self.old self.new [] result }
     {
         match self.let_out() {
             Ok(()) => CommandFault::OutOfMemory,
@@ -91,7 +91,7 @@ impl<'o, 'e, W: Target, E: Target> Narrator<'o, 'e, W, E> {
     pub(crate) fn end_story(&mut self, number: u64, octets: u64) -> Result<(), CommandFault>
         ensures ok { OnOk result (PutsOn W.state self.old.output self.new.output (lf ∷ [])
             × (stops_of self.new ≡ stops_of self.old) × HoldsLines self.old self.new (accepted_line number octets)) }
-        ensures err { IfErr result (IsUnended W.state E.state self.old self.new) }
+        ensures err { IfErr result (FailsToEnd W.state E.state self.old self.new) }
     {
         if self.hold_line(number, octets).is_err() {
             return Err(self.starve());
@@ -105,7 +105,7 @@ impl<'o, 'e, W: Target, E: Target> Narrator<'o, 'e, W, E> {
     /// Lets out all that it holds, and then tells a last line.
     pub(crate) fn tell_last(&mut self, line: &[u8]) -> Result<(), CommandFault>
         ensures ok { OnOk result (LetsOut W.state E.state self.old self.new line.now) }
-        ensures err { IfErr result (IsUntold W.state E.state self.old self.new line.now) }
+        ensures err { IfErr result (FailsToTell W.state E.state self.old self.new line.now) }
     {
         texts_join();
         match self.let_out() {
@@ -117,7 +117,7 @@ impl<'o, 'e, W: Target, E: Target> Narrator<'o, 'e, W, E> {
     /// Lets out all that it holds, and then tells the line of octets that are refused.
     pub(crate) fn tell_refusal(&mut self, number: u64, refusal: Refusal) -> Result<(), CommandFault>
         ensures ok { OnOk result (LetsOut W.state E.state self.old self.new (refused_line number refusal)) }
-        ensures err { IfErr result (IsUntold W.state E.state self.old self.new (refused_line number refusal)) }
+        ensures err { IfErr result (FailsToTell W.state E.state self.old self.new (refused_line number refusal)) }
     {
         texts_join();
         match self.let_out() {

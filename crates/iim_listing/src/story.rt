@@ -3,7 +3,7 @@
 ghost use Rattle.std.specs.Prelude.{◌≡◌, ◌<◌, ◌≤◌, None, Ok, Err, IfOk, IfErr};
 ghost use Rattle.iim_unpack.specs.States.Intakes.{in_line};
 ghost use Rattle.iim_listing.specs.Steps.{IsSettled, KeepsTargets, errors_of, output_of, stops_of, TellsNext};
-ghost use Rattle.iim_listing.specs.Format.{IsUnnarrated, Narrated};
+ghost use Rattle.iim_listing.specs.Format.{FailsToNarrate, Narrated};
 ghost use Rattle.iim_places.specs.Format.Streams.{max_envelopes};
 ghost use Rattle.iim_unpack.specs.States.Unpacking.{limits_in};
 ghost use Rattle.iim_output.specs.Format.{limits};
@@ -73,7 +73,7 @@ fn tell_stories<R: Source, W: Target, E: Target>(
     ensures ok { IfOk result (Narrated (in_line R.state intake.old) (in_line R.state intake.new)
         (output_of W.state narrator.old) (output_of W.state narrator.new)
         (errors_of E.state narrator.old) (errors_of E.state narrator.new)) }
-    ensures err { IfErr result (IsUnnarrated (in_line R.state intake.old) (in_line R.state intake.new)
+    ensures err { IfErr result (FailsToNarrate (in_line R.state intake.old) (in_line R.state intake.new)
         (output_of W.state narrator.old) (output_of W.state narrator.new)
         (errors_of E.state narrator.old) (errors_of E.state narrator.new)) }
     ensures same { KeepsTargets narrator.old narrator.new }
@@ -105,7 +105,7 @@ pub fn narrate<R: Source, W: Target, E: Target>(
     requires alive { intake.old.failed ≡ None }
     ensures ok { IfOk result (Narrated (in_line R.state intake.old) (in_line R.state intake.new)
         (W.state output.old) (W.state output.new) (E.state errors.old) (E.state errors.new)) }
-    ensures err { IfErr result (IsUnnarrated (in_line R.state intake.old) (in_line R.state intake.new)
+    ensures err { IfErr result (FailsToNarrate (in_line R.state intake.old) (in_line R.state intake.new)
         (W.state output.old) (W.state output.new) (E.state errors.old) (E.state errors.new)) }
     ensures leads { R.leads intake.old.reader intake.new.reader }
 {

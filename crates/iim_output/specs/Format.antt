@@ -57,5 +57,5 @@ abbrev pub IsSaid : Device → Device → List ℕ → ℕ → ℕ → Type 0
 IsSaid old new text want status = (Wrote old new text × (status ≡ want)) ⊎ ((n : ℕ) × Stopped old new text n × (status ≡ status_failed))
 
 -- The output broke inside the text.
-abbrev pub IsUnsaid : Device → Device → List ℕ → CommandFault → Type 0
-IsUnsaid old new text fault = (fault ≡ CannotWrite) × (n : ℕ) × Stopped old new text n
+abbrev pub FailsToSay : Device → Device → List ℕ → CommandFault → Type 0
+FailsToSay old new text fault = (fault ≡ CannotWrite) × (n : ℕ) × Stopped old new text n

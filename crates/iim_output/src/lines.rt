@@ -2,8 +2,8 @@
 
 ghost use Rattle.std.specs.Prelude.{◌≡◌, ◌++◌, length, IfErr, OnOk};
 ghost use Rattle.iim_dataset.specs.States.Devices.{Wrote, WithinInterruptionLimit};
-ghost use Rattle.iim_output.specs.Format.{IsSaid, IsUnsaid, accepted_line, refused_line};
-ghost use Rattle.iim_output.specs.States.Holding.{HasPut, HoldsNothing, IsUnadded};
+ghost use Rattle.iim_output.specs.Format.{IsSaid, FailsToSay, accepted_line, refused_line};
+ghost use Rattle.iim_output.specs.States.Holding.{HasPut, HoldsNothing, FailsToAdd};
 
 use crate::block_writer::BlockWriter;
 use crate::fault::CommandFault;
@@ -21,7 +21,7 @@ pub const TOO_MANY: &str = "too many envelopes\n";
 /// Writes a text.
 pub fn say<W: Target>(output: &mut W, text: &[u8]) -> Result<(), CommandFault>
     ensures ok { OnOk result (Wrote (W.state output.old) (W.state output.new) text.now) }
-    ensures err { IfErr result (IsUnsaid (W.state output.old) (W.state output.new) text.now) }
+    ensures err { IfErr result (FailsToSay (W.state output.old) (W.state output.new) text.now) }
     // A million interruptions at most for each octet of the text.
     ensures patience { WithinInterruptionLimit (length text.now) (W.state output.old) (W.state output.new) }
 {
@@ -34,7 +34,7 @@ pub fn say<W: Target>(output: &mut W, text: &[u8]) -> Result<(), CommandFault>
 /// Adds a text to what is written in blocks.
 pub fn add<W: Target>(output: &mut BlockWriter<'_, W>, text: &[u8]) -> Result<(), CommandFault>
     ensures ok { OnOk result (HasPut W.state output.old output.new text.now) }
-    ensures err { IfErr result (IsUnadded W.state output.old output.new text.now) }
+    ensures err { IfErr result (FailsToAdd W.state output.old output.new text.now) }
 {
     match output.put(text) {
         Ok(()) => Ok(()),
@@ -46,7 +46,7 @@ pub fn add<W: Target>(output: &mut BlockWriter<'_, W>, text: &[u8]) -> Result<()
 pub fn add_last<W: Target>(output: &mut BlockWriter<'_, W>, text: &[u8]) -> Result<(), CommandFault>
     ensures ok { OnOk result (HasPut W.state output.old output.new text.now) }
     ensures held { OnOk result (HoldsNothing output.new) }
-    ensures err { IfErr result (IsUnadded W.state output.old output.new text.now) }
+    ensures err { IfErr result (FailsToAdd W.state output.old output.new text.now) }
 {
     texts_join();
     add(output, text)?;

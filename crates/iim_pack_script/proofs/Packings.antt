@@ -1,5 +1,5 @@
 -- `pack`: what its parts leave comes to what it leaves.
-use Rattle.iim_pack_script.proofs.Words.{◌≡◌, ℕ, ◌+◌, ap, length-append, IfOk, min, ◌≤◌, ◌++◌, List, [], length, inl, inr, refl, take, drop, append_assoc, take-append-drop, sym, subst, ◌∙◌, arith, Bool, true, false, Option, Some, None, Result, Ok, Err, IfErr, IsTrue, Device, BrokeAfter, HasGiven, Stopped, Wrote, Begins, pack_cause, max_script, Answered, Asked, IsBrokenOff, IsNotPacked, IsPacked, IsPast, IsPlanOf, IsRead, IsScriptRefusal, IsScriptOf, IsUnanswered, IsUnread, ScriptContent, object_of, IsFresh, block_device, held_in, octets_behind, ComesTo, IsFailedRead, TellsFault}
+use Rattle.iim_pack_script.proofs.Words.{◌≡◌, ℕ, ◌+◌, ap, length-append, IfOk, min, ◌≤◌, ◌++◌, List, [], length, inl, inr, refl, take, drop, append_assoc, take-append-drop, sym, subst, ◌∙◌, arith, Bool, true, false, Option, Some, None, Result, Ok, Err, IfErr, IsTrue, Device, BrokeAfter, HasGiven, Stopped, Wrote, Begins, pack_cause, max_script, Answered, Asked, IsBrokenOff, IsNotPacked, IsPacked, IsPast, IsPlanOf, IsRead, IsScriptRefusal, IsScriptOf, FailsToAnswer, FailsToRead, ScriptContent, object_of, IsFresh, block_device, held_in, octets_behind, ComesTo, IsFailedRead, TellsFault}
 use Rattle.std.specs.Prelude.{if◌then◌else◌}
 use Rattle.std.specs.Option.{unwrap_or}
 use Rattle.iim_dataset.specs.{Format.Octets.greatest_size, Steps.appends_nothing, Laws.GiftsJoin}
@@ -145,7 +145,7 @@ told_fault a octets old f _ is h = absurd h
 
 pub unread : GiftsJoin → (first mid new : Device) (script : List ℕ) (room : ℕ) (fault : CommandFault) → length script ≤ max_script
     → length script + room ≤ max_script + 1
-    → HasGiven first mid script → IsFailedRead mid new room fault → IsUnread first new fault
+    → HasGiven first mid script → IsFailedRead mid new room fault → FailsToRead first new fault
 unread joins first mid new script room CannotRead few fits given h = (script, h.0, few, joins.missed first mid new script h.0 given h.1)
 unread joins first mid new script room CannotWrite few fits given h = absurd h
 unread joins first mid new script room OutOfMemory few fits given h =
@@ -159,8 +159,8 @@ few_read : (old new : Device) (octets : List ℕ) → IsRead old new octets → 
 few_read old new octets read = elim read.1 [ inl h ↦ (let within : length octets ≤ max_script = h.1 in omega (arith, within)) | inr h ↦ omega (arith, h) ]
 
 -- the input was not read
-pub unread_as : (a : Asked) (first rest old errors : Device) (fault : CommandFault) → IsUnread first rest fault
-    → IsUnanswered a (devices first old errors) (devices rest old errors) fault
+pub unread_as : (a : Asked) (first rest old errors : Device) (fault : CommandFault) → FailsToRead first rest fault
+    → FailsToAnswer a (devices first old errors) (devices rest old errors) fault
 unread_as a first rest old errors CannotWrite h = absurd h
 unread_as a first rest old errors _ h = (h, refl)
 
@@ -173,12 +173,12 @@ told_refused a octets text first rest old new errors said (Err e) read same refu
 -- memory was short for the line that tells a refusal
 pub starved_as : (a : Asked) (octets : List ℕ) (first rest old new errors said : Device) (result : Result ℕ CommandFault)
     → IsRead first rest octets → new ≡ old → IfErr result (λ fault. fault ≡ OutOfMemory)
-    → IfErr result (IsUnanswered a (devices first old errors) (devices rest new said))
+    → IfErr result (FailsToAnswer a (devices first old errors) (devices rest new said))
 starved_as a octets first rest old new errors said (Ok status) read same starved = tt
 starved_as a octets first rest old new errors said (Err fault) read same starved = rw starved ((octets, few_read first rest octets read, read.0), same)
 
 pub unanswered_as : (a : Asked) (octets : List ℕ) (first rest old new errors said : Device) (fault : CommandFault) → IsRead first rest octets
-    → IsNotPacked a octets old new (Around fault) → IsUnanswered a (devices first old errors) (devices rest new said) fault
+    → IsNotPacked a octets old new (Around fault) → FailsToAnswer a (devices first old errors) (devices rest new said) fault
 unanswered_as a octets first rest old new errors said CannotRead read h = absurd h
 unanswered_as a octets first rest old new errors said CannotWrite read h = (octets, read, h)
 unanswered_as a octets first rest old new errors said OutOfMemory read h = ((octets, few_read first rest octets read, read.0), h)

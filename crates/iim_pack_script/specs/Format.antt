@@ -90,10 +90,10 @@ abbrev pub IsRead : Device → Device → List ℕ → Type 0
 IsRead old new octets = HasGiven old new octets × ((IsAtEnd new.octets × (length octets ≤ max_script)) ⊎ (length octets ≡ max_script + 1))
 
 -- Why the input was not read: a read failed after no more octets than a script may have; or memory was short.
-abbrev pub IsUnread : Device → Device → CommandFault → Type 0
-IsUnread old new CannotRead = (octets : List ℕ) × (fault : IoFault) × (length octets ≤ max_script) × MissedAfter old new octets fault
-IsUnread old new CannotWrite = ⊥
-IsUnread old new OutOfMemory = (octets : List ℕ) × (length octets ≤ max_script + 1) × HasGiven old new octets
+abbrev pub FailsToRead : Device → Device → CommandFault → Type 0
+FailsToRead old new CannotRead = (octets : List ℕ) × (fault : IoFault) × (length octets ≤ max_script) × MissedAfter old new octets fault
+FailsToRead old new CannotWrite = ⊥
+FailsToRead old new OutOfMemory = (octets : List ℕ) × (length octets ≤ max_script + 1) × HasGiven old new octets
 
 -- ---- the output
 
@@ -125,6 +125,6 @@ Answered a old new status = (octets : List ℕ) × IsRead old.input new.input oc
     ⊎ ((text : List ℕ) × IsScriptRefusal a octets text × (new.output ≡ old.output) × IsSaid old.errors new.errors text status_refused status))
 
 -- Why there is no answer: the input was not read; or memory was short; or the output broke. Only in the last case anything is written.
-abbrev pub IsUnanswered : Asked → Devices → Devices → CommandFault → Type 0
-IsUnanswered a old new CannotWrite = (octets : List ℕ) × IsRead old.input new.input octets × IsBrokenOff a octets old.output new.output
-IsUnanswered a old new fault = IsUnread old.input new.input fault × (new.output ≡ old.output)
+abbrev pub FailsToAnswer : Asked → Devices → Devices → CommandFault → Type 0
+FailsToAnswer a old new CannotWrite = (octets : List ℕ) × IsRead old.input new.input octets × IsBrokenOff a octets old.output new.output
+FailsToAnswer a old new fault = FailsToRead old.input new.input fault × (new.output ≡ old.output)

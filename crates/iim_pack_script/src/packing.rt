@@ -7,7 +7,7 @@ ghost use Rattle.iim_object.specs.declared.writing.cause.PackCause.TheVariants a
 ghost use Rattle.iim_pack.specs.States.Packing.{pack_cause};
 ghost use Rattle.iim_script.specs.Format.Scripts.{text_lines};
 ghost use Rattle.iim_output.specs.States.Devices.{devices};
-ghost use Rattle.iim_pack_script.specs.Format.{Answered, IsNotPacked, IsPacked, IsPast, IsPlanOf, IsRead, IsScriptOf, IsUnanswered, IsUnread, asked, object_of, refusal_line};
+ghost use Rattle.iim_pack_script.specs.Format.{Answered, IsNotPacked, IsPacked, IsPast, IsPlanOf, IsRead, IsScriptOf, FailsToAnswer, FailsToRead, asked, object_of, refusal_line};
 ghost use Rattle.iim_pack_script.specs.Steps.{ComesTo, GotSome, IsFailedRead, TellsFault, told_by};
 ghost use Rattle.iim_output.specs.Format.{IsSaid, status_refused};
 ghost use Rattle.iim_output.specs.declared.fault.CommandFault.TheVariants.{OutOfMemory};
@@ -66,7 +66,7 @@ fn read_some<R: Source>(
 /// Reads an input whole, but for what stands after the first octet too many for a script.
 fn read_input<R: Source>(alloc: Global, reader: &mut R) -> Result<Vec<u8>, CommandFault>
     ensures read { IfOk result (λ script. IsRead (R.state reader.old) (R.state reader.new) script.items) }
-    ensures unread { IfErr result (IsUnread (R.state reader.old) (R.state reader.new)) }
+    ensures unread { IfErr result (FailsToRead (R.state reader.old) (R.state reader.new)) }
     ensures leads { R.leads reader.old reader.new }
 {
     gifts_join();
@@ -243,7 +243,7 @@ pub fn pack_script<R: Source, W: Target, E: Target>(
     ensures answered { IfOk result.0 (Answered (asked request.subfile request.unknown request.max)
         (devices (R.state reader.old) (W.state output) (E.state errors.old))
         (devices (R.state reader.new) (W.state result.1) (E.state errors.new))) }
-    ensures unanswered { IfErr result.0 (IsUnanswered (asked request.subfile request.unknown request.max)
+    ensures unanswered { IfErr result.0 (FailsToAnswer (asked request.subfile request.unknown request.max)
         (devices (R.state reader.old) (W.state output) (E.state errors.old))
         (devices (R.state reader.new) (W.state result.1) (E.state errors.new))) }
     ensures untold { OnErr result.0 (errors.new ≡ errors.old) }

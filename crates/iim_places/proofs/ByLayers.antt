@@ -1,7 +1,7 @@
 -- A place is possible exactly where each layer alone can be there.
 use Rattle.std.proofs.Common.{◌≡◌, ℕ, zero, suc, ◌+◌, ◌-◌, ◌<◌, ◌≤◌, nat_eq, cond, if◌then◌else◌, Bool, true, false, List, [], ◌∷◌, ◌++◌, length, Some, None, refl, ap, sym, subst, ◌∙◌, inl, inr, arith, append-nil, length-append, ◌*◌, sum, take, drop, length-drop, IfSome}
 use Rattle.iim_places.proofs.Words.{IsLongField, eqb-true, eqb_tells, Octets, Dataset, count_octets, of_record, Begun, InTag, InData, Reads, Head, sum_append, SectionsLive, SectionsLiveAt, kept, section_after, Limits, place_after_datasets, place_ended, ending_of, ObjectEnded, SubfileBegun, NotEnded, ConfirmedAs, place_after, max_subfiles, lengths_of, numbers_of, IsPossible, stated_numbers, MessagePlace, object_of, LeadsByLayers, TagsLead, RecordsLive, ObjectLeads, record_datasets, begun_subfiles, one_of_some, are_ended, object_so_far, section, plain, Possible, widest, Phase, TagBegun, AllEnded, phase_of, place_of, ObjectLives, CanContinueAt, MayContinue, LowerLaws, AllByRecursion, unwrap_or, length-take, take-append-drop, nil_from_length, greatest_size, HasSpellings, IsBegun, all_append, all_front, all_back, front_are, sum_fits, IsGoodDataset, head_alive, Confirmed, Ending, IsSize, head_of_numbers, AreWithin, Numbers, number_list, plain_end, DataBegun, place_at, eq-eqb, CanContinue, place_in, IsWithin, AreHeadsWithin, LimitsAreToldByPlace, subfile_datasets, filled, AreKept, IsOctet, heads_of, ne_eqb, numbers_told, number_back}
-use Rattle.iim_places.proofs.{Following.within_of, AfterEnd.after_end, Lasts.last_sections, Lasts.not_all, Twins.Continues, Twins.plain_like, Twins.alive_at_as}
+use Rattle.iim_places.proofs.{Following.within_of, AfterEnd.after_end, Lasts.last_sections, Lasts.not_all, SameTold.Continues, SameTold.plain_like, SameTold.alive_at_as}
 use Rattle.iim_places.proofs.{Fitting.fit_in_rows, Fitting.each_fits, Fitting.goes_at, Fitting.begins_tag, Fitting.given_fits, ObjectOctets.living_octets}
 use Rattle.iim_places.proofs.PlainSizes.{numbers_in, all_kept, mode_octet, end_length, possible_like, AreBounded, bounded_at, ending_after, possible_after, possible_at}
 use Rattle.iim_places.proofs.{SameRecords.nines, SameRecords.stated_after_all, SameRecords.same_numbers, Bounds.object_fits, Taking.each_good}

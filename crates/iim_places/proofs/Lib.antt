@@ -26,7 +26,7 @@ pub mod ByLayers
 pub mod Taking
 pub mod AtPlaces
 pub mod ObjectPlaces
-pub mod Twins
+pub mod SameTold
 pub mod Onward
 pub mod Saved
 pub mod SmallTags

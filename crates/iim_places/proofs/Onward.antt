@@ -6,7 +6,7 @@ use Rattle.iim_places.proofs.Following.{alive_of, message_of, story_of, within_o
 use Rattle.iim_places.proofs.{PlainSizes.ending_after, Lasts.last_sections, Lasts.sections_last, Lasts.not_all, ObjectOctets.few_more, ObjectOctets.no_object}
 use Rattle.iim_places.proofs.SamePlace.{SameObject, SameWhole, object_lives_after_as, SameBegun, SameData, SameMessage, opened, same_begun, same_message, value_as, object_at}
 use Rattle.iim_places.proofs.{SameRecords.SameFields, SameRecords.same_records, SameRecords.same_more, Taking.good_at, AfterEnd.ended_at, Living.alive_front}
-use Rattle.iim_places.proofs.Twins.{Twins, enveloped, value_of, at_as, after_as, numbers_on, room_as, same_tail, twins_on, may_as, alive_at_as, flip, bounded_after, heads_same, AreBounded, SameTail, alive_on, eights, present_on, sevens}
+use Rattle.iim_places.proofs.SameTold.{TellTheSame, enveloped, value_of, at_as, after_as, numbers_on, room_as, same_tail, same_told_on, may_as, alive_at_as, flip, bounded_after, heads_same, AreBounded, SameTail, alive_on, eights, present_on, sevens}
 use Rattle.iim_places.proofs.{Fronts.begun_none, SizeRows.by_ten, SizeRows.eight_has, Fitting.each_octets}
 use Rattle.wire_message.specs.States.Reading.{LeadsTo}
 use Rattle.iim_places.specs.{Format.Tickets.Place, Laws.RefusalsTellTheLowestCause}
@@ -27,7 +27,7 @@ use Rattle.iim_dataset.proofs.Spelled.{with_data as spelled_data, stream_more, w
 pub record Pair (limits : Limits) (ds es : List Dataset) (c d : Begun) : Type 0 where
   pub section_is : section ds c ≡ section es d
   pub begun : SameBegun c d
-  pub twins : Twins ds es
+  pub same_told : TellTheSame ds es
   pub message : SameMessage (object_so_far ds c) (object_so_far es d)
   pub here : AllCanContinue limits ds c
   pub there : AllCanContinue limits es d
@@ -73,10 +73,10 @@ all_as laws {limits} {ds} {es} {c} {d} goes sizes same m =
     record { sizes = sizes; message = message; story = (laws.living (object_so_far es d) m.other m.at m.there).1 }
 
 -- Datasets that tell the same lead on alike, where the same octets of the object follow.
-onto : LowerLaws → {limits : Limits} {o r : List ℕ} {W V : List Dataset} {c d : Begun} (e : List ℕ) → SameMessage o r → Twins W V → SameBegun c d
+onto : LowerLaws → {limits : Limits} {o r : List ℕ} {W V : List Dataset} {c d : Begun} (e : List ℕ) → SameMessage o r → TellTheSame W V → SameBegun c d
     → section W c ≡ section V d → object_so_far W c ≡ o ++ e → object_so_far V d ≡ r ++ e → MayContinue limits V d → AllCanContinue limits W c
     → Onto limits o r W V c d
-onto laws {limits} {o} {r} {W} {V} {c} {d} e m twins begun same here there sizes goes =
+onto laws {limits} {o} {r} {W} {V} {c} {d} e m same_told begun same here there sizes goes =
     let is : object_so_far W c ≡ (o ++ e) ++ [] = here ∙ sym (append-nil (o ++ e)) in
     let (added, at, led) = laws.on o e m.text m.at m.here (message_of limits W c goes (o ++ e) [] is) (story_of limits W c goes (o ++ e) [] is) in
     let led' = laws.alike o r e m.text m.other added m.at at m.here m.there led in
@@ -85,7 +85,7 @@ onto laws {limits} {o} {r} {W} {V} {c} {d} e m twins begun same here there sizes
     let message : SameMessage (object_so_far W c) (object_so_far V d) =
     record { text = m.text ++ added; other = m.other ++ added; at = at; here = left; there = right } in
     record {
-      pair = record { section_is = same; begun = begun; twins = twins; message = message; here = goes; there = all_as laws goes sizes same message };
+      pair = record { section_is = same; begun = begun; same_told = same_told; message = message; here = goes; there = all_as laws goes sizes same message };
       added = added;
       here = sym (laws.texts (object_so_far W c) (m.text ++ added) at left) ∙ ap (λ (t : List ℕ). t ++ added) (laws.texts o m.text m.at m.here);
       there = sym (laws.texts (object_so_far V d) (m.other ++ added) at right) ∙ ap (λ (t : List ℕ). t ++ added) (laws.texts r m.other m.at m.there);
@@ -124,11 +124,11 @@ tag_on laws {limits} {p} {q} {held} {ds} {es} more here there pair {W} {c} w goe
           let both = stream_both es xs there.front f there.is_front stream in
           let reads : Reads count_octets (q ++ more) (es ++ xs) c =
           record { front = there.front ++ f; rest = w.rest; is_front = both; is_rest = w.is_rest; parts = parts } in
-          let alive = alive_on ds es xs pair.there.sizes.records pair.section_is pair.twins.seen (alive_of limits (ds ++ xs) c all.sizes) in
-          let twins = twins_on pair.twins (same_tail xs) (bounded_of laws limits (ds ++ xs) c all.sizes) in
-          let sizes = may_as laws limits (ds ++ xs) (es ++ xs) c alive (present_on ds es xs pair.section_is) twins all.sizes in
+          let alive = alive_on ds es xs pair.there.sizes.records pair.section_is pair.same_told.seen (alive_of limits (ds ++ xs) c all.sizes) in
+          let same_told = same_told_on pair.same_told (same_tail xs) (bounded_of laws limits (ds ++ xs) c all.sizes) in
+          let sizes = may_as laws limits (ds ++ xs) (es ++ xs) c alive (present_on ds es xs pair.section_is) same_told all.sizes in
           let same = section_on ds es xs c pair.section_is in
-          let on = onto laws (object_so_far xs c) pair.message twins (same_itself c) same (so_far_both ds xs c) (so_far_both es xs c) sizes all in
+          let on = onto laws (object_so_far xs c) pair.message same_told (same_itself c) same (so_far_both ds xs c) (so_far_both es xs c) sizes all in
           rw (← is) (record { whole = es ++ xs; begun = c; reads = reads; on = on }))
       | inr n ↦ absurd (begun_none laws.one_tag c w.rest w.is_rest n.dataset n.p (n.q ++ (held ++ more)) n.spelled n.agree)
     ]
@@ -185,9 +185,9 @@ closed_on laws {limits} {ds} {es} {h} {t} {v} z pair many octets goes =
     let present : section_after (ds ++ d ∷ []) ≡ section_after (es ++ x ∷ []) = last_more 0 ds d ∙ sym (last_more 0 es x) in
     let good = good_value x (good_as h (t ++ z) (v ++ z) same (good_at ds d goes.sizes.records) octets) in
     let alive = (laws.values_die es x (rw (head_is h (v ++ z) (sym same.many ∙ many)) pair.there.sizes.records) octets).0 good in
-    let twins = twins_on pair.twins (tail_as h (t ++ z) (v ++ z) same) (bounded_of laws limits (ds ++ d ∷ []) (InTag []) goes.sizes) in
-    let sizes = may_as laws limits (ds ++ d ∷ []) (es ++ x ∷ []) (InTag []) alive present twins goes.sizes in
-    onto laws (brought h z) pair.message twins refl present (closed_object ds h t z) (closed_object es h v z) sizes goes
+    let same_told = same_told_on pair.same_told (tail_as h (t ++ z) (v ++ z) same) (bounded_of laws limits (ds ++ d ∷ []) (InTag []) goes.sizes) in
+    let sizes = may_as laws limits (ds ++ d ∷ []) (es ++ x ∷ []) (InTag []) alive present same_told goes.sizes in
+    onto laws (brought h z) pair.message same_told refl present (closed_object ds h t z) (closed_object es h v z) sizes goes
 
 -- What follows octets inside data is read alike after others.
 data_on : LowerLaws → {limits : Limits} {p q : List ℕ} {ds es : List Dataset} {h : Head} {t v : List ℕ} (more : List ℕ) → Reads count_octets p ds (InData h t)
@@ -216,7 +216,7 @@ data_on laws {limits} {p} {q} {ds} {es} {h} {t} {v} more r s pair {W} {c} w goes
           let octets = all_back IsOctet t more (rw (same, begun) at w).is_rest.3 in
           let here : AllCanContinue limits ds (InData h (t ++ more)) = rw (same, begun) at goes in
           let reads = stays_in more s (omega (arith, both.many, short)) octets in
-          let on = onto laws (brought h more) pair.message pair.twins both refl (more_object ds h t more) (more_object es h v more) pair.there.sizes here in
+          let on = onto laws (brought h more) pair.message pair.same_told both refl (more_object ds h t more) (more_object es h v more) pair.there.sizes here in
           rw (same, begun) (record { whole = es; begun = InData h (v ++ more); reads = reads; on = on }))
     ]
 
@@ -261,7 +261,7 @@ pair_of laws limits p q place is are opens goes =
     record {
       section_is = section_is;
       begun = begun;
-      twins = record {
+      same_told = record {
         fields = fields.fields;
         object = object_lives_after_as ds es whole;
         ending = ending_after laws ds left few (object_lives_after laws limits ds is.begun was.0.sizes)
@@ -296,13 +296,13 @@ unfinished_as laws c d pair none sections = absurd pair.begun
 
 -- ---- envelopes
 
-sizes_as : {ds es : List Dataset} {s t : Sizes} → Twins ds es → HaveSizes (of_record 7 ds) (of_record 8 ds) (of_record 9 ds) s
+sizes_as : {ds es : List Dataset} {s t : Sizes} → TellTheSame ds es → HaveSizes (of_record 7 ds) (of_record 8 ds) (of_record 9 ds) s
     → HaveSizes (of_record 7 es) (of_record 8 es) (of_record 9 es) t → s ≡ t
-sizes_as {s = s} {t = t} twins here there =
-    let same = twins.object.numbers in
+sizes_as {s = s} {t = t} same_told here there =
+    let same = same_told.object.numbers in
     let known : s.known ≡ t.known = grind (arith, same_Some _ _ (sym here.mode ∙ same.mode ∙ there.mode)) in
     let subfile = same_Some _ _ (sym here.largest ∙ same.largest ∙ there.largest) in
-    grind (arith, here, there, known, subfile, same.announced, same.maximum, heads_same twins, twins.object.octets)
+    grind (arith, here, there, known, subfile, same.announced, same.maximum, heads_same same_told, same_told.object.octets)
 
 -- what is read after the one as an envelope is read after the other as one
 envelope_as : LowerLaws → {limits : Limits} {p q o r : List ℕ} {v : Value} (is : IsEnvelopeWithin limits p v)
@@ -321,7 +321,7 @@ envelope_as laws {limits} {p} {q} {v = v} is read =
     let all = enveloped laws limits q es v.head m.other v.trailer led.story.0 (rw parts reads.is_front) pair.there.sizes nine led.spelled.0 led.story.1 in (
       value_of es v.head led.story.0 v.trailer all.sizes,
       all.within,
-      record { fields = sym a.fields ∙ pair.twins.fields; head = refl; trailer = refl; sizes = sizes_as {t = all.sizes} pair.twins a.sizes all.have },
+      record { fields = sym a.fields ∙ pair.same_told.fields; head = refl; trailer = refl; sizes = sizes_as {t = all.sizes} pair.same_told a.sizes all.have },
     )
 
 -- ---- the text
@@ -365,16 +365,16 @@ cause_as p q same (NumberRead set n) =
     let more = numbers_on (record { set = set; number = n } ∷ []) same.numbers in λ i. number_cause (more.mode i) (more.announced i) (more.maximum i)
 cause_as p q same token = grind (arith, same.numbers, same.octets)
 
-head_fault_as : (limits : Limits) (ds es : List Dataset) (h : Head) → section_after ds ≡ section_after es → Twins ds es
+head_fault_as : (limits : Limits) (ds es : List Dataset) (h : Head) → section_after ds ≡ section_after es → TellTheSame ds es
     → fault_at_head limits ds h ≡ fault_at_head limits es h
-head_fault_as limits ds es h present twins =
+head_fault_as limits ds es h present same_told =
     let seen : (n : ℕ) → occurs n (of_fields (section_after ds) ds) ≡ occurs n (of_fields (section_after es) es) =
-    λ n. twins.seen.seen (section_after ds) n ∙ ap (λ (r : ℕ). occurs n (of_fields r es)) present in
-    let cause = cause_as (place_after_datasets ds) (place_after_datasets es) twins.object (head_token h.rec h.count) in
-    let heads = heads_same twins in
+    λ n. same_told.seen.seen (section_after ds) n ∙ ap (λ (r : ℕ). occurs n (of_fields r es)) present in
+    let cause = cause_as (place_after_datasets ds) (place_after_datasets es) same_told.object (head_token h.rec h.count) in
+    let heads = heads_same same_told in
     λ i. option_or
     (option_map of_field (option_or (head_fault (present i) (λ n. seen n i) h)
-    (room_fault limits (length (joined (twins.fields i))) (length (twins.fields i)) h)))
+    (room_fault limits (length (joined (same_told.fields i))) (length (same_told.fields i)) h)))
     (option_or (if (nat_eq h.rec 8) && not (nat_lt (heads i) max_subfiles) then Some (too_many_on h) else None)
     (if (nat_eq h.rec 8) || (nat_eq h.rec 9) then option_map (size_on h) (cause i) else None))
 
@@ -383,27 +383,27 @@ head_fault_as limits ds es h present twins =
 module _ (laws : LowerLaws) {limits : Limits} {ds es : List Dataset} {x : List ℕ} (pair : Pair limits ds es (InTag x) (InTag x)) where
   head_dies_as : (h : Head) (layer : Layer) → DiesAtHead layer limits ds h → DiesAtHead layer limits es h
   head_dies_as h layers.Record dies =
-      λ alive. dies (alive_at_as es ds h pair.here.sizes.records (sym pair.section_is) (flip pair.twins).seen alive)
+      λ alive. dies (alive_at_as es ds h pair.here.sizes.records (sym pair.section_is) (flip pair.same_told).seen alive)
   head_dies_as h layers.Limits dies =
-      (alive_at_as ds es h pair.there.sizes.records pair.section_is pair.twins.seen dies.0, (λ room. dies.1 (room_as (flip pair.twins) room)))
+      (alive_at_as ds es h pair.there.sizes.records pair.section_is pair.same_told.seen dies.0, (λ room. dies.1 (room_as (flip pair.same_told) room)))
   head_dies_as h layers.Object dies =
-      let alive = alive_at_as ds es h pair.there.sizes.records pair.section_is pair.twins.seen dies.0 in
-      let room = room_as pair.twins dies.1 in
-      (alive, room, (λ lives. dies.2 (at_as laws es ds h alive dies.0 pair.there.sizes.within.subfiles room.subfiles (flip pair.twins) lives)))
+      let alive = alive_at_as ds es h pair.there.sizes.records pair.section_is pair.same_told.seen dies.0 in
+      let room = room_as pair.same_told dies.1 in
+      (alive, room, (λ lives. dies.2 (at_as laws es ds h alive dies.0 pair.there.sizes.within.subfiles room.subfiles (flip pair.same_told) lives)))
   head_dies_as h rest dies = absurd dies
 
   -- every layer that is asked before the message can continue with a head
   goes_as : (h : Head) → CanContinueAt limits ds h → CanContinueAt limits es h
-  goes_as h goes = may_as laws limits ds es (InData h []) pair.there.sizes.records pair.section_is pair.twins goes
+  goes_as h goes = may_as laws limits ds es (InData h []) pair.there.sizes.records pair.section_is pair.same_told goes
 
 -- ---- where a value is refused
 
-value_fault_as : (ds es : List Dataset) (d : Dataset) → Twins ds es → fault_at_value ds d ≡ fault_at_value es d
-value_fault_as ds es d twins =
-    let at = object_at ds es (head_of d) twins.object in
+value_fault_as : (ds es : List Dataset) (d : Dataset) → TellTheSame ds es → fault_at_value ds d ≡ fault_at_value es d
+value_fault_as ds es d same_told =
+    let at = object_at ds es (head_of d) same_told.object in
     grind (arith, cause_as (place_at ds (head_of d)) (place_at es (head_of d)) at (value_token d.rec d.set (number d.octets)))
 
-module _ (laws : LowerLaws) {limits : Limits} (ds es : List Dataset) (twins : Twins ds es) where
+module _ (laws : LowerLaws) {limits : Limits} (ds es : List Dataset) (same_told : TellTheSame ds es) where
   value_dies_as : (d : Dataset) → (d.rec ≡ 8 → ⊥) → CanContinueAt limits ds (head_of d) → CanContinueAt limits es (head_of d) → (layer : Layer)
       → DiesAtValue layer ds d → DiesAtValue layer es d
   value_dies_as d other here there layers.Record dies = λ alive. dies (value_as laws.values_die es ds d (good_at es d alive).octets alive here.records)
@@ -411,7 +411,8 @@ module _ (laws : LowerLaws) {limits : Limits} (ds es : List Dataset) (twins : Tw
       let alive = value_as laws.values_die ds es d (good_at ds d dies.0).octets dies.0 there.records in
       let few = few_more es d there.within.subfiles (λ eight. absurd (other eight)) in
       let bounded = bounded_after laws (es ++ d ∷ []) alive few in
-      (alive, λ lives. dies.1 (after_as laws (es ++ d ∷ []) (ds ++ d ∷ []) alive dies.0 few (twins_on (flip twins) (same_tail (d ∷ [])) (bounded lives)) lives))
+      let back = same_told_on (flip same_told) (same_tail (d ∷ [])) in
+      (alive, λ lives. dies.1 (after_as laws (es ++ d ∷ []) (ds ++ d ∷ []) alive dies.0 few (back (bounded lives)) lives))
   value_dies_as d other here there rest dies = absurd dies
 
   -- a value, where every layer can continue with its data
@@ -420,14 +421,14 @@ module _ (laws : LowerLaws) {limits : Limits} (ds es : List Dataset) (twins : Tw
   value_at fault h given other many here there bad =
       let head = head_is h given many in
       let dead = value_dies_as (data_of h given) other (rw head here) (rw head there) fault.layer bad.dead in
-      record { first = sym (value_fault_as ds es (data_of h given) twins) ∙ bad.first; dead = dead }
+      record { first = sym (value_fault_as ds es (data_of h given) same_told) ∙ bad.first; dead = dead }
 
 -- ---- where an octet is refused
 
 with_as : LowerLaws → {limits : Limits} {ds es : List Dataset} {x : List ℕ} (h : Head) (fault : TokenFault) → Pair limits ds es (InTag x) (InTag x)
     → IsRefusedWith limits ds h fault → IsRefusedWith limits es h fault
 with_as laws {limits} {ds} {es} h fault pair (inl (inl bad)) =
-    let first = sym (head_fault_as limits ds es h pair.section_is pair.twins) ∙ bad.first in
+    let first = sym (head_fault_as limits ds es h pair.section_is pair.same_told) ∙ bad.first in
     inl (inl (record { first = first; dead = head_dies_as laws pair h fault.layer bad.dead }))
 with_as laws {limits} {ds} {es} h fault pair (inl (inr bad)) =
     let m = pair.message in
@@ -439,7 +440,7 @@ with_as laws {limits} {ds} {es} h fault pair (inr (other, none, all, bad)) =
     let sizes : CanContinueAt limits es h = goes_as laws pair h all.sizes in
     let message : SameMessage (object_so_far ds (InData h [])) (object_so_far es (InData h [])) =
     rw (no_object ds h [] other, no_object es h [] other) pair.message in
-    inr (other, none, all_as laws all sizes refl message, value_at laws ds es pair.twins fault h [] other (sym none) all.sizes sizes bad)
+    inr (other, none, all_as laws all sizes refl message, value_at laws ds es pair.same_told fault h [] other (sym none) all.sizes sizes bad)
 
 step_as : LowerLaws → {limits : Limits} {ds es : List Dataset} (c d : Begun) (next : ℕ) (fault : TokenFault) → Pair limits ds es c d
     → IsRefusedAt limits ds c next fault → IsRefusedAt limits es d next fault
@@ -456,7 +457,7 @@ step_as laws {limits} {ds} {es} (InData h t) d next fault pair bad =
         let there = laws.refused _ _ m.text m.other m.at cause next m.here m.there (rw (with_data ds h t eight) has) in
         inl (eight, cause, rw (with_data es h v eight) at there, is)
     by v same pair (inr (other, many, bad)) =
-        let value = value_at laws ds es pair.twins fault h (t ++ next ∷ []) other many pair.here.sizes pair.there.sizes bad in
+        let value = value_at laws ds es pair.same_told fault h (t ++ next ∷ []) other many pair.here.sizes pair.there.sizes bad in
         let is : t ≡ v = rw (ne_eqb h.rec 8 other) at same.given in
         inr (other, rw is at many, rw is at value)
 

@@ -42,8 +42,8 @@ duties_of ps stated both =
     let (known, same) = mode_known n (let row = row_at 10 ps n stated.each mode in omega (arith, row)) in
     record { known = known; size = size; has = record { stated = stated; mode = mode ∙ ap Some same; largest = largest } }
 
-abbrev pub Lives : List Stated → List ℕ → Ending → Type 0
-Lives ps ls e = IsAlive ObjectLanguage (number_tokens ps ++ (map SubfileBegun ls ++ ending_tokens e))
+abbrev pub SizesLive : List Stated → List ℕ → Ending → Type 0
+SizesLive ps ls e = IsAlive ObjectLanguage (number_tokens ps ++ (map SubfileBegun ls ++ ending_tokens e))
 
 -- the subfiles are as whole as the ending says
 abbrev Ends : Ending → List Stated → List ℕ → Type 0
@@ -52,7 +52,7 @@ Ends Ended ps ls = MeetsAnnounced ps ls
 Ends (ConfirmedAs n) ps ls = MeetsAnnounced ps ls × (n ≡ sum ls)
 
 lives_fit : LowerLaws → (e : Ending) (known : Bool) (size : ℕ) (ps : List Stated) (ls : List ℕ) → HasDuties known size ps → 0 < length ls
-    → Lives ps ls e ↔ (Fit known size ps ls × Ends e ps ls)
+    → SizesLive ps ls e ↔ (Fit known size ps ls × Ends e ps ls)
 lives_fit laws NotEnded known size ps ls d some =
     let law = laws.fit known size ps ls d some in (λ lives. (law.0 (rw append-nil at lives), tt), λ fit. rw append-nil (law.1 fit.0))
 lives_fit laws Ended known size ps ls d some = laws.whole_ends known size ps ls d some
@@ -88,7 +88,7 @@ fit_like : (known : Bool) (size : ℕ) (ps qs : List Stated) (ls ks : List ℕ) 
 fit_like known size ps qs ls ks same total each fit = grind (arith, clash_like)
 
 lives_like : LowerLaws → (ps qs : List Stated) (ls ks : List ℕ) (e : Ending) → AreStated ps → AreStated qs → SameNumbers ps qs → (0 < length ls → HasBoth ps)
-    → (ls ≡ [] → e ≡ NotEnded) → length ls ≡ length ks → sum ls ≡ sum ks → AreBounded qs ks → Lives ps ls e → Lives qs ks e
+    → (ls ≡ [] → e ≡ NotEnded) → length ls ≡ length ks → sum ls ≡ sum ks → AreBounded qs ks → SizesLive ps ls e → SizesLive qs ks e
 lives_like laws ps qs [] [] e are goes same both none many total each lives =
     let alive : IsAlive ObjectLanguage (number_tokens ps) = rw (none refl, append-nil) at lives in
     rw (none refl, append-nil) ((laws.no_clash qs goes).1 (clash_like ps qs same ((laws.no_clash ps are).0 alive)))
@@ -108,7 +108,7 @@ pub possible_like : LowerLaws → (p q : objects.Place) → IsPossible p → Are
 possible_like laws p q is goes same each end =
     let lives = lives_like laws p.stated q.stated p.lengths q.lengths p.ending is.stated goes same.numbers is.duties is.subfiles same.heads same.octets
     each is.alive in
-    let alive : ObjectLives q = subst (Lives q.stated q.lengths) end lives in grind (arith, nil_from_length)
+    let alive : ObjectLives q = subst (SizesLive q.stated q.lengths) end lives in grind (arith, nil_from_length)
 
 pub possible_of : (p : objects.Place) → IsStated p → length p.lengths ≤ max_subfiles → ObjectLives p → IsPossible p
 possible_of p is few lives = record { stated = is.stated; subfiles = is.subfiles; duties = is.duties; few = few; alive = lives }

@@ -2,7 +2,7 @@
 use Rattle.std.proofs.Common.{◌≡◌, ℕ, ◌+◌, ◌-◌, ◌<◌, ◌≤◌, nat_eq, if◌then◌else◌, Bool, true, false, List, [], ◌++◌, length, Option, Some, None, ap, sym, subst, ◌∙◌, arith}
 use Rattle.iim_places.proofs.Words.{AllByRecursion, Dataset, of_record, count_octets, Begun, InTag, Reads, IsKeptAs, ne_eqb, numbers_told, between, Head, DatasetPlace, SectionsLive, is_kept, kept, section_after, Limits, head_alive, place_after_datasets, NotEnded, ObjectEnded, Confirmed, place_after, max_subfiles, numbers_of, IsPossible, stated_numbers, State, text_so_far, LeadsToSaved, saved, MessagePlace, object_of, RecordsLive, begun_of_object, section, object_after, one_of_some, are_ended, begun_subfiles, LowerLaws, Numbers, number_list, plain, Phase, TagBegun, AllEnded, phase_of, place_at, CanContinue, CanContinueAt}
 use Rattle.iim_places.proofs.{AfterEnd.ended_after, ByLayers.nine_ended, ByLayers.led_at, ByLayers.ended_place, ByLayers.fewer, SameRecords.SameRecords}
-use Rattle.iim_places.proofs.{SamePlace.has_begun, SamePlace.none_present, Twins.Continues, PlainSizes.possible_at, AtPlaces.live_alive}
+use Rattle.iim_places.proofs.{SamePlace.has_begun, SamePlace.none_present, SameTold.Continues, PlainSizes.possible_at, AtPlaces.live_alive}
 use Rattle.iim_fields.specs.States.Standing as records
 use Rattle.iim_object.specs.Format.Objects as objects
 use Rattle.iim_object.specs.States.Reading as reading

@@ -7,7 +7,7 @@ use Rattle.iim_places.proofs.{SamePlace.at_tests, SmallTags.wider_tag, SmallTags
 use Rattle.iim_places.proofs.ByLayers.{layers_open, possible_in, leads_by_layers, Opens, ended_heads, plain_of}
 use Rattle.iim_places.proofs.{Following.within_of, Following.alive_of, Plain.numbers_each, Plain.parts_each, Plain.end_each, Plain.present_ended}
 use Rattle.iim_places.proofs.{SizeRows.by_ten, SizeRows.eight_has, Taking.each_good, AfterEnd.WholeMessage, AfterEnd.ended_after, AfterEnd.ended_at}
-use Rattle.iim_places.proofs.{Twins.enveloped, Twins.value_of, ObjectOctets.lives_whole, Lasts.sections_last}
+use Rattle.iim_places.proofs.{SameTold.enveloped, SameTold.value_of, ObjectOctets.lives_whole, Lasts.sections_last}
 use Rattle.iim_places.specs.Format.Tickets.{Place}
 use Rattle.iim_fields.specs.Format.Causes.{joined}
 use Rattle.iim_object.specs.Laws.{PlacesLiveWithin}

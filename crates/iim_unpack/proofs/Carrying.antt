@@ -1,6 +1,6 @@
 -- What a run of octets, or the end, tells a message, and what the object's refusal of a head says of it.
 -- Where heads, data and ends of datasets lead the parts of an unpacker.
-use Rattle.iim_unpack.proofs.Words.{AllCanContinue, AreLed, Begun, Bool, CanContinueAt, CountsFor, DataOctet, Dataset, DatasetEvent, FieldsPlace, Head, InData, InTag, IsBetween, IsSome, Limits, List, LowerLaws, MayContinue, MessageCause, MessageRefuses, None, ObjectToken, Octets, Option, Parts, PartsRefuse, Some, StandsFor, StandsIn, State, TellsMessage, TellsParts, TextsStandBetweenStxAndEtx, Within, [], ap, append-nil, append_assoc, arith, begun_head, begun_head_of, cond, eqb-true, false, flat_map, handed_on, if◌then◌else◌, length, limits_of, map, message_on, nat_eq, ne_eqb, not_all, object_of, object_so_far, octets_of, refl, same_Some, section, subst, sym, tells_message_nothing, text_so_far, true, ℕ, ◌++◌, ◌==◌, ◌∙◌, ◌∷◌, ◌≡◌}
+use Rattle.iim_unpack.proofs.Words.{AllCanContinue, AreLed, Begun, Bool, CanContinueAt, CountsFor, DataOctet, Dataset, DatasetEvent, FieldsPlace, Head, InData, InTag, IsBetween, IsSome, Limits, List, LowerLaws, MayContinue, MessageCause, MessageRefuses, None, ObjectToken, Octets, Option, Parts, PartsRefuse, Some, PartsStandAt, StandsIn, State, TellsMessage, TellsParts, TextsStandBetweenStxAndEtx, Within, [], ap, append-nil, append_assoc, arith, begun_head, begun_head_of, cond, eqb-true, false, flat_map, handed_on, if◌then◌else◌, length, limits_of, map, message_on, nat_eq, ne_eqb, not_all, object_of, object_so_far, octets_of, refl, same_Some, section, subst, sym, tells_message_nothing, text_so_far, true, ℕ, ◌++◌, ◌==◌, ◌∙◌, ◌∷◌, ◌≡◌}
 use Rattle.wire_message.specs.{Laws.ReadersStandAtLivingOctets, Format.Causes.HasCause}
 use Rattle.wire_message.specs.Format.Messages.{MessageDiesAt, MessageLanguage, MessageLivesWith, StoryLivesIn}
 use Rattle.wire_message.specs.States.Reading.{CountsCause, GoesSomewhere, IsWhole, LeadsOn, StandsAt, TakesPiece, LeadsTo}
@@ -97,7 +97,7 @@ passes_on texts old new o piece more goes at =
 -- The events have led them to datasets and this begun one, with this text.
 pub record LedTo (p : Parts) (begun : Begun) (events : List DatasetEvent) (text : List ℕ) : Type 0 where
   pub ds : List Dataset
-  pub stands : StandsFor p ds begun
+  pub stands : PartsStandAt p ds begun
   pub told : events ≡ handed_on ds begun
   pub is_text : text ≡ text_so_far (object_so_far ds begun)
 
@@ -112,7 +112,7 @@ pub in_one : {p : Parts} {k : Head} {events : List DatasetEvent} {text : List �
     → (taken : List ℕ) × LedTo p (InData k taken) events text
 in_one {p} {k} {events} {text} begun led = by led.begun led.stands led.told led.is_text
   where
-    by : (b : Begun) → StandsFor p led.whole b → events ≡ handed_on led.whole b → text ≡ text_so_far (object_so_far led.whole b)
+    by : (b : Begun) → PartsStandAt p led.whole b → events ≡ handed_on led.whole b → text ≡ text_so_far (object_so_far led.whole b)
         → (taken : List ℕ) × LedTo p (InData k taken) events text
     by (InTag held) stands told is = absurd (not_both p k stands.fields.between begun)
     by (InData h taken) stands told is =
@@ -123,7 +123,7 @@ pub after_all : {p : Parts} {events : List DatasetEvent} {text : List ℕ} → I
     → (held : List ℕ) × LedTo p (InTag held) events text
 after_all {p} {events} {text} between led = by led.begun led.stands led.told led.is_text
   where
-    by : (b : Begun) → StandsFor p led.whole b → events ≡ handed_on led.whole b → text ≡ text_so_far (object_so_far led.whole b)
+    by : (b : Begun) → PartsStandAt p led.whole b → events ≡ handed_on led.whole b → text ≡ text_so_far (object_so_far led.whole b)
         → (held : List ℕ) × LedTo p (InTag held) events text
     by (InTag held) stands told is = (held, record { ds = led.whole; stands = stands; told = told; is_text = is })
     by (InData h taken) stands told is = absurd (not_both p h between (ap begun_head stands.fields.inside.1.head.inside))
@@ -159,7 +159,7 @@ all_by living limits ds begun reader text at whole sizes =
       story = both.1;
     }
 
-pub all_for : ReadersStandAtLivingOctets → (p : Parts) (ds : List Dataset) (b : Begun) → StandsFor p ds b → AllCanContinue (limits_of p.fields) ds b
+pub all_for : ReadersStandAtLivingOctets → (p : Parts) (ds : List Dataset) (b : Begun) → PartsStandAt p ds b → AllCanContinue (limits_of p.fields) ds b
 all_for living p ds (InTag held) at =
     all_by living (limits_of p.fields) ds (InTag held) p.message (text_so_far (object_of ds)) at.message at.ended
     (record { records = at.fields.alive; within = record { kept = at.fields.within; subfiles = at.few }; object = at.object.alive })

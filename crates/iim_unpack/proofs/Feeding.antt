@@ -1,6 +1,6 @@
 -- What the reader of tags says of the parts.
 -- Where an unpacker stands after a piece.
-use Rattle.iim_unpack.proofs.Words.{AllCanContinue, AreAfter, AreBetween, AreInOrder, AreLed, Begun, Bool, Cause, DataOctet, Dataset, DatasetEnd, DatasetEvent, Delivers, Err, HandsOn, Head, HeadRead, InData, InTag, IsDone, IsDoneWith, IsKeptAs, IsLed, IsOctet, IsOpen, IsRefusedIn, IsSome, IsTextOf, IsTruncatedAt, IsUnpacking, LeadsTo, Limits, List, LowerLaws, None, Ok, Option, Parts, Reads, Refusal, Sizes, Some, Stands, StandsAfter, StandsFor, Stood, Tag, Takes, TakesCalls, TellsParts, TokenFault, Unpacking, Value, [], ap, append-nil, append_assoc, are_some, arith, begun_number, begun_record, between, count_octets, eqb-true, false, get_or, handed_on, has_ended, inl, inr, length, limits_in, limits_of, named_by, nat_eq, not_all, object_of, object_so_far, of_record, place_after_datasets, raised, refl, refusal_at, same_Some, section_after, sections_last, slice_index, subst, sym, take, take_all, text_so_far, to_come, true, true≢false, truncated_in, ℕ, ◌++◌, ◌<◌, ◌||◌, ◌∙◌, ◌∷◌, ◌≡◌, ◌≤◌}
+use Rattle.iim_unpack.proofs.Words.{AllCanContinue, AreAfter, AreBetween, AreInOrder, AreLed, Begun, Bool, Cause, DataOctet, Dataset, DatasetEnd, DatasetEvent, Delivers, Err, HandsOn, Head, HeadRead, InData, InTag, IsDone, IsDoneWith, IsKeptAs, IsLed, IsOctet, IsOpen, IsRefusedIn, IsSome, IsTextOf, IsTruncatedAt, IsUnpacking, LeadsTo, Limits, List, LowerLaws, None, Ok, Option, Parts, Reads, Refusal, Sizes, Some, Stands, StandsAfter, PartsStandAt, StandsSomewhere, Tag, Takes, TakesCalls, TellsParts, TokenFault, Unpacking, Value, [], ap, append-nil, append_assoc, are_some, arith, begun_number, begun_record, between, count_octets, eqb-true, false, get_or, handed_on, has_ended, inl, inr, length, limits_in, limits_of, named_by, nat_eq, not_all, object_of, object_so_far, of_record, place_after_datasets, raised, refl, refusal_at, same_Some, section_after, sections_last, slice_index, subst, sym, take, take_all, text_so_far, to_come, true, true≢false, truncated_in, ℕ, ◌++◌, ◌<◌, ◌||◌, ◌∙◌, ◌∷◌, ◌≡◌, ◌≤◌}
 use Rattle.iim_dataset.specs.declared.head.HeadCause.{HeadCause}
 use Rattle.std.specs.Prelude.{IfErr, IfOk, OnOk, Result}
 use Rattle.iim_dataset.specs.States.Reading.{Completes, Reader, RefusesFor, RefusesOne, StillStands, TagDies, TakesPiece, tag_cause_of, TellsSink}
@@ -10,7 +10,7 @@ use Rattle.iim_dataset.specs.declared.place.DatasetPlace.{DatasetPlace as Place}
 use Rattle.iim_fields.specs.{States.Standing.room_of, Format.Records.AreSections, Format.Causes.kept as kept_of}
 use Rattle.wire_story.specs.Format.Texts as story
 use Rattle.iim_unpack.specs.Routes.{RefusesRoute, Routes, Refused, RefusesAt, front_in_order}
-use Rattle.iim_unpack.specs.Steps.{FailsAs, FailsFor, HasAdvanced, cause_of_tag, tag_fault}
+use Rattle.iim_unpack.specs.Steps.{IsStoppedWith, IsStoppedBy, HasAdvanced, cause_of_tag, tag_fault}
 use Rattle.iim_unpack.specs.declared.parts.router.Router.{Router}
 use Rattle.iim_object.specs.States.Reading as objects
 use Rattle.iim_object.specs.Format.Objects.{AreObjectRecords, HaveSizes}
@@ -28,7 +28,7 @@ module _ {S : Type 0} (goes : S → List story.StoryEvent → S → Type 0) (fai
   pub fails_for : (cause : Option HeadCause) (old : Place) (octets : List ℕ) (k : ℕ) (new : Place) (a b : Router S)
       → RefusesFor (Routes goes failures) (RefusesRoute goes failures) cause old octets k new a b
       → StillStands (λ (r : Router S). Takes r.parts.now) cause new b
-      → FailsFor goes failures cause b.refused (old, a.parts.now, a.sink.now) octets k (new, b.parts.now, b.sink.now)
+      → IsStoppedBy goes failures cause b.refused (old, a.parts.now, a.sink.now) octets k (new, b.parts.now, b.sink.now)
   fails_for None old octets k new a b h open' = record { more = h.0.more; event = h.0.event; stopped = h.0.stopped.2; completes = h.0.completes }
   fails_for (Some cause) old octets k new a b h open' =
       record { told = record { more = h.0.more; told = h.0.told.2; brings = h.0.brings }; takes = open'; dies = h.1 }
@@ -59,7 +59,7 @@ module _ {S : Type 0} (goes : S → List story.StoryEvent → S → Type 0) (fai
 -- ---- where octets have led
 
 -- not yet an envelope
-unfinished : LowerLaws → (parts : Parts) (ds : List Dataset) (b : Begun) → StandsFor parts ds b → has_ended parts ≡ false → AreSections ds → ⊥
+unfinished : LowerLaws → (parts : Parts) (ds : List Dataset) (b : Begun) → PartsStandAt parts ds b → has_ended parts ≡ false → AreSections ds → ⊥
 unfinished laws parts ds (InTag held) at more sections =
     let nine = sections_last laws.last_record ds at.fields.alive sections in
     true≢false (sym (ap (λ n. nat_eq n 9) nine) ∙ sym (ended_by_record parts ds at.fields) ∙ more)
@@ -135,7 +135,7 @@ pub whole_parts : LowerLaws → (v : Unpacking) (p : List ℕ) → has_ended v.p
 whole_parts laws v p last place led =
     let r = reached laws.events_tell led.leads led.led in by r.whole r.begun r.reads (subst (λ (x : Place). IsKeptAs x r.begun) place r.keeps) r.stands
   where
-    by : (ds : List Dataset) (b : Begun) → Reads count_octets p ds b → IsKeptAs between b → StandsFor v.parts ds b → WholeParts v p
+    by : (ds : List Dataset) (b : Begun) → Reads count_octets p ds b → IsKeptAs between b → PartsStandAt v.parts ds b → WholeParts v p
     by ds (InTag held) reads keeps after =
         let nine : section_after ds ≡ 9 = eqb-true (section_after ds) 9 (sym (ended_by_record v.parts ds after.fields) ∙ last) in
         let (head, is, message, (lines, lined)) = after.ended nine (object_of ds) (text_so_far (object_of ds)) after.message in
@@ -206,11 +206,11 @@ tells_value laws one u p n fields head trailer sizes at head_is trailer_is sizes
     )
 
 -- an unpacker stands somewhere, or is done
-pub stood_stands : (u : Unpacking) → has_ended u.parts ≡ false → Stood u → (p : List ℕ) × (a : ℕ) × Stands u p a
+pub stood_stands : (u : Unpacking) → has_ended u.parts ≡ false → StandsSomewhere u → (p : List ℕ) × (a : ℕ) × Stands u p a
 stood_stands u more (p, a, inl at) = (p, a, at)
 stood_stands u more (p, a, inr at) = absurd (true≢false (sym at.ended ∙ more))
 
-pub stood_done : (u : Unpacking) → has_ended u.parts ≡ true → Stood u → (p : List ℕ) × (a : ℕ) × IsDoneWith u p a
+pub stood_done : (u : Unpacking) → has_ended u.parts ≡ true → StandsSomewhere u → (p : List ℕ) × (a : ℕ) × IsDoneWith u p a
 stood_done u last (p, a, inl at) = absurd (true≢false (sym last ∙ at.unended))
 stood_done u last (p, a, inr at) = (p, a, at)
 
@@ -405,7 +405,7 @@ refused_by laws tests u piece k fault e added within low is p n at told = record
 pub refused_in : {S : Type 0} (goes : S → List story.StoryEvent → S → Type 0) (failures : S → ℕ) → LowerLaws → RefusalsTellTheLowestCause
     → (u : Unpacking) (piece : List ℕ)
     (k : ℕ) (fault : TokenFault) (a : S) (new : Place) (q : Parts) (b : S) (e : Refusal) → k < length piece → IsOctet (slice_index piece k)
-    → e ≡ refusal_at (raised u.octets k) fault → FailsAs goes failures (u.reader.place, u.parts, a) piece k fault (new, q, b)
+    → e ≡ refusal_at (raised u.octets k) fault → IsStoppedWith goes failures (u.reader.place, u.parts, a) piece k fault (new, q, b)
     → (more : List story.StoryEvent) × goes a more b × ((p : List ℕ) (n : ℕ) → Stands u p n → IsRefusedIn (limits_in u) p n piece more e)
 refused_in goes failures laws tests u piece k fault a new q b e within low is (inl (cause, stuck, is_fault)) =
     let w = stuck.told.told in (

@@ -1,6 +1,6 @@
 -- An unpacker holds few octets and entries.
 -- The ticket that is spelled of an unpacker is that of its place, and how long it is.
-use Rattle.iim_unpack.proofs.Words.{Begun, Dataset, DatasetPlace, EventsTellTheDatasets, Head, HoldsFew, InData, InTag, Inside, IsDoneWith, IsKeptAs, IsLed, IsTicketOf, LeadsToSaved, List, MessagePlace, Option, Parts, Place, Reads, Some, Stands, StandsAfter, StandsFor, StandsIn, Stood, Tag, Unpacking, [], ap, arith, begun_head, begun_head_of, cases_Bool, count_octets, count_of, false, has_ended, if◌then◌else◌, inl, inr, is_kept, kept, length, limits_in, nat_eq, numbers_of, object_of, object_so_far, of_record, place_after_datasets, place_at, place_of, present_version, refl, section, section_after, stated_numbers, subst, sym, ℕ, ◌*◌, ◌+◌, ◌-◌, ◌<◌, ◌∙◌, ◌≡◌, ◌≤◌, ◌⊎◌}
+use Rattle.iim_unpack.proofs.Words.{Begun, Dataset, DatasetPlace, EventsTellTheDatasets, Head, HoldsFew, InData, InTag, Inside, IsDoneWith, IsKeptAs, IsLed, IsTicketOf, LeadsToSaved, List, MessagePlace, Option, Parts, Place, Reads, Some, Stands, StandsAfter, PartsStandAt, StandsIn, StandsSomewhere, Tag, Unpacking, [], ap, arith, begun_head, begun_head_of, cases_Bool, count_octets, count_of, false, has_ended, if◌then◌else◌, inl, inr, is_kept, kept, length, limits_in, nat_eq, numbers_of, object_of, object_so_far, of_record, place_after_datasets, place_at, place_of, present_version, refl, section, section_after, stated_numbers, subst, sym, ℕ, ◌*◌, ◌+◌, ◌-◌, ◌<◌, ◌∙◌, ◌≡◌, ◌≤◌, ◌⊎◌}
 use Rattle.iim_fields.specs.Format.Causes.{joined}
 use Rattle.iim_places.proofs.{Bounds.is_one, Tickets.heads_by, Tickets.message_at, Tickets.stated_by, Tickets.taken_by, Tickets.total_of}
 use Rattle.iim_places.proofs.TicketLengths.{AreShortIn, data_length, held_length, none_taken, numbers_length, rest_length, some_taken, tag_begun_length, texts_at, texts_short}
@@ -76,7 +76,7 @@ few_in parts ds h taken at' less =
 
 -- ---- all of it
 
-pub holds_few : EventsTellTheDatasets → (u : Unpacking) → Stood u → HoldsFew u
+pub holds_few : EventsTellTheDatasets → (u : Unpacking) → StandsSomewhere u → HoldsFew u
 holds_few tell u (p, a, stood) =
     let led = led_of stood in
     let r = reached tell led.leads led.led in
@@ -85,7 +85,7 @@ holds_few tell u (p, a, stood) =
     sum : FewFields u.parts → tag_held u.reader.place ≤ 12 → message_held u.parts.message ≤ 161 → HoldsFew u
     sum few tag message = record { octets = (let octets = few.octets in omega (arith, octets, tag, message)); entries = few.entries }
 
-    by : (ds : List Dataset) (begun : Begun) → Reads count_octets p ds begun → StandsFor u.parts ds begun → tag_held u.reader.place ≤ 12 → HoldsFew u
+    by : (ds : List Dataset) (begun : Begun) → Reads count_octets p ds begun → PartsStandAt u.parts ds begun → tag_held u.reader.place ≤ 12 → HoldsFew u
     by ds (InTag held) reads stands tag = sum (few_after u.parts ds stands.fields) tag (few_of_message u.parts.message _ _ stands.message)
     by ds (InData h taken) reads stands tag =
         sum (few_in u.parts ds h taken stands.fields reads.is_rest.2) tag (few_of_message u.parts.message _ _ stands.message)
@@ -104,7 +104,7 @@ record Parted (place : DatasetPlace) (parts : Parts) (ticket : List ℕ) (s : Is
   pub leads : LeadsToSaved (object_so_far whole begun) text s.message
 
 parted : (parts : Parts) (ticket : List ℕ) (whole : List Dataset) (begun : Begun) (place : DatasetPlace) (s : IsSpelled place parts ticket)
-    → IsKeptAs place begun → StandsFor parts whole begun
+    → IsKeptAs place begun → PartsStandAt parts whole begun
     → Parted place parts ticket s whole begun
 parted parts ticket ds (InTag held) (Tag octets) s keeps at = record {
   section = s.after ds at.fields;
@@ -148,7 +148,7 @@ pub record Placed (u : Unpacking) (p ticket : List ℕ) : Type 0 where
   pub whole : List Dataset
   pub begun : Begun
   pub reads : Reads count_octets p whole begun
-  pub stands : StandsFor u.parts whole begun
+  pub stands : PartsStandAt u.parts whole begun
   pub text : List ℕ
   pub message : MessagePlace
   pub leads : LeadsToSaved (object_so_far whole begun) text message
@@ -191,7 +191,7 @@ ticket_by tell u p ticket a s stood =
 -- ---- a ticket
 
 -- with the kept datasets, what is begun is within the limits and some octets
-begun_length : (parts : Parts) (p : List ℕ) (ds : List Dataset) (b : Begun) → Reads count_octets p ds b → StandsFor parts ds b
+begun_length : (parts : Parts) (p : List ℕ) (ds : List Dataset) (b : Begun) → Reads count_octets p ds b → PartsStandAt parts ds b
     → length (phase_octets present_version (phase_of ds b)) + (6 * length (kept ds) + length (joined (kept ds))) ≤ 26
     + (parts.fields.limits.octets + 6 * parts.fields.limits.fields)
 begun_length parts p ds (InTag held) reads stands =
@@ -208,7 +208,7 @@ begun_length parts p ds (InData h taken) reads stands =
     ]
 
 -- Wherever the unpacker stands, its ticket is short.
-pub short_ticket : EventsTellTheDatasets → (u : Unpacking) (ticket : List ℕ) → IsSpelled u.reader.place u.parts ticket → Stood u
+pub short_ticket : EventsTellTheDatasets → (u : Unpacking) (ticket : List ℕ) → IsSpelled u.reader.place u.parts ticket → StandsSomewhere u
     → length ticket ≤ (limits_in u).octets + 6 * (limits_in u).fields + 256
 short_ticket tell u ticket s (p, a, stood) =
     let by = placed tell u p ticket s (led_of stood) in

@@ -1,6 +1,6 @@
 -- Blocks, and the line of an intake.
 -- What an intake feeds, piece after piece.
-use Rattle.iim_unpack.proofs.Words.{Bool, CountsFor, Delivers, DeliveryMayBeCut, Done, Goes, HasFed, HasParts, IsDoneWith, IsOpen, IsReady, IsRefusedIn, IsTruncatedAt, LeftAs, Limits, List, More, None, Option, Refusal, Some, Stands, Stood, Unpacked, Unpacking, Value, [], ap, append-nil, append_assoc, arith, drop, false, get_or-append-add, in_line, inl, inr, length, length-append, length-take-le, limits_in, raised, refl, refusal_at, same_Some, subst, sym, take, take-append-add, take-append-drop, take_all, true≢false, with_held, ℕ, ◌++◌, ◌+◌, ◌-◌, ◌<◌, ◌^◌, ◌∙◌, ◌≡◌, ◌≤◌}
+use Rattle.iim_unpack.proofs.Words.{Bool, CountsFor, Delivers, DeliveryMayBeCut, Done, Progresses, HasFed, HasParts, IsDoneWith, IsOpen, IsReady, IsRefusedIn, IsTruncatedAt, LeftAs, Limits, List, More, None, Option, Refusal, Some, Stands, StandsSomewhere, Unpacked, Unpacking, Value, [], ap, append-nil, append_assoc, arith, drop, false, get_or-append-add, in_line, inl, inr, length, length-append, length-take-le, limits_in, raised, refl, refusal_at, same_Some, subst, sym, take, take-append-add, take-append-drop, take_all, true≢false, with_held, ℕ, ◌++◌, ◌+◌, ◌-◌, ◌<◌, ◌^◌, ◌∙◌, ◌≡◌, ◌≤◌}
 use Rattle.std.proofs.Common.{length-take}
 use Rattle.std.proofs.lemmas.List.{drop-drop, drop-take}
 use Rattle.std.specs.Io.KnownBytes.{Consumes, IsAtEnd}
@@ -99,7 +99,7 @@ module _ {S : Type 0} (goes : S → List story.StoryEvent → S → Type 0) (d :
   came_whole n all drops told = record { given = line_used n held rest piece d all same drops; told = told; patience = omega arith }
 
   pub piece_more : {u v : Unpacking} {used : ℕ} (n : ℕ) → n ≡ length held → rest ≡ drop n held → used ≡ raised 0 n → limits_in v ≡ limits_in u
-      → ((more : List story.StoryEvent) × goes a more b × ((p : List ℕ) (n : ℕ) → Stands u p n → Goes v p n piece more More))
+      → ((more : List story.StoryEvent) × goes a more b × ((p : List ℕ) (n : ℕ) → Stands u p n → Progresses v p n piece more More))
       → HasFed goes (with_held held d) (with_held rest d) u v a b used
   piece_more n all drops count limits (more, told, onward) = record {
     octets = piece;
@@ -112,7 +112,7 @@ module _ {S : Type 0} (goes : S → List story.StoryEvent → S → Type 0) (d :
   }
 
   pub piece_done : {u v : Unpacking} {used : ℕ} (last : ℕ) → rest ≡ drop last held → last ≤ length piece → used ≡ raised 0 last → limits_in v ≡ limits_in u
-      → ((more : List story.StoryEvent) × goes a more b × ((p : List ℕ) (n : ℕ) → Stands u p n → Goes v p n piece more (Done last)))
+      → ((more : List story.StoryEvent) × goes a more b × ((p : List ℕ) (n : ℕ) → Stands u p n → Progresses v p n piece more (Done last)))
       → WasDone goes (with_held held d) (with_held rest d) u v a b used
   piece_done {v = v} last drops fit count limits (more, told, onward) =
       let len : length (take last piece) ≡ last = length-take-le last piece fit in
@@ -220,7 +220,7 @@ module _ {S : Type 0} (goes : S → List story.StoryEvent → S → Type 0) (fai
 
 -- ---- the end of feeding
 
-pub somewhere : (u : Unpacking) → IsReady u → (u.refused ≡ None → Stood u) → (p : List ℕ) × (a : ℕ) × Stands u p a
+pub somewhere : (u : Unpacking) → IsReady u → (u.refused ≡ None → StandsSomewhere u) → (p : List ℕ) × (a : ℕ) × Stands u p a
 somewhere u ready stood = stood_stands u ready.1 (stood ready.0)
 
 pub told_truncated : (q : List ℕ) (k : ℕ) (answer : Option Refusal) (e : Refusal) → answer ≡ Some e

@@ -1,5 +1,5 @@
 -- What an unpacker says of a stream that comes in pieces.
-use Rattle.iim_unpack.proofs.Words.{Answer, Answers, Bor, Cause, CountsFor, Delivers, DeliveryMayBeCut, Done, Err, Finished, Goes, HasFedPieces, HasParts, InTag, IsDone, IsDoneWith, IsEnvelopeWithin, IsFinished, IsOpen, IsRefusedIn, IsTruncatedAt, IsTurnedDown, Limits, List, LowerLaws, More, None, Ok, Option, PlaceLaws, Progress, Refusal, Refused, Result, Some, Stands, StreamsHaveOneAnswer, Truncated, Unpacked, Unpacking, Value, [], ap, append-nil, append_assoc, arith, drop, flat_map-append, get_or, get_or-append-add, inl, inr, length, length-append, length-take-le, limits_in, object_of, raised, reads_envelope, refl, refusal_at, slice_index, stream_of, subst, sym, take, take-append-add, take-append-drop, text_so_far, ℕ, ◌++◌, ◌+◌, ◌-◌, ◌<◌, ◌^◌, ◌∙◌, ◌∷◌, ◌≡◌, ◌≤◌, ◌⊎◌}
+use Rattle.iim_unpack.proofs.Words.{Answer, Answers, Bor, Cause, CountsFor, Delivers, DeliveryMayBeCut, Done, Err, Finished, Progresses, HasFedPieces, HasParts, InTag, IsDone, IsDoneWith, IsEnvelopeWithin, IsFinished, IsOpen, IsRefusedIn, IsTruncatedAt, IsTurnedDown, Limits, List, LowerLaws, More, None, Ok, Option, PlaceLaws, Progress, Refusal, Refused, Result, Some, Stands, StreamsHaveOneAnswer, Truncated, Unpacked, Unpacking, Value, [], ap, append-nil, append_assoc, arith, drop, flat_map-append, get_or, get_or-append-add, inl, inr, length, length-append, length-take-le, limits_in, object_of, raised, reads_envelope, refl, refusal_at, slice_index, stream_of, subst, sym, take, take-append-add, take-append-drop, text_so_far, ℕ, ◌++◌, ◌+◌, ◌-◌, ◌<◌, ◌^◌, ◌∙◌, ◌∷◌, ◌≡◌, ◌≤◌, ◌⊎◌}
 use Rattle.std.proofs.Common.{IfErr}
 use Rattle.std.proofs.lemmas.List.{get_or_append_left, take-append-le, take_more}
 use Rattle.std.specs.Result.{IsErrAnd}
@@ -50,11 +50,11 @@ module _ {S : Type 0} {goes : S → List story.StoryEvent → S → Type 0} (joi
       }
 
   pub feeds_on : {u v : Unpacking} {a b c : S} (progress : Progress) → HasFedPieces goes limits u a b o → limits_in v ≡ limits
-      → ((more : List story.StoryEvent) × goes b more c × ((p : List ℕ) (n : ℕ) → Stands u p n → Goes v p n piece more progress))
+      → ((more : List story.StoryEvent) × goes b more c × ((p : List ℕ) (n : ℕ) → Stands u p n → Progresses v p n piece more progress))
       → ((used : ℕ) → used ≤ length o → IsDoneWith u (take used o) used → (v ≡ u) × (c ≡ b)) → HasFedPieces goes limits v a c (o ++ piece)
   feeds_on {u} {v} {a} {b} {c} progress fed same step done' = by fed.stood
     where
-      answered : (q : Progress) → Stands u o (length o) → Delivers [] o fed.more → Goes v o (length o) piece step.0 q
+      answered : (q : Progress) → Stands u o (length o) → Delivers [] o fed.more → Progresses v o (length o) piece step.0 q
           → (Stands v (o ++ piece) (length (o ++ piece)) × Delivers [] (o ++ piece) (fed.more ++ step.0)) ⊎ DoneIn v (o ++ piece) (fed.more ++ step.0)
       answered More at adds there = inl (on_more same there.0, adds_more cut [] o piece fed.more step.0 adds there.1)
       answered (Done used) at adds there = inr (on_done fed.more step.0 used same there.0 there.1 adds there.2)

@@ -1,5 +1,5 @@
 -- Readers that were made for a possible place stand at all octets that lead there, and an unpacker that is made of them is sound.
-use Rattle.iim_unpack.proofs.Words.{AreAfter, AreBetween, Begun, CanContinue, CanContinueAt, Dataset, DatasetPlace, FieldsPlace, Head, InData, InTag, Inside, IsDoneWith, IsEnvelopeWithin, IsKeptAs, IsOpen, IsRestored, IsSome, IsUnpacking, LeadsToSaved, Limits, List, LowerLaws, MayContinue, MessagePlace, None, Octets, Parts, Place, PlaceLaws, Reads, SectionsLiveAt, Sizes, Split, Stands, StandsFor, Tag, Takes, TakesCalls, Unpacking, Value, Within, [], alive_of, ap, arith, between, count_octets, count_of, false, fields_after, fields_in, handed_on, has_ended, head_alive, heads_within, if◌then◌else◌, inl, inr, kept, length, limits_in, limits_of, nat_eq, ne_eqb, numbers_of, object_of, object_so_far, of_record, one_reading, opened, place_after_datasets, place_of, reads_envelope, refl, section_after, sections_last, some_read, stated_after_all, stated_numbers, subst, sym, text_so_far, ticket_at, to_come, true, true≢false, ℕ, ◌+◌, ◌<◌, ◌∙◌, ◌≡◌, ◌⊎◌}
+use Rattle.iim_unpack.proofs.Words.{AreAfter, AreBetween, Begun, CanContinue, CanContinueAt, Dataset, DatasetPlace, FieldsPlace, Head, InData, InTag, Inside, IsDoneWith, IsEnvelopeWithin, IsKeptAs, IsOpen, IsRestored, IsSome, IsUnpacking, LeadsToSaved, Limits, List, LowerLaws, MayContinue, MessagePlace, None, Octets, Parts, Place, PlaceLaws, Reads, SectionsLiveAt, Sizes, Split, Stands, PartsStandAt, Tag, Takes, TakesCalls, Unpacking, Value, Within, [], alive_of, ap, arith, between, count_octets, count_of, false, fields_after, fields_in, handed_on, has_ended, head_alive, heads_within, if◌then◌else◌, inl, inr, kept, length, limits_in, limits_of, nat_eq, ne_eqb, numbers_of, object_of, object_so_far, of_record, one_reading, opened, place_after_datasets, place_of, reads_envelope, refl, section_after, sections_last, some_read, stated_after_all, stated_numbers, subst, sym, text_so_far, ticket_at, to_come, true, true≢false, ℕ, ◌+◌, ◌<◌, ◌∙◌, ◌≡◌, ◌⊎◌}
 use Rattle.iim_fields.specs.States.Standing as records
 use Rattle.iim_object.specs.{Format.Objects.NotEnded, Laws.ReadersTellSizes}
 use Rattle.iim_places.specs.States.Possible.{LeadsByLayers, RecordsLive, one_of_some, record_datasets, Numbers, plain, AreHeadsWithin, AreOpenOrWhole}
@@ -89,12 +89,12 @@ within_data laws limits at u ds h xs m text (l, made) goes open' octets less lea
 
 stands_for : LowerLaws → (limits : Limits) (at : ℕ) (u : Unpacking) (p : List ℕ) (ds : List Dataset) (b : Begun) (m : MessagePlace) (text : List ℕ)
     → AreMadeFor limits at u (place_of ds b m) → Reads count_octets p ds b → MayContinue limits ds b
-    → nat_eq (section_after ds) 9 ≡ false → LeadsToSaved (object_so_far ds b) text m → StandsFor u.parts ds b
+    → nat_eq (section_after ds) 9 ≡ false → LeadsToSaved (object_so_far ds b) text m → PartsStandAt u.parts ds b
 stands_for laws limits at u p ds (InTag held) m text made reads goes open' leads = after_datasets laws limits at u ds held m text made goes leads
 stands_for laws limits at u p ds (InData h xs) m text made reads goes open' leads = within_data laws limits at u ds h xs m text made goes open'
     reads.is_rest.3 reads.is_rest.2 leads
 
-ended_for : (parts : Parts) (ds : List Dataset) (b : Begun) → nat_eq (section_after ds) 9 ≡ false → StandsFor parts ds b → has_ended parts ≡ false
+ended_for : (parts : Parts) (ds : List Dataset) (b : Begun) → nat_eq (section_after ds) 9 ≡ false → PartsStandAt parts ds b → has_ended parts ≡ false
 ended_for parts ds (InTag held) open' stand = ended_by_record parts ds stand.fields ∙ open'
 ended_for parts ds (InData h xs) open' stand = unended_inside parts h stand.fields.inside.0 stand.fields.inside.1
 
@@ -155,7 +155,7 @@ module _ (laws : LowerLaws) (place : Place) (limits : Limits) (at : ℕ) (u : Un
       sizes
 
 -- What comes next is taken where the readers stand at open octets.
-takes_at : (parts : Parts) (place : DatasetPlace) (ds : List Dataset) (b : Begun) → StandsFor parts ds b → IsKeptAs place b → has_ended parts ≡ false
+takes_at : (parts : Parts) (place : DatasetPlace) (ds : List Dataset) (b : Begun) → PartsStandAt parts ds b → IsKeptAs place b → has_ended parts ≡ false
     → IsSome parts.object → IsSome parts.message → Takes parts (to_come place)
 takes_at parts (Tag held) ds (InTag octets) stand keeps more object message =
     record { fields = stand.fields.between; object = object; message = message; is_over = more }
@@ -166,7 +166,7 @@ takes_at parts (Inside k left) ds (InData h xs) stand keeps more object message 
 takes_at parts place ds b stand keeps more object message = absurd keeps
 
 -- The last dataset has ended where the readers say so.
-ended_at : (parts : Parts) (ds : List Dataset) (b : Begun) → StandsFor parts ds b → has_ended parts ≡ true → IsSome parts.object → IsSome parts.message
+ended_at : (parts : Parts) (ds : List Dataset) (b : Begun) → PartsStandAt parts ds b → has_ended parts ≡ true → IsSome parts.object → IsSome parts.message
     → AreBetween true parts
 ended_at parts ds (InTag held) stand last object message = record { is_over = last; fields = stand.fields.between; object = object; message = message }
 ended_at parts ds (InData h xs) stand last object message =

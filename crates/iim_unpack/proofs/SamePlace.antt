@@ -1,6 +1,6 @@
 -- What is read of octets of one place leaves the parts of an unpacker alike.
 -- What unpackers that stand alike answer, and that a restored one stands as the saved one.
-use Rattle.iim_unpack.proofs.Words.{AllCanContinue, Answer, Answers, AreAfter, AreWithin, Begun, CanContinue, CanContinueAt, Dataset, Done, Err, Finished, Head, InData, InTag, IsDoneWith, IsEnvelopeWithin, IsFinished, IsKeptAs, IsOpen, IsRefusedIn, Limits, List, LowerLaws, More, Octets, Ok, Parts, Place, Progress, Reads, Refusal, Refused, Result, Stands, StandsFor, StreamsHaveOneAnswer, TokenFault, Truncated, Unpacking, Within, [], alive_of, ap, are_some, arith, begun_number, begun_record, count_octets, fields_after, fields_in, get_or-append-add, handed_on, head_alive, if◌then◌else◌, inl, inr, length, length-append, limits_in, nat_eq, object_of, object_so_far, one_reading, opened, place_after_datasets, place_at, place_of, raised, refl, refusal_at, section_after, slice_index, some_read, stated_after_all, subst, sym, take, take-append-add, text_so_far, ℕ, ◌++◌, ◌+◌, ◌==◌, ◌∙◌, ◌∷◌, ◌≡◌, ◌≤◌, ◌⊎◌}
+use Rattle.iim_unpack.proofs.Words.{AllCanContinue, Answer, Answers, AreAfter, AreWithin, Begun, CanContinue, CanContinueAt, Dataset, Done, Err, Finished, Head, InData, InTag, IsDoneWith, IsEnvelopeWithin, IsFinished, IsKeptAs, IsOpen, IsRefusedIn, Limits, List, LowerLaws, More, Octets, Ok, Parts, Place, Progress, Reads, Refusal, Refused, Result, Stands, PartsStandAt, StreamsHaveOneAnswer, TokenFault, Truncated, Unpacking, Within, [], alive_of, ap, are_some, arith, begun_number, begun_record, count_octets, fields_after, fields_in, get_or-append-add, handed_on, head_alive, if◌then◌else◌, inl, inr, length, length-append, limits_in, nat_eq, object_of, object_so_far, one_reading, opened, place_after_datasets, place_at, place_of, raised, refl, refusal_at, section_after, slice_index, some_read, stated_after_all, subst, sym, take, take-append-add, text_so_far, ℕ, ◌++◌, ◌+◌, ◌==◌, ◌∙◌, ◌∷◌, ◌≡◌, ◌≤◌, ◌⊎◌}
 use Rattle.iim_fields.specs.States.Standing as records
 use Rattle.iim_unpack.specs.Laws.{AnswersPiece, IsOfNoSink, PieceIsAnsweredAlike, PiecesAreAnsweredAlike, RestoredStandAlike, RestoredStandAsSaved, StandAlike, StandOnSame, UnpackersStandByPlace}
 use Rattle.iim_unpack.proofs.Sequences.{reached}
@@ -51,8 +51,8 @@ module _ (laws : LowerLaws) (limits : Limits) (parts : Parts) (ds es : List Data
         ended = at.ended;
       }
 
-  parts_as : (c d : Begun) (q : List ℕ) → SameBegun c d → Reads count_octets q es d → StandsFor parts ds c → SameAll ds es c d → AllCanContinue limits es d
-      → StandsFor parts es d
+  parts_as : (c d : Begun) (q : List ℕ) → SameBegun c d → Reads count_octets q es d → PartsStandAt parts ds c → SameAll ds es c d → AllCanContinue limits es d
+      → PartsStandAt parts es d
   parts_as (InTag x) (InTag y) q same reads at all goes = after_as at all goes.sizes
   parts_as (InData h xs) (InData k ys) q same reads at all goes =
       subst (λ (g : Head). (if h.rec == 8 then [] else xs) ≡ (if g.rec == 8 then [] else ys) → SameAll ds es (InData h xs) (InData g ys)
@@ -66,7 +66,7 @@ same_stands laws u p q a place at there stands opens =
     let led = stands.is_led in
     let r = reached laws.events_tell led.leads led.led in
     let one = one_reading laws p r.whole at.whole r.begun at.begun r.reads at.reads in
-    let mine : StandsFor u.parts at.whole at.begun = rw (one.whole_is, one.begun_is) at r.stands in
+    let mine : PartsStandAt u.parts at.whole at.begun = rw (one.whole_is, one.begun_is) at r.stands in
     let was = opened laws (limits_in u) p at.whole at.begun at.reads stands.is_open in
     let now = opened laws (limits_in u) q there.whole there.begun there.reads opens in
     let e : place_of at.whole at.begun at.message ≡ place_of there.whole there.begun there.message = sym at.is_place ∙ there.is_place in

@@ -1,6 +1,6 @@
 -- Whether the last dataset has ended.
 -- Where octets lead reader and parts; events in order: what is handed on of octets is in order, and a dataset ends where its head says.
-use Rattle.iim_unpack.proofs.Words.{AreInOrder, AreLed, Begun, DataOctet, Dataset, DatasetEnd, DatasetEvent, DatasetPlace, EventsTellTheDatasets, HandsOn, Head, HeadRead, InData, InTag, IsDoneWith, IsKeptAs, IsLed, IsTextOf, LeadsTo, List, None, Parts, Reads, Some, Stands, StandsAfter, StandsFor, Unpacking, [], ap, append-nil, append_assoc, arith, begun_head, begun_head_of, count_octets, data_of, events_of, false, flat_map, flat_map-append, handed_on, head_of, inl, inr, length, length-append, map, nat_eq, ne_eqb, not, object_so_far, refl, section_after, section_of, subst, sym, text_so_far, ℕ, ◌++◌, ◌-◌, ◌<◌, ◌∙◌, ◌∷◌, ◌≡◌, ◌⊎◌}
+use Rattle.iim_unpack.proofs.Words.{AreInOrder, AreLed, Begun, DataOctet, Dataset, DatasetEnd, DatasetEvent, DatasetPlace, EventsTellTheDatasets, HandsOn, Head, HeadRead, InData, InTag, IsDoneWith, IsKeptAs, IsLed, IsTextOf, LeadsTo, List, None, Parts, Reads, Some, Stands, StandsAfter, PartsStandAt, Unpacking, [], ap, append-nil, append_assoc, arith, begun_head, begun_head_of, count_octets, data_of, events_of, false, flat_map, flat_map-append, handed_on, head_of, inl, inr, length, length-append, map, nat_eq, ne_eqb, not, object_so_far, refl, section_after, section_of, subst, sym, text_so_far, ℕ, ◌++◌, ◌-◌, ◌<◌, ◌∙◌, ◌∷◌, ◌≡◌, ◌⊎◌}
 use Rattle.std.proofs.Common.{is_some, replicate}
 use Rattle.iim_fields.specs.States.Standing.{section_at, IsInside}
 use Rattle.iim_unpack.specs.States.Unpacking.{has_ended}
@@ -43,11 +43,11 @@ pub record Reached (place : DatasetPlace) (parts : Parts) (p text : List ℕ) : 
   pub begun : Begun
   pub reads : Reads count_octets p whole begun
   pub keeps : IsKeptAs place begun
-  pub stands : StandsFor parts whole begun
+  pub stands : PartsStandAt parts whole begun
   pub is_text : text ≡ text_so_far (object_so_far whole begun)
 
 abbrev There : Parts → List ℕ → List Dataset → Begun → Type 0
-There parts text ds begun = StandsFor parts ds begun × (text ≡ text_so_far (object_so_far ds begun))
+There parts text ds begun = PartsStandAt parts ds begun × (text ≡ text_so_far (object_so_far ds begun))
 
 pub reached : EventsTellTheDatasets → {place : DatasetPlace} {parts : Parts} {p text : List ℕ} {events : List DatasetEvent}
     → LeadsTo count_octets p events place → AreLed parts events text → Reached place parts p text

@@ -39,10 +39,10 @@ pub use Rattle.iim_places.specs.declared.fault.TokenFault.{TokenFault}
 pub use Rattle.iim_places.specs.declared.refusal.Cause.{Cause}
 pub use Rattle.iim_places.specs.declared.refusal.Refusal.{Refusal}
 pub use Rattle.iim_unpack.specs.Format.Pieces.{IsTurnedDown, stream_of, HasParts, Unpacked}
-pub use Rattle.iim_unpack.specs.Steps.{HasFedPieces, IsUnpacking, Stood}
+pub use Rattle.iim_unpack.specs.Steps.{HasFedPieces, IsUnpacking, StandsSomewhere}
 pub use Rattle.iim_unpack.specs.Routes.{AreBetween, AreInOrder, PartsRefuse, TellsParts, TellsWhole, HasFewSubfiles, IsObjectFault, MessageRefuses, TellsMessage, octets_of, tells_message_nothing, Takes}
 pub use Rattle.iim_unpack.specs.States.Blocks.{with_held}
-pub use Rattle.iim_unpack.specs.States.Unpacking.{HoldsFew, AreAfter, AreLed, CountsFor, Parts, StandsFor, Within, has_ended, Done, Goes, IsDone, IsDoneWith, IsLed, IsRefusedIn, LeftAs, More, Progress, Stands, Unpacking, limits_in}
+pub use Rattle.iim_unpack.specs.States.Unpacking.{HoldsFew, AreAfter, AreLed, CountsFor, Parts, PartsStandAt, Within, has_ended, Done, Progresses, IsDone, IsDoneWith, IsLed, IsRefusedIn, LeftAs, More, Progress, Stands, Unpacking, limits_in}
 pub use Rattle.iim_unpack.specs.States.Intakes.{HasFed, IsReady, in_line}
 pub use Rattle.iim_unpack.specs.States.Restored.{IsRestored}
 pub use Rattle.std.proofs.Common.{Bool, Bor, Err, IsSome, List, None, Ok, Option, Result, Some, [], ap, append-nil, append_assoc, arith, cond, drop, false, flat_map, get_or, if◌then◌else◌, inl, inr, length, length-append, map, nat_eq, not, refl, slice_index, subst, sym, take, true, ℕ, ◌*◌, ◌++◌, ◌+◌, ◌-◌, ◌<◌, ◌==◌, ◌^◌, ◌||◌, ◌∙◌, ◌∷◌, ◌≡◌, ◌≤◌, ◌⊎◌}

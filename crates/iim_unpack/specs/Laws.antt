@@ -3,7 +3,7 @@ use Rattle.std.specs.Prelude.{◌<◌, ◌^◌, ℕ, List, ◌≡◌, ◌≢◌,
 use Rattle.iim_unpack.specs.States.Restored.{IsRestored}
 use Rattle.iim_places.specs.Format.{Tickets.IsTicketOf, Tickets.Place, Tickets.IsPlaceOf, Open.IsOpen}
 use Rattle.iim_places.specs.declared.refusal.{Cause.TheVariants.Message, Refusal.Refusal}
-use Rattle.iim_unpack.specs.States.Unpacking.{IsDoneWith, Stands, Unpacking, limits_in, IsDone, Goes, IsRefusedIn, failed_at, Done, Progress}
+use Rattle.iim_unpack.specs.States.Unpacking.{IsDoneWith, Stands, Unpacking, limits_in, IsDone, Progresses, IsRefusedIn, failed_at, Done, Progress}
 use Rattle.wire_story.specs.Format.Texts.{StoryEvent}
 use Rattle.wire_message.specs.declared.fault.MessageCause.TheVariants.{Sink}
 
@@ -20,7 +20,7 @@ UnpackersStandByPlace = (u : Unpacking) (p q : List ℕ) (a : ℕ) (place : Plac
 
 -- A piece led an unpacker from u to v, and this was answered. It is what the clauses of `feed` say, but for the sink.
 pub record AnswersPiece (u v : Unpacking) (piece : List ℕ) (answer : Result Progress Refusal) : Type 0 where
-  pub goes : IfOk answer (λ progress. (more : List StoryEvent) × ((p : List ℕ) (a : ℕ) → Stands u p a → Goes v p a piece more progress))
+  pub goes : IfOk answer (λ progress. (more : List StoryEvent) × ((p : List ℕ) (a : ℕ) → Stands u p a → Progresses v p a piece more progress))
   pub refused : IfErr answer (λ e. (more : List StoryEvent) × ((p : List ℕ) (a : ℕ) → Stands u p a → IsRefusedIn (limits_in u) p a piece more e))
   pub failed : IfErr answer (λ e. v.refused ≡ Some e.octet)
   pub done : IsDone u → (answer ≡ Ok (Done 0)) × (v ≡ u)

@@ -95,22 +95,22 @@ module _ {S : Type 0} (goes : S → List story.StoryEvent → S → Type 0) (fai
 
   -- Why octet k is refused: no tag continues with it, or the parts refused what it completes. (What they refused; the place, the parts and
   -- the sink, before and after.)
-  abbrev pub FailsFor : Option HeadCause → Option TokenFault → Place × Parts × S → List ℕ → ℕ → Place × Parts × S → Type 0
-  FailsFor None refused old octets k new = Stops (PartsRefuse goes failures refused) old.0 octets k (old.1, old.2) (new.1, new.2)
-  FailsFor (Some cause) refused old octets k new = StuckInTag old octets k cause new
+  abbrev pub IsStoppedBy : Option HeadCause → Option TokenFault → Place × Parts × S → List ℕ → ℕ → Place × Parts × S → Type 0
+  IsStoppedBy None refused old octets k new = Stops (PartsRefuse goes failures refused) old.0 octets k (old.1, old.2) (new.1, new.2)
+  IsStoppedBy (Some cause) refused old octets k new = StuckInTag old octets k cause new
 
   -- why octet k of a piece is refused (the place, the parts and the sink, before and after)
-  abbrev pub FailsAs : Place × Parts × S → List ℕ → ℕ → TokenFault → Place × Parts × S → Type 0
-  FailsAs old octets k fault new =
+  abbrev pub IsStoppedWith : Place × Parts × S → List ℕ → ℕ → TokenFault → Place × Parts × S → Type 0
+  IsStoppedWith old octets k fault new =
       ((cause : HeadCause) × StuckInTag old octets k cause new × (fault ≡ tag_fault (named_by new.0) cause))
       ⊎ Stops (PartsRefuse goes failures (Some fault)) old.0 octets k (old.1, old.2) (new.1, new.2)
 
 -- It stands on some octets, or is done with some.
-abbrev pub Stood : Unpacking → Type 0
-Stood u = (p : List ℕ) × (a : ℕ) × (Stands u p a ⊎ IsDoneWith u p a)
+abbrev pub StandsSomewhere : Unpacking → Type 0
+StandsSomewhere u = (p : List ℕ) × (a : ℕ) × (Stands u p a ⊎ IsDoneWith u p a)
 
 -- what holds of an unpacker between calls
 pub record IsUnpacking (u : Unpacking) : Type 0 where
   pub calls : TakesCalls u.reader
   pub takes : ((has_ended u.parts ≡ false) × Takes u.parts (to_come u.reader.place)) ⊎ AreBetween true u.parts
-  pub stood : Stood u
+  pub stood : StandsSomewhere u

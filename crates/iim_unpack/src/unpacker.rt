@@ -4,10 +4,10 @@ ghost use Rattle.std.specs.Prelude.{◌≡◌, ◌+◌, ◌*◌, ◌^◌, [], is
 ghost use Rattle.iim_dataset.specs.States.Reading.{to_come, TakesCalls, tag_cause_of};
 ghost use Rattle.iim_fields.specs.States.Standing.{StandsAfter, limits_of, room_of, room_for};
 ghost use Rattle.wire_story.specs.Format.Texts as story;
-ghost use Rattle.iim_unpack.specs.States.Unpacking.{CountsFor, failed_at, Stands, IsDoneWith, IsDone, IsRefusedIn, Goes, limits_in, room_in, LeftAs, HoldsFew};
+ghost use Rattle.iim_unpack.specs.States.Unpacking.{CountsFor, failed_at, Stands, IsDoneWith, IsDone, IsRefusedIn, Progresses, limits_in, room_in, LeftAs, HoldsFew};
 ghost use Rattle.iim_places.specs.Format.Causes.{refusal_at};
 ghost use Rattle.iim_unpack.specs.Routes.{Takes};
-ghost use Rattle.iim_unpack.specs.Steps.{HasAdvanced, FailsFor, FailsAs, tag_fault, IsUnpacking, Stood};
+ghost use Rattle.iim_unpack.specs.Steps.{HasAdvanced, IsStoppedBy, IsStoppedWith, tag_fault, IsUnpacking, StandsSomewhere};
 ghost use Rattle.iim_places.specs.Format.Streams.{are_some, raised};
 ghost use Rattle.iim_unpack.specs.States.Restored.{HasTicketIn};
 ghost use Rattle.iim_places.specs.Format.Open.{IsTruncatedAt};
@@ -56,7 +56,7 @@ fn feed_router<'p, 's, S: StorySink>(
         (reader.new, router.new.parts.now, router.new.sink.now)) }
     ensures before { IfErr result (λ fault. fault.taken < length piece.now) }
     ensures fails { IfErr result (λ fault.
-        FailsFor S.goes S.failures (tag_cause_of fault.cause) router.new.refused
+        IsStoppedBy S.goes S.failures (tag_cause_of fault.cause) router.new.refused
         (reader.old.place, router.old.parts.now, router.old.sink.now) piece.now fault.taken
         (reader.new.place, router.new.parts.now, router.new.sink.now)) }
     ensures room { room_of router.new.parts.now.fields ≡ room_of router.old.parts.now.fields }
@@ -88,7 +88,7 @@ fn advance<S: StorySink>(
         (reader.new, parts.new, sink.new)) }
     ensures before { IfErr result (λ halt. halt.taken < length piece.now) }
     ensures fails { IfErr result (λ halt.
-        FailsAs S.goes S.failures (reader.old.place, parts.old, sink.old) piece.now halt.taken halt.fault
+        IsStoppedWith S.goes S.failures (reader.old.place, parts.old, sink.old) piece.now halt.taken halt.fault
         (reader.new.place, parts.new, sink.new)) }
     ensures room { room_of parts.new.fields ≡ room_of parts.old.fields }
 {
@@ -305,7 +305,7 @@ impl Unpacker {
 
     /// It stands on some octets, or is done with some, unless something was refused.
     pub(crate) fn stands_somewhere(&self)
-        ensures stood { self.now.refused ≡ None → Stood self.now }
+        ensures stood { self.now.refused ≡ None → StandsSomewhere self.now }
         ensures counts { self.now.octets < 2 ^ 64 }
         ensures octets { (limits_in self.now).octets < 2 ^ 32 }
         ensures fields { (limits_in self.now).fields < 2 ^ 32 }
@@ -338,7 +338,7 @@ impl Unpacker {
         // It stands on the octets so far, or an envelope ends with them; and the sink was told what they add, and did not fail.
         ensures goes { IfOk result (λ progress. (S.failures sink.new ≡ S.failures sink.old)
             × ((more : List story.StoryEvent) × S.goes sink.old more sink.new
-            × ((p : List ℕ) (a : ℕ) → Stands self.old p a → Goes self.new p a piece.now more progress))) }
+            × ((p : List ℕ) (a : ℕ) → Stands self.old p a → Progresses self.new p a piece.now more progress))) }
 
         // The first dead token is one that octet k completes; the sink was told what the octets before it add.
         ensures refused { IfErr result (λ e. (more : List story.StoryEvent) × S.goes sink.old more sink.new

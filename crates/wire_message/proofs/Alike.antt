@@ -2,7 +2,7 @@
 use Rattle.std.proofs.Common.{◌≡◌, ℕ, ◌≤◌, true, cond, List, [], ◌∷◌, ◌++◌, map, Option, Some, refl, sym, ap, subst, ◌∙◌, arith, append-nil}
 use Rattle.wire_message.proofs.Names.{append_cancel_left, same_Some, AreLines, Holds, Octet, End, StoryLanguage, StoryLaws, TextReader, map_snoc, so_far_two, MessageLivesWith, text_so_far, StoryLivesIn, StoryDiesWith, HasCause, Spells, StoryStands, LeadsTo, TextsStandBetweenStxAndEtx, ReadersStandAtLivingOctets, LivingOctetsLeadOn, OctetsLeadToOnePlace, OctetsLeadOnAlike, OctetsAreRefusedAlike, Place, Filler, Text, Trailer, AfterEnd, MessageCause, BadOctet, Unfinished, LoneReturn, ControlOctet, Sink}
 use Rattle.wire_message.proofs.Machine.{Stands, led, unread, stands_unread, run, run_parts, one_end}
-use Rattle.wire_message.proofs.{Runs.spelled_runs, Goings.Continues, Goings.octets_on, Alive.message_lives, Alive.live_runs}
+use Rattle.wire_message.proofs.{Runs.spelled_runs, Goings.Continues, Goings.octets_on, Living.message_lives, Living.live_runs}
 use Rattle.wire_message.proofs.TextSoFar.{TextIs, text_ended, none_yet, text_at, tokens_are, tokens_of}
 use Rattle.iim_dataset.specs.Format.Octets.{IsAlive}
 use Rattle.wire_story.specs.States.Reading as story

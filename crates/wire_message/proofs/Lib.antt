@@ -3,7 +3,7 @@ pub mod Packed
 pub mod Machine
 pub mod Runs
 pub mod Transitions
-pub mod Alive
+pub mod Living
 pub mod Goings
 pub mod TextSoFar
 pub mod Readings

@@ -1,5 +1,5 @@
 pub mod HeldReturns
-pub mod Lives
+pub mod Living
 pub mod Told
 pub mod Pieces
 pub mod Marked

@@ -9,7 +9,7 @@ use Rattle.wire_story.specs.Format.Texts.{is_line_octet, IsLine, Holds, LivesWit
 use Rattle.wire_story.specs.States.Reading.{StandsAt, LeadsOn, Refuses}
 use Rattle.wire_story.specs.declared.fault.TextCause.{TextCause}
 use Rattle.wire_story.specs.declared.fault.TextCause.TheVariants.{LoneReturn, ControlOctet, Sink}
-use Rattle.wire_story.proofs.{HeldReturns.held_after, HeldReturns.held_append, HeldReturns.held_line, Lives.held_of, Lives.holds, Lives.live_of, Lives.dies}
+use Rattle.wire_story.proofs.{HeldReturns.held_after, HeldReturns.held_append, HeldReturns.held_line, Living.held_of, Living.holds, Living.live_of, Living.dies}
 use Rattle.wire_story.proofs.{Told.take_front, Spans.Are-at}
 
 -- ---- pieces

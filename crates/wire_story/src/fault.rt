@@ -1,6 +1,6 @@
 //! Why a text is refused.
 
-ghost use Rattle.std.specs.Prelude.{◌≡◌, Some};
+ghost use Rattle.std.specs.Prelude.{◌≡◌, ◌<◌, ◌+◌, ◌^◌, Some};
 ghost use Rattle.wire_story.specs.Format.Texts.{number_of_text, name_of_text, print_of_text};
 
 use std::error::Error;
@@ -58,4 +58,17 @@ pub struct TextFault {
     pub taken: usize,
     /// Why it was refused.
     pub cause: TextCause,
+}
+
+impl TextFault {
+    /// The fault as it is told of a run that begins `octets` octets earlier.
+    pub(crate) fn after(self, octets: usize) -> TextFault
+        requires { octets + self.taken < 2 ^ 64 }
+        ensures { result ≡ record { taken = octets + self.taken; cause = self.cause } }
+    {
+        TextFault {
+            taken: octets + self.taken,
+            cause: self.cause,
+        }
+    }
 }

@@ -162,10 +162,7 @@ fn take_front<S: StorySink>(
             }
             match take_mark(held, &rest[run..], sink) {
                 Ok((now, used)) => Ok((now, run + used, here.after(used, &rest[run..]))),
-                Err(fault) => Err(TextFault {
-                    taken: run + fault.taken,
-                    cause: fault.cause,
-                }),
+                Err(fault) => Err(fault.after(run)),
             }
         }
         Err(fault) => Err(fault),
@@ -229,10 +226,7 @@ fn take_line<S: StorySink>(rest: &[u8], marks: Marks, sink: &mut S) -> Result<us
     match take_run(0, run, rest, sink) {
         Ok(()) => match take_end(end, &rest[run..], sink) {
             Ok(()) => Ok(run + end),
-            Err(fault) => Err(TextFault {
-                taken: run + fault.taken,
-                cause: fault.cause,
-            }),
+            Err(fault) => Err(fault.after(run)),
         },
         Err(fault) => Err(fault),
     }
@@ -265,12 +259,7 @@ fn take_lines<S: StorySink>(
                 here = here.after(used, &rest[at..]);
                 at += used;
             }
-            Err(fault) => {
-                return Err(TextFault {
-                    taken: at + fault.taken,
-                    cause: fault.cause,
-                });
-            }
+            Err(fault) => return Err(fault.after(at)),
         }
     }
     Ok((at, here))
@@ -299,10 +288,7 @@ fn take_fronts<S: StorySink>(
     }
     match take_lines(&rest[used..], after, sink) {
         Ok((more, last)) => Ok((0, used + more, last)),
-        Err(fault) => Err(TextFault {
-            taken: used + fault.taken,
-            cause: fault.cause,
-        }),
+        Err(fault) => Err(fault.after(used)),
     }
 }
 
@@ -335,12 +321,7 @@ pub(crate) fn take_piece<S: StorySink>(
                 marks = after;
                 at += used;
             }
-            Err(fault) => {
-                return Err(TextFault {
-                    taken: at + fault.taken,
-                    cause: fault.cause,
-                });
-            }
+            Err(fault) => return Err(fault.after(at)),
         }
     }
     Ok(now)

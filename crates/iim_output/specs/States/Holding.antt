@@ -72,8 +72,8 @@ pub record IsCutShort {W : Type 0} (state : W → Device) (old new : BlockWriter
   pub patience : WithinInterruptionLimit (length out + 1) (device_of state old) (device_of state new)
 
 -- The output broke inside the text.
-abbrev pub IsUnadded : {W : Type 0} → (W → Device) → BlockWriter W → BlockWriter W → List ℕ → CommandFault → Type 0
-IsUnadded state old new text fault = (fault ≡ CannotWrite) × IsCutShort state old new text
+abbrev pub FailsToAdd : {W : Type 0} → (W → Device) → BlockWriter W → BlockWriter W → List ℕ → CommandFault → Type 0
+FailsToAdd state old new text fault = (fault ≡ CannotWrite) × IsCutShort state old new text
 
 -- ---- A sink that passes over the text of a story.
 

@@ -45,16 +45,16 @@ pub record Within (parts : Parts) (ds : List Dataset) (h : Head) (taken : List �
   pub message : wire.StandsAt parts.message (object_so_far ds (InData h taken)) (text_so_far (object_so_far ds (InData h taken)))
   pub ended : h.rec ≡ 9 → wire.IsWhole parts.message
 
-abbrev pub StandsFor : Parts → List Dataset → Begun → Type 0
-StandsFor parts ds (InTag held) = AreAfter parts ds
-StandsFor parts ds (InData h taken) = Within parts ds h taken
+abbrev pub PartsStandAt : Parts → List Dataset → Begun → Type 0
+PartsStandAt parts ds (InTag held) = AreAfter parts ds
+PartsStandAt parts ds (InData h taken) = Within parts ds h taken
 
 -- The events have led the parts here, with this text among them.
 pub record AreLed (parts : Parts) (events : List DatasetEvent) (text : List ℕ) : Type 0 where
   pub whole : List Dataset
   pub begun : Begun
   pub told : events ≡ handed_on whole begun
-  pub stands : StandsFor parts whole begun
+  pub stands : PartsStandAt parts whole begun
   pub is_text : text ≡ text_so_far (object_so_far whole begun)
 
 -- The last dataset has ended: record 9 is the present one, and no dataset is begun.
@@ -115,9 +115,9 @@ abbrev pub IsDone : Unpacking → Type 0
 IsDone u = (u.refused ≡ None) × (has_ended u.parts ≡ true)
 
 -- What is answered, of octets on which it stood.
-abbrev pub Goes : Unpacking → List ℕ → ℕ → List ℕ → List story.StoryEvent → Progress → Type 0
-Goes v p a piece more More = Stands v (p ++ piece) (raised a (length piece)) × Delivers p piece more
-Goes v p a piece more (Done used) = (used ≤ length piece) × IsDoneWith v (p ++ take used piece) (raised a used) × Delivers p (take used piece) more
+abbrev pub Progresses : Unpacking → List ℕ → ℕ → List ℕ → List story.StoryEvent → Progress → Type 0
+Progresses v p a piece more More = Stands v (p ++ piece) (raised a (length piece)) × Delivers p piece more
+Progresses v p a piece more (Done used) = (used ≤ length piece) × IsDoneWith v (p ++ take used piece) (raised a used) × Delivers p (take used piece) more
 
 -- Octet k of the piece is refused, and of the octets before it this is delivered.
 pub record IsRefusedIn (limits : Limits) (p : List ℕ) (a : ℕ) (piece : List ℕ) (more : List story.StoryEvent) (e : Refusal) : Type 0 where

@@ -1,5 +1,5 @@
 -- What a piece comes to that is fed from the place of a ticket.
-use Rattle.iim_c.proofs.Words.{length, arith, sym, subst, ◌∙◌, ◌≡◌, ℕ, ◌<◌, ◌≤◌, ◌^◌, List, [], ◌⊎◌, inl, inr, take, map, None, refl, ap, Limits, StoryEvent, text_so_far, IsTextOf, object_so_far, IsTicketOf, Unpacking, Stands, Goes, IsDone, IsDoneWith, IsRefusedIn, limits_in, Progress, Refusal, HasFedText, HasRefusedText, status_answer, refusal_answer, DatasetLaws, length-take}
+use Rattle.iim_c.proofs.Words.{length, arith, sym, subst, ◌∙◌, ◌≡◌, ℕ, ◌<◌, ◌≤◌, ◌^◌, List, [], ◌⊎◌, inl, inr, take, map, None, refl, ap, Limits, StoryEvent, text_so_far, IsTextOf, object_so_far, IsTicketOf, Unpacking, Stands, Progresses, IsDone, IsDoneWith, IsRefusedIn, limits_in, Progress, Refusal, HasFedText, HasRefusedText, status_answer, refusal_answer, DatasetLaws, length-take}
 use Rattle.iim_c.proofs.Places.{begun, begun_alive, Begun, is_done, said, at_place}
 use Rattle.iim_c.proofs.TextLengths.{delivers_few, events_few}
 use Rattle.iim_c.specs.Format.Feeding.{IsNowhere, Outcome, IsOutcome, IsAnswered, IsFed}
@@ -76,7 +76,7 @@ is_outcome (progress.Done used) {v = v} next b fed same again is_ticket =
 text_there : (u : Unpacking) (p : List ℕ) (a : ℕ) → (s : Stands u p a) → IsTextOf p (text_so_far (object_so_far s.is_open.whole s.is_open.begun))
 text_there u p a s = (s.is_open.whole, s.is_open.begun, s.is_open.reads, refl)
 
-goes_few : DatasetLaws → (q : Progress) (u v : Unpacking) (p piece : List ℕ) (a : ℕ) (more : List StoryEvent) → Stands u p a → Goes v p a piece more q
+goes_few : DatasetLaws → (q : Progress) (u v : Unpacking) (p piece : List ℕ) (a : ℕ) (more : List StoryEvent) → Stands u p a → Progresses v p a piece more q
     → length (map octet_for more) ≤ length piece
 goes_few laws progress.More u v p piece a more s goes = delivers_few laws p piece _ more (text_there u p a s) goes.1
 goes_few laws (progress.Done used) u v p piece a more s goes =
@@ -136,7 +136,7 @@ fed_refused laws {u = u} {piece = piece} {text_out = text_out} {count = count} {
           (λ more. absurd (omega (arith, more))) (λ all. rw all) answered,
     )
 
-alive_by : (q : Progress) (v : Unpacking) (piece : List ℕ) (more : List StoryEvent) (p : List ℕ) (a : ℕ) → Goes v p a piece more q → v.refused ≡ None
+alive_by : (q : Progress) (v : Unpacking) (piece : List ℕ) (more : List StoryEvent) (p : List ℕ) (a : ℕ) → Progresses v p a piece more q → v.refused ≡ None
 alive_by q v piece more p a goes = grind arith
 
 alive_after : (q : Progress) {limits : Limits} {ticket : List ℕ} {at : ℕ} {u v : Unpacking} {piece out : List ℕ} {count : ℕ}

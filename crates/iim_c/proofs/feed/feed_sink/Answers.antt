@@ -1,5 +1,5 @@
 -- A buffer for text.
-use Rattle.iim_c.proofs.Words.{◌≡◌, ℕ, List, [], refl, StoryEvent, CountsFor, Unpacking, Stands, Goes, IsRefusedIn, limits_in, Progress, Refusal, HasFedText, HasRefusedText}
+use Rattle.iim_c.proofs.Words.{◌≡◌, ℕ, List, [], refl, StoryEvent, CountsFor, Unpacking, Stands, Progresses, IsRefusedIn, limits_in, Progress, Refusal, HasFedText, HasRefusedText}
 use Rattle.std.proofs.Common.{Result, Ok, Err, IfOk, IfErr}
 use Rattle.iim_c.specs.declared.text_out.TextOut.{TextOut}
 use Rattle.iim_c.specs.Format.Answers.{WritesLines}
@@ -8,7 +8,7 @@ use Rattle.iim_c.proofs.feed.feed_sink.Goals as goal
 
 sink_goes : (r : Result Progress Refusal) (u v : Unpacking) (piece : List ℕ) (a b : TextOut) → a.count ≡ 0
     → IfOk r (λ progress. (◌≡◌ {A = ℕ} 0 0) × ((more : List StoryEvent) × WritesLines a more b
-    × ((p : List ℕ) (n : ℕ) → Stands u p n → Goes v p n piece more progress)))
+    × ((p : List ℕ) (n : ℕ) → Stands u p n → Progresses v p n piece more progress)))
     → IfOk r (HasFedText u v piece b.out.now b.count)
 sink_goes (Ok progress) u v piece a b none h = record { more = h.1.0; taken = h.1.1.taken [] (none, λ fits. refl); goes = h.1.2 }
 sink_goes (Err e) u v piece a b none h = tt

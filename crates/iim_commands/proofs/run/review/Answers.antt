@@ -1,4 +1,4 @@
-use Rattle.iim_commands.proofs.Words.{IfOk, IfErr, subst, Device, in_line, Audited, IsUnaudited}
+use Rattle.iim_commands.proofs.Words.{IfOk, IfErr, subst, Device, in_line, Audited, FailsToAudit}
 use Rattle.iim_commands.proofs.Runs.{begun, ends}
 use Rattle.iim_commands.proofs.run.review.Goals as goal
 
@@ -14,9 +14,9 @@ returns g c =
       intake.reader,
       intake.block,
       subst (λ (r : g.row.R.Denot). g.R.Source.leads r intake.reader) c.new-intake.ensures.reader c.write_audit-answer.ensures.leads,
-      ends (Audited now source rest old new) (IsUnaudited now source rest old new) (g.E.Target.state c.args.errors)
+      ends (Audited now source rest old new) (FailsToAudit now source rest old new) (g.E.Target.state c.args.errors)
           (g.E.Target.state c.finish-status.new.errors) c.write_audit-answer.result c.finish-status.result
           (subst (λ (d : Device). IfOk c.write_audit-answer.result (Audited now d rest old new)) start c.write_audit-answer.ensures.ok)
-          (subst (λ (d : Device). IfErr c.write_audit-answer.result (IsUnaudited now d rest old new)) start c.write_audit-answer.ensures.err)
+          (subst (λ (d : Device). IfErr c.write_audit-answer.result (FailsToAudit now d rest old new)) start c.write_audit-answer.ensures.err)
           c.finish-status.ensures.ok c.finish-status.ensures.fault,
     )

@@ -3,7 +3,7 @@ use Rattle.iim_commands.proofs.Runs.{with_none_held}
 use Rattle.iim_commands.proofs.run.run.Goals as goal
 
 pub returns-in-Story : goal.returns-in-Story
-returns-in-Story g c = rw c.in-Story.is c.tell.ensures
+returns-in-Story g c = rw c.in-Story.is c.write_stories.ensures
 
 pub returns-in-Pack : goal.returns-in-Pack
 returns-in-Pack g c =

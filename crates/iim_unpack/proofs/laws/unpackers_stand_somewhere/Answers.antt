@@ -1,7 +1,7 @@
-use Rattle.iim_unpack.proofs.{Words.IsDone, Words.List, Words.Stands, Words.Stood, Words.Unpacking, Words.inl, Words.inr, Words.ℕ, Held.holds_few}
+use Rattle.iim_unpack.proofs.{Words.IsDone, Words.List, Words.Stands, Words.StandsSomewhere, Words.Unpacking, Words.inl, Words.inr, Words.ℕ, Held.holds_few}
 use Rattle.iim_unpack.proofs.laws.unpackers_stand_somewhere.Goals as goal
 
-stands_by : (u : Unpacking) → (IsDone u → ⊥) → Stood u → (octets : List ℕ) × (count : ℕ) × Stands u octets count
+stands_by : (u : Unpacking) → (IsDone u → ⊥) → StandsSomewhere u → (octets : List ℕ) × (count : ℕ) × Stands u octets count
 stands_by u more (octets, count, inl at) = (octets, count, at)
 stands_by u more (octets, count, inr at) = absurd (more (at.taking, at.ended))
 

@@ -1,6 +1,6 @@
 use Rattle.std.proofs.Common.{sym, ◌∙◌}
 use Rattle.wire_message.specs.declared.place.Place.TheVariants.{InHeader}
-use Rattle.wire_message.proofs.{Goings.part_ends, Alive.dies}
+use Rattle.wire_message.proofs.{Goings.part_ends, Living.dies}
 use Rattle.wire_message.proofs.next.begin_next.Goals as goal
 
 pub returns-in-None-clause-dies : goal.returns-in-None-clause-dies

@@ -1,5 +1,5 @@
 use Rattle.wire_message.specs.declared.place.Place.TheVariants.{AfterEnd}
-use Rattle.wire_message.proofs.Alive.{dies}
+use Rattle.wire_message.proofs.Living.{dies}
 use Rattle.wire_message.proofs.next.next_part.Goals as goal
 
 pub returns-in-Filler-clause-dies : goal.returns-in-Filler-clause-dies

@@ -1,5 +1,5 @@
 use Rattle.wire_message.specs.declared.place.Place.TheVariants.{Filler}
-use Rattle.wire_message.proofs.Alive.{dies}
+use Rattle.wire_message.proofs.Living.{dies}
 use Rattle.wire_message.proofs.step.after_filler.Goals as goal
 
 pub returns-clause-dies : goal.returns-clause-dies

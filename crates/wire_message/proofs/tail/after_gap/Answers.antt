@@ -1,6 +1,6 @@
 use Rattle.std.proofs.Common.{[], sym, ◌∙◌}
 use Rattle.wire_message.specs.declared.place.Place.TheVariants.{Gap}
-use Rattle.wire_message.proofs.{Goings.gap_ends, Alive.dies, Alike.stands_two}
+use Rattle.wire_message.proofs.{Goings.gap_ends, Living.dies, Alike.stands_two}
 use Rattle.wire_message.proofs.tail.after_gap.Goals as goal
 
 pub returns-then-ends_gap-clause-takes : goal.returns-then-ends_gap-clause-takes

@@ -2,7 +2,7 @@ use Rattle.std.proofs.Common.{arith}
 use Rattle.wire_message.proofs.Goings.{info_to_gap}
 use Rattle.std.proofs.Common.{sym, ◌∙◌}
 use Rattle.wire_message.specs.declared.place.Place.TheVariants.{Info}
-use Rattle.wire_message.proofs.Alive.{dies}
+use Rattle.wire_message.proofs.Living.{dies}
 use Rattle.wire_message.proofs.tail.after_info.Goals as goal
 
 pub returns-clause-dies : goal.returns-clause-dies

@@ -1,7 +1,7 @@
 use Rattle.std.proofs.Common.{arith}
 use Rattle.wire_message.proofs.Goings.{trailer_ends}
 use Rattle.wire_message.specs.declared.place.Place.TheVariants.{Trailer}
-use Rattle.wire_message.proofs.Alive.{dies}
+use Rattle.wire_message.proofs.Living.{dies}
 use Rattle.wire_message.proofs.tail.after_trailer.Goals as goal
 
 pub returns-clause-dies : goal.returns-clause-dies

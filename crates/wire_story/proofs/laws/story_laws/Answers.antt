@@ -1,4 +1,4 @@
-use Rattle.wire_story.proofs.Lives.{live_held, live_of, holds, ended_lines, lines_end, so_far_of, lines_of, one_place, alike}
+use Rattle.wire_story.proofs.Living.{live_held, live_of, holds, ended_lines, lines_end, so_far_of, lines_of, one_place, alike}
 use Rattle.wire_story.proofs.{Told.delivered_so_far, Collected.one_text, Collected.one_text_so_far, Collected.text_collected}
 use Rattle.wire_story.proofs.Words.{longest_runs, texts_counted}
 use Rattle.wire_story.proofs.PackedEvents.{events_packed, joined_lines, packed, made}

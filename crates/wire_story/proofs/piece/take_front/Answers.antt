@@ -18,8 +18,9 @@ returns-in-Ok-take_mark-clause-taken g c =
     takes_both g.met.S.StorySink.joined c.args.rest.now c.run_len-run.result.0 c.in-Ok-take_mark.used c.in-Ok.ensures.taken c.in-Ok-take_mark.ensures.taken
 
 pub returns-in-Err-take_mark-clause-refused : goal.returns-in-Err-take_mark-clause-refused
-returns-in-Err-take_mark-clause-refused g c = refuses_later g.met.S.StorySink.joined c.args.rest.now c.run_len-run.result.0 c.in-Ok.ensures.taken
-    c.in-Err-take_mark.ensures.refused
+returns-in-Err-take_mark-clause-refused g c =
+    rw c.after-in-Err-take_mark.ensures (refuses_later g.met.S.StorySink.joined c.args.rest.now c.run_len-run.result.0 c.in-Ok.ensures.taken
+    c.in-Err-take_mark.ensures.refused)
 
 pub after-requires-clause-marks : goal.after-requires-clause-marks
 after-requires-clause-marks g c = rw take_rest c.run_len-run.ensures.marks

@@ -10,7 +10,8 @@ returns-in-Ok-clause-taken g c =
 pub returns-in-Err-clause-refused : goal.returns-in-Err-clause-refused
 returns-in-Err-clause-refused g c =
     let none : c.in_ok-now.now ≡ 0 = omega (arith, c.if-now-gt0.false) in
-    refuses_later g.met.S.StorySink.joined c.args.rest.now c.in_ok-now.used (rw none at c.in_ok-now.ensures.taken) c.in-Err.ensures.refused
+    rw c.after.ensures (refuses_later g.met.S.StorySink.joined c.args.rest.now c.in_ok-now.used (rw none at c.in_ok-now.ensures.taken)
+    c.in-Err.ensures.refused)
 
 pub returns-in-Ok-clause-front : goal.returns-in-Ok-clause-front
 returns-in-Ok-clause-front g c =

@@ -33,7 +33,8 @@ returns-then-used-eq0-clause-taken g c =
     rw e at (takes_both g.met.S.StorySink.joined c.args.rest.now c.loop-sink.at c.in-Ok.used c.loop-sink.invariant.taken c.in-Ok.ensures.taken)
 
 pub returns-in-Err-clause-refused : goal.returns-in-Err-clause-refused
-returns-in-Err-clause-refused g c = refuses_later g.met.S.StorySink.joined c.args.rest.now c.loop-sink.at c.loop-sink.invariant.taken c.in-Err.ensures.refused
+returns-in-Err-clause-refused g c =
+    rw c.after.ensures (refuses_later g.met.S.StorySink.joined c.args.rest.now c.loop-sink.at c.loop-sink.invariant.taken c.in-Err.ensures.refused)
 
 pub after-here-requires-clause-marks : goal.after-here-requires-clause-marks
 after-here-requires-clause-marks g c = rw take_rest c.loop-sink.invariant.marks

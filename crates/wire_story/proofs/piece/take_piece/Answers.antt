@@ -26,8 +26,8 @@ loop-at-preserved g c =
     }
 
 pub returns-in-Err-take_fronts-clause-refused : goal.returns-in-Err-take_fronts-clause-refused
-returns-in-Err-take_fronts-clause-refused g c = refuses_later g.met.S.StorySink.joined c.args.piece.now c.loop-at.at c.loop-at.invariant.taken
-    c.in-Err-take_fronts.ensures.refused
+returns-in-Err-take_fronts-clause-refused g c =
+    rw c.after.ensures (refuses_later g.met.S.StorySink.joined c.args.piece.now c.loop-at.at c.loop-at.invariant.taken c.in-Err-take_fronts.ensures.refused)
 
 pub returns-clause-taken : goal.returns-clause-taken
 returns-clause-taken g c = rw (take_all c.loop-at.at c.args.piece.now (omega arith)) at c.loop-at.invariant.taken

@@ -1,6 +1,6 @@
 use Rattle.std.proofs.Common.{subst, sym, ◌∙◌, arith}
 use Rattle.wire_story.specs.Format.Texts.{Holds}
-use Rattle.wire_story.proofs.{Lives.dies_at_end, Lives.lines_of, Pieces.stood}
+use Rattle.wire_story.proofs.{Living.dies_at_end, Living.lines_of, Pieces.stood}
 use Rattle.wire_story.proofs.reader.TextReader.close.Goals as goal
 
 pub returns-then-unwrap-eq0-clause-text : goal.returns-then-unwrap-eq0-clause-text

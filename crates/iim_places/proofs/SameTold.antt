@@ -186,7 +186,7 @@ eights_repeat n = grind arith
 -- ---- the plain datasets
 
 -- The plain datasets with these fields, numbers and subfiles stand for others.
-pub record StandsFor (ds fields : List Dataset) (numbers : Numbers) (heads : ℕ) (object : List ℕ) (ended : Bool) : Type 0 where
+pub record HasPlainForm (ds fields : List Dataset) (numbers : Numbers) (heads : ℕ) (object : List ℕ) (ended : Bool) : Type 0 where
   pub alive : SectionsLive ds
   pub few : length (of_record 8 ds) ≤ max_subfiles
   pub fields_are : kept ds ≡ fields
@@ -197,7 +197,7 @@ pub record StandsFor (ds fields : List Dataset) (numbers : Numbers) (heads : ℕ
   pub fits : length object ≤ greatest_size
 
 pub plain_like : LowerLaws → (ds fields : List Dataset) (numbers : Numbers) (heads : ℕ) (object : List ℕ) (ended : Bool)
-    → StandsFor ds fields numbers heads object ended → Continues ds (plain fields numbers heads object ended)
+    → HasPlainForm ds fields numbers heads object ended → Continues ds (plain fields numbers heads object ended)
 plain_like laws ds fields numbers heads object ended s =
     let ps = numbers_of (of_record 7 ds) in
     let size = unwrap_or numbers.largest 0 in
@@ -279,7 +279,7 @@ bounded_on ps qs rs ls ks ms same own all = grind (arith, all_append, all_map, a
 
 -- ---- datasets that tell the same
 
-pub record Twins (ds es : List Dataset) : Type 0 where
+pub record TellTheSame (ds es : List Dataset) : Type 0 where
   pub fields : kept ds ≡ kept es
   pub object : SameObject (place_after_datasets ds) (place_after_datasets es)
   pub ending : ending_of (of_record 9 ds) ≡ ending_of (of_record 9 es)
@@ -287,10 +287,10 @@ pub record Twins (ds es : List Dataset) : Type 0 where
   pub here : AreBounded (sevens ds) (eights ds)
   pub bounded : AreBounded (sevens es) (eights es)
 
-pub heads_same : {ds es : List Dataset} → Twins ds es → length (of_record 8 ds) ≡ length (of_record 8 es)
+pub heads_same : {ds es : List Dataset} → TellTheSame ds es → length (of_record 8 ds) ≡ length (of_record 8 es)
 heads_same {ds} {es} t = sym (count_of (of_record 8 ds)) ∙ t.object.heads ∙ count_of (of_record 8 es)
 
-pub flip : {ds es : List Dataset} → Twins ds es → Twins es ds
+pub flip : {ds es : List Dataset} → TellTheSame ds es → TellTheSame es ds
 flip {ds} {es} t = grind arith
 
 -- the same, which may follow them
@@ -307,8 +307,9 @@ same_tail xs = record { fields = refl; numbers = refl; lengths = refl; nines = r
 ending_on : (xs ys zs : List Dataset) → ending_of xs ≡ ending_of ys → ending_of (xs ++ zs) ≡ ending_of (ys ++ zs)
 ending_on xs ys zs e = grind arith
 
-pub twins_on : {ds es xs ys : List Dataset} → Twins ds es → SameTail xs ys → AreBounded (sevens (ds ++ xs)) (eights (ds ++ xs)) → Twins (ds ++ xs) (es ++ ys)
-twins_on {ds} {es} {xs} {ys} t tail bounded = record {
+pub same_told_on : {ds es xs ys : List Dataset} → TellTheSame ds es → SameTail xs ys → AreBounded (sevens (ds ++ xs)) (eights (ds ++ xs))
+    → TellTheSame (ds ++ xs) (es ++ ys)
+same_told_on {ds} {es} {xs} {ys} t tail bounded = record {
   fields = rw (kept_append ds xs, kept_append es ys, t.fields, tail.fields) refl;
   object = record {
     numbers = rw (sevens_both ds xs, sevens_both es ys, ← tail.numbers) (numbers_on (sevens xs) t.object.numbers);
@@ -332,20 +333,20 @@ pub bounded_after : LowerLaws → (ds : List Dataset) → SectionsLive ds → le
     → AreBounded (sevens ds) (eights ds)
 bounded_after laws ds alive few lives = bounded_at laws (place_after_datasets ds) (possible_after laws ds alive few lives)
 
-pub after_as : LowerLaws → (ds es : List Dataset) → SectionsLive ds → SectionsLive es → length (of_record 8 ds) ≤ max_subfiles → Twins ds es
+pub after_as : LowerLaws → (ds es : List Dataset) → SectionsLive ds → SectionsLive es → length (of_record 8 ds) ≤ max_subfiles → TellTheSame ds es
     → ObjectLives (place_after_datasets ds) → ObjectLives (place_after_datasets es)
 after_as laws ds es alive there few t lives =
     let stated = stated_after_all laws es there (rw (← heads_same t) few) in
     (possible_like laws (place_after_datasets ds) (place_after_datasets es) (possible_after laws ds alive few lives) stated.stated t.object t.bounded
     t.ending).alive
 
-tests_as : (b c : Bool) (ds es : List Dataset) (count : ℕ) → Twins ds es → AreBounded (at_tests b c ds count).stated (at_tests b c ds count).lengths
+tests_as : (b c : Bool) (ds es : List Dataset) (count : ℕ) → TellTheSame ds es → AreBounded (at_tests b c ds count).stated (at_tests b c ds count).lengths
     → AreBounded (at_tests b c es count).stated (at_tests b c es count).lengths × ((at_tests b c ds count).ending ≡ (at_tests b c es count).ending)
 tests_as b c ds es count t here =
     grind (arith, append-nil, bounded_on (sevens ds) (sevens es) [] (eights ds) (eights es) (count ∷ []) t.object.numbers t.bounded)
 
 pub at_as : LowerLaws → (ds es : List Dataset) (h : Head) → SectionsLiveAt ds h → SectionsLiveAt es h → length (of_record 8 ds) ≤ max_subfiles
-    → (h.rec ≡ 8 → length (of_record 8 ds) < max_subfiles) → Twins ds es → ObjectLives (place_at ds h) → ObjectLives (place_at es h)
+    → (h.rec ≡ 8 → length (of_record 8 ds) < max_subfiles) → TellTheSame ds es → ObjectLives (place_at ds h) → ObjectLives (place_at es h)
 at_as laws ds es h alive there few room t lives =
     let p = possible_at laws ds h alive few room lives in
     let stated = stated_at laws es h there (rw (← heads_same t) few) (λ eight. rw (← heads_same t) (room eight)) in
@@ -354,13 +355,13 @@ at_as laws ds es h alive there few room t lives =
 
 -- ---- every layer but the message
 
-within_as : {limits : Limits} {ds es : List Dataset} → Twins ds es → AreWithin limits ds → AreWithin limits es
+within_as : {limits : Limits} {ds es : List Dataset} → TellTheSame ds es → AreWithin limits ds → AreWithin limits es
 within_as t within = grind (arith, heads_same)
 
-pub room_as : {limits : Limits} {ds es : List Dataset} {h : Head} → Twins ds es → HaveRoom limits ds h → HaveRoom limits es h
+pub room_as : {limits : Limits} {ds es : List Dataset} {h : Head} → TellTheSame ds es → HaveRoom limits ds h → HaveRoom limits es h
 room_as t room = grind (arith, heads_same)
 
-pub may_as : LowerLaws → (limits : Limits) (ds es : List Dataset) (b : Begun) → SectionsLive es → section_after ds ≡ section_after es → Twins ds es
+pub may_as : LowerLaws → (limits : Limits) (ds es : List Dataset) (b : Begun) → SectionsLive es → section_after ds ≡ section_after es → TellTheSame ds es
     → MayContinue limits ds b → MayContinue limits es b
 may_as laws limits ds es (InTag held) there present t goes =
     record { records = there; within = within_as t goes.within; object = after_as laws ds es goes.records there goes.within.subfiles t goes.object }

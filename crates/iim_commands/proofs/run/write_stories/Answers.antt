@@ -1,6 +1,6 @@
-use Rattle.iim_commands.proofs.Words.{IfOk, IfErr, inl, inr, subst, Device, in_line, IsUnnarrated, Narrated}
+use Rattle.iim_commands.proofs.Words.{IfOk, IfErr, inl, inr, subst, Device, in_line, FailsToNarrate, Narrated}
 use Rattle.iim_commands.proofs.Runs.{begun, ends}
-use Rattle.iim_commands.proofs.run.tell.Goals as goal
+use Rattle.iim_commands.proofs.run.write_stories.Goals as goal
 
 pub returns : goal.returns
 returns g c =
@@ -14,8 +14,8 @@ returns g c =
     let start = begun g.R.Source.state c.new-intake.result c.args.reader c.new-intake.ensures.block c.new-intake.ensures.reader in
     let answer = c.narrate-answer.result in
     let ok = subst (λ (d : Device). IfOk answer (Narrated d rest old new errors_old errors)) start c.narrate-answer.ensures.ok in
-    let err = subst (λ (d : Device). IfErr answer (IsUnnarrated d rest old new errors_old errors)) start c.narrate-answer.ensures.err in
-    let ended = ends (Narrated source rest old new errors_old errors) (IsUnnarrated source rest old new errors_old errors) errors
+    let err = subst (λ (d : Device). IfErr answer (FailsToNarrate d rest old new errors_old errors)) start c.narrate-answer.ensures.err in
+    let ended = ends (Narrated source rest old new errors_old errors) (FailsToNarrate source rest old new errors_old errors) errors
     (g.E.Target.state c.finish-status.new.errors) answer c.finish-status.result ok err c.finish-status.ensures.ok c.finish-status.ensures.fault in (
       intake.reader,
       intake.block,
