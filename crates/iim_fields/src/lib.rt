@@ -31,4 +31,5 @@ pub use fault::{CopyFault, FieldCause, FieldFault};
 pub use fields::Fields;
 pub use id::EnvelopeId;
 pub use limits::Limits;
+pub use records::is_kept;
 pub use walk::{DataIter, FieldIter};

@@ -36,9 +36,9 @@ pub(crate) fn next_record(rec: u8) -> Option<u8>
     }
 }
 
-/// Whether the record is kept.
+/// Whether an envelope keeps the datasets of a record: those of the records 1 and 2.
 #[inline(always)]
-pub(crate) fn is_kept(rec: u8) -> bool
+pub fn is_kept(rec: u8) -> bool
     ensures { result ≡ is_kept rec }
 {
     rec == ENVELOPE || rec == APPLICATION

@@ -3,7 +3,6 @@
 ghost use Rattle.std.specs.Prelude.{◌≡◌, [], ◌∷◌, ◌++◌, List, IsTrue, true, cond};
 ghost use Rattle.iim_dataset.specs.Format.Datasets.{Dataset};
 ghost use Rattle.iim_fields.specs.States.Standing as checks;
-ghost use Rattle.iim_fields.specs.Format.Causes.{is_kept};
 ghost use Rattle.iim_fields.specs.States.Standing.{IsBetween, StandsAfter, limits_of, room_of};
 ghost use Rattle.iim_fields.specs.States.Stores.{Room};
 ghost use Rattle.iim_fields.specs.declared.limits.Limits.{Limits as LimitsValue};
@@ -14,10 +13,10 @@ ghost use Rattle.iim_places.specs.Restoring.{AreKept, TookDatasets, numbers_told
 
 use crate::ticket::fields::TicketFields;
 use iim_dataset::{Head, number_bytes};
-use iim_fields::{Fields, RecordCheck};
+use iim_fields::{Fields, RecordCheck, is_kept};
 use iim_tables::records::{
-    ANNOUNCED_SIZE, APPLICATION, CONFIRMED_SIZE, ENVELOPE, MAX_SUBFILE_SIZE, MAXIMUM_SIZE, OBJECT,
-    POST_OBJECT, PRE_OBJECT, SIZE_MODE, SUBFILE,
+    ANNOUNCED_SIZE, CONFIRMED_SIZE, MAX_SUBFILE_SIZE, MAXIMUM_SIZE, OBJECT, POST_OBJECT,
+    PRE_OBJECT, SIZE_MODE, SUBFILE,
 };
 
 /// What takes the datasets of an envelope, each with its whole data.
@@ -93,13 +92,6 @@ impl DatasetTaker for Fields {
             Err(_) => false,
         }
     }
-}
-
-/// Whether the record is one that is kept.
-pub(crate) fn is_kept(rec: u8) -> bool
-    ensures { result ≡ is_kept rec }
-{
-    rec == ENVELOPE || rec == APPLICATION
 }
 
 /// Takes the datasets of records 1 and 2.
