@@ -499,8 +499,5 @@ section_in f ds h taken s =
 
 -- ---- the begun head
 
-pub begun_after : (f : FieldsPlace) (ds : List Dataset) → StandsAfter f ds → begun_head_of f ≡ None
-begun_after f ds s = ap begun_head s.between.between
-
 pub begun_in : (f : FieldsPlace) (ds : List Dataset) (h : Head) (taken : List ℕ) → StandsIn f ds h taken → begun_head_of f ≡ Some h
 begun_in f ds h taken s = ap begun_head s.inside.1.head.inside

@@ -8,13 +8,6 @@ use Rattle.iim_fields.proofs.Stand.{IsStore, Kept, begun_held, between_after, co
 pub none_where : {X : Type 0} (o : Option X) → is_none o ≡ true → o ≡ None
 none_where o e = grind arith
 
--- of two faults, whether none is told
-pub first_fails : (r : Bool) (a b : Option FieldFault) → r ≡ is_none a → r ≡ false → false ≡ is_none (option_or a b)
-first_fails r a b is e = grind arith
-
-pub neither_fails : (r s : Bool) (a b : Option FieldFault) → r ≡ is_none a → s ≡ is_none b → r ≡ true → s ≡ true → true ≡ is_none (option_or a b)
-neither_fails r s a b first second e f = grind arith
-
 -- of two faults, neither is told
 neither : (a b : Option FieldFault) → option_or a b ≡ None → (a ≡ None) × (b ≡ None)
 neither a b e = grind arith

@@ -11,7 +11,6 @@ use Rattle.iim_places.proofs.Plain.{Tell, back_octets, plain_told, present_ended
 use Rattle.iim_object.specs.States.Reading.{IsAt}
 use Rattle.iim_places.specs.Format.Tickets.{Place}
 use Rattle.iim_fields.specs.Format.Causes.{joined}
-use Rattle.iim_dataset.specs.Format.Octets as languages
 use Rattle.iim_object.specs.Format.Objects as objects
 use Rattle.wire_message.specs.declared.saved.MessagePart.TheVariants as part
 

@@ -9,7 +9,6 @@ use Rattle.wire_message.specs.declared.saved.MessagePart.{MessagePart}
 use Rattle.wire_message.specs.declared.saved.MessagePart.TheVariants as part
 use Rattle.iim_places.specs.Format.Tickets.{Place}
 use Rattle.iim_dataset.proofs.Counts.{tag-lt}
-use Rattle.iim_object.specs.Format.Objects as objects
 
 -- ---- what is read
 

@@ -15,7 +15,6 @@ use Rattle.iim_object.specs.Laws as objects
 use Rattle.iim_object.specs.Format.Causes as objects_format
 use Rattle.iim_object.specs.Format.Objects.{Place}
 use Rattle.iim_object.specs.declared.reading.fault.SizeCause.TheVariants as sizes
-use Rattle.wire_message.specs.Format.Causes.{number_of_message}
 use Rattle.wire_message.specs.declared.fault.MessageCause.TheVariants as messages
 use Rattle.iim_places.specs.declared.refusal.Layer.TheVariants as layers
 use Rattle.iim_places.specs.declared.refusal.Cause.TheVariants as causes
@@ -54,9 +53,6 @@ size_layer s = grind arith
 
 pub size_number : (s : SizeCause) → (rule_of (causes.Size s)).number ≡ objects_format.number_of s
 size_number s = grind arith
-
-pub message_number : (c : MessageCause) → (rule_of (causes.Message c)).number ≡ number_of_message c
-message_number c = grind arith
 
 message_layer : (c : MessageCause) → (rule_of (causes.Message c)).layer ≡ layer_of_message c
 message_layer c = grind arith

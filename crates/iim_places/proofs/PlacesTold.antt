@@ -1,10 +1,10 @@
 -- The place that the parts of a ticket tell, and whether an envelope can be there.
-use Rattle.std.proofs.Common.{◌≡◌, ℕ, ◌+◌, ◌-◌, ◌≤◌, cond, if◌then◌else◌, Bool, List, [], ◌∷◌, length, refl, ap, sym, ◌∙◌, subst, arith, ◌++◌, codes, rules, IsTrue, get_or}
-use Rattle.iim_places.proofs.Words.{AllByRecursion, all_map, is_kept, Dataset, kept, kept_octets, IsWithin, Limits, LeadsToSaved, MessagePlace, LeadsByLayers, plain, PlacesArePossibleByLayers, RecordsLive, are_ended, begun_subfiles, one_of_some, record_datasets, Numbers, number_list, TicketsOfPlacesAreSplit, split_of, TicketsHaveOneSplit, IsSmall, IsSmallPhase, Split, IsSmallPlace, greatest_size_before, AreHeadsWithin, begun_count, begun_fields, widest, SmallPlacesWerePossible, IsTicketAt, IsLimitFault, IsRestoreFault, AreKept, IsMessageOf, numbers_told, told_datasets, IsSizeIn, HasForm, SplitsTicket, TicketsTellOnePlace, PossiblePlacesAreTaken, IsVersion, ticket_in, Form, Version, Impossible, OutOfMemory, split_octets, HeaderFull, TooManyFields, DataBegun}
+use Rattle.std.proofs.Common.{◌≡◌, ℕ, ◌+◌, ◌-◌, ◌≤◌, cond, if◌then◌else◌, Bool, List, [], ◌∷◌, length, refl, ap, sym, ◌∙◌, subst, arith, ◌++◌, codes, rules, get_or}
+use Rattle.iim_places.proofs.Words.{AllByRecursion, all_map, Dataset, kept, kept_octets, IsWithin, Limits, LeadsToSaved, MessagePlace, LeadsByLayers, plain, PlacesArePossibleByLayers, RecordsLive, are_ended, begun_subfiles, one_of_some, record_datasets, Numbers, number_list, TicketsOfPlacesAreSplit, split_of, TicketsHaveOneSplit, IsSmall, IsSmallPhase, Split, IsSmallPlace, greatest_size_before, AreHeadsWithin, begun_count, begun_fields, widest, SmallPlacesWerePossible, IsTicketAt, IsLimitFault, IsRestoreFault, AreKept, IsMessageOf, numbers_told, told_datasets, IsSizeIn, HasForm, SplitsTicket, TicketsTellOnePlace, PossiblePlacesAreTaken, IsVersion, ticket_in, Form, Version, Impossible, OutOfMemory, split_octets, HeaderFull, TooManyFields}
 use Rattle.iim_places.proofs.{Fitting.small_size, Fitting.spelled, Plain.kept_fields}
 use Rattle.iim_fields.specs.Format.Causes.{joined}
 use Rattle.iim_places.specs.{States.Readers.AreAt, States.Readers.LeadsNowhereIn, States.Restored.fields_told, States.Restored.octets_told}
-use Rattle.iim_places.specs.{Restoring.LeadsNowhere, Restoring.AreWithinWith, Format.Tickets.Place}
+use Rattle.iim_places.specs.{Restoring.LeadsNowhere, Format.Tickets.Place}
 use Rattle.iim_places.specs.declared.ticket.possible.Readers.{Readers}
 use Rattle.iim_places.specs.declared.ticket.fault.TicketFault.{TicketFault}
 
@@ -102,12 +102,3 @@ pub limit_told : (limits : Limits) (ticket : List ℕ) (s : Split) (r : Readers)
 limit_told limits ticket s r at is HeaderFull bad = (at.place, is, rw at.octets_are at bad)
 limit_told limits ticket s r at is TooManyFields bad = (at.place, is, rw at.octets_are at bad.0, rw at.fields_are at bad.1)
 limit_told limits ticket s r at is other bad = absurd bad
-
--- ---- the records of a restored place
-
--- with begun data of records 1 and 2 the datasets are within the limits
-pub within_with : (limits : Limits) (section set count left : ℕ) (given : List ℕ) (ds : List Dataset)
-    → AreWithinWith limits section (DataBegun set count left given) ds → IsTrue (is_kept section)
-    → IsWithin limits (kept_octets ds + count) (length (kept ds) + 1)
-within_with limits section set count left given ds within is =
-    subst (λ (b : Bool). IsWithin limits (kept_octets ds + (if b then count else 0)) (length (kept ds) + (if b then 1 else 0))) is within

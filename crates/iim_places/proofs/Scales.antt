@@ -1,6 +1,6 @@
 -- Places that were possible by smaller sizes, and by the sizes that there are.
 use Rattle.std.proofs.Common.{◌≡◌, ◌&&◌, nat_lt, ℕ, ◌-◌, ◌≤◌, nat_eq, if◌then◌else◌, Bool, true, false, List, [], ◌∷◌, ◌++◌, length, map, sum, refl, ap, sym, subst, ◌∙◌, inl, inr, arith, ◌^◌, ◌<◌, append-nil, length-append, ◌⊎◌, ◌||◌}
-use Rattle.iim_places.proofs.Words.{IsLongField, AllByRecursion, eqb-true, Dataset, SpellsDataset, SpellsStream, count_octets, head_of, of_record, IsAlive, Begun, InTag, InData, IsBegun, Reads, Head, all_front, all_back, section_after, tells_number, SubfileBegun, ObjectEnded, Confirmed, number_tokens, numbers_of, Stated, TokensWithin, LanguageWithin, LowerLaws, object_of, AreWithin, object_so_far, section, Possible, IsSmall, IsSmallPhase, IsSmallPlace, greatest_size_before, widest, Scale, FitsRow, SectionsLiveIn, HaveRoomIn, IsOpenIn, PossibleAt, place_in, first_scale, IsPlaceOf, phase_of, MayContinue, unwrap_or, lt-ltb, IsOctet, SpellsTag, canonical_tag, canonical_dataset, canonical_stream, all_append, all_map, HasSpellings, AreSections, place_after_datasets, number_dataset, ending_tokens, within_append, begun_within, SmallPlacesWerePossible, Numbers, number_list, plain_numbers, plain, within, greatest_size, within_most_and, Meets, IsGoodDataset, SectionsIn, PresentScaleSaysNothingMore, present_scale, AreKept, LeadsByLayers, are_ended, nat_tests, map-append, IsGoodRecord, occurs, occurrences, occurrences_cons, mandatory, AreRecords, records, good_elsewhere, place_at, BeginsTag, IsWholeIn, LeadsToSaved, MessagePlace, AllCanContinue}
+use Rattle.iim_places.proofs.Words.{IsLongField, AllByRecursion, eqb-true, Dataset, SpellsDataset, SpellsStream, count_octets, head_of, of_record, IsAlive, Begun, InTag, InData, IsBegun, Reads, Head, all_front, all_back, section_after, tells_number, SubfileBegun, ObjectEnded, Confirmed, number_tokens, numbers_of, Stated, TokensWithin, LanguageWithin, LowerLaws, object_of, AreWithin, object_so_far, section, Possible, IsSmall, IsSmallPhase, IsSmallPlace, greatest_size_before, widest, Scale, FitsRow, SectionsLiveIn, HaveRoomIn, IsOpenIn, PossibleAt, place_in, first_scale, IsPlaceOf, phase_of, MayContinue, unwrap_or, lt-ltb, IsOctet, SpellsTag, canonical_tag, canonical_dataset, canonical_stream, all_append, all_map, HasSpellings, AreSections, place_after_datasets, number_dataset, ending_tokens, within_append, begun_within, SmallPlacesWerePossible, Numbers, number_list, plain_numbers, plain, within, greatest_size, within_most_and, Meets, IsGoodDataset, SectionsIn, PresentScaleSaysNothingMore, cases_Bool, present_scale, AreKept, LeadsByLayers, are_ended, nat_tests, map-append, IsGoodRecord, occurs, occurrences, occurrences_cons, mandatory, AreRecords, records, good_elsewhere, place_at, BeginsTag, IsWholeIn, LeadsToSaved, MessagePlace, AllCanContinue}
 use Rattle.iim_places.proofs.{Answering.reads_envelope, Answering.coming, Bounds.told_in, Bounds.part_of_whole, Bounds.object_fits, Bounds.sized, Bounds.low}
 use Rattle.iim_places.proofs.Fitting.{each_fits, reads_of, begins_tag, so_far_fits, lives_in, four_at, low_count}
 use Rattle.iim_places.proofs.{SamePlace.at_tests, SmallTags.wider_tag, SmallTags.small_tag, Tickets.so_far_by, Tickets.total_of, Tickets.stated_by}
@@ -137,7 +137,13 @@ eight_takes set xs = by_ten 8 eight_has xs (λ k. Meets 8 k []) (λ h. refl) set
 
 -- The data of a good dataset may be replaced so that it fits its row by the first scale.
 shrink_fits : (d : Dataset) → IsGoodDataset d → IsGoodDataset (shrink d) × FitsRow first_scale (shrink d)
-shrink_fits d good = grind (arith, nat_tests, told_in, number_takes, eight_takes, good_elsewhere, low)
+shrink_fits d good = elim (cases_Bool (tells_number d.rec && nat_lt 4 (length d.octets))) [
+  | inl long ↦ rw long (grind (arith, nat_tests, told_in, number_takes, good_elsewhere))
+  | inr short ↦ elim (cases_Bool (nat_eq d.rec 8 && nat_lt greatest_size_before (length d.octets))) [
+    | inl great ↦ rw (short, great) (grind (arith, nat_tests, eight_takes, good_elsewhere))
+    | inr fits ↦ rw (short, fits) (good, grind (arith, nat_tests, told_in, low))
+  ]
+]
 
 -- ---- records
 

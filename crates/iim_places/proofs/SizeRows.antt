@@ -16,16 +16,6 @@ by_number P mode largest announced maximum other n =
     one_of P n (10 ∷ 20 ∷ 90 ∷ 95 ∷ []) (mode, (largest, (announced, (maximum, tt))))
     (λ apart. other n (record { mode = apart.0.0; largest = apart.1.0.0; announced = apart.1.1.0.0; maximum = apart.1.1.1.0.0 }))
 
-no_seven : (n : ℕ) → Unstated n → row_of 7 n ≡ None
-unfolding row_of table
-no_seven n other = rw (other.mode, other.largest, other.announced, other.maximum) refl
-
--- octets that meet a row of record 7
-pub by_seven : (xs : List ℕ) (P : ℕ → Type 0) → (Meets 7 10 xs → P 10) → (Meets 7 20 xs → P 20) → (Meets 7 90 xs → P 90) → (Meets 7 95 xs → P 95) → (n : ℕ)
-    → Meets 7 n xs → P n
-by_seven xs P mode largest announced maximum = by_number (λ (n : ℕ). Meets 7 n xs
-    → P n) mode largest announced maximum (λ n other h. absurd (none_meets 7 n xs (no_seven n other) h))
-
 -- a record that has a row for the number 10 alone
 abbrev pub HasTen : ℕ → Type 0
 HasTen r = (n : ℕ) → nat_eq 10 n ≡ false → row_of r n ≡ None

@@ -3,7 +3,6 @@ use Rattle.std.proofs.Common.{◌≡◌, ℕ, ◌+◌, ◌*◌, ◌≤◌, nat_e
 use Rattle.iim_places.proofs.Words.{flat_map, Dataset, SpellsTag, SpellsCount, count_octets, InTag, Reads, Head, saved, LeadsToSaved, MessagePlace, TagBegun, DataBegun, AllEnded, present_version, phase_octets, field_octets, texts_octets, ticket_of}
 use Rattle.iim_fields.specs.Format.Causes.{joined}
 use Rattle.wire_message.specs.States.Reading.{IsPlace}
-use Rattle.wire_message.specs.declared.part.HeaderPart.TheVariants as part
 use Rattle.wire_message.specs.declared.place.Place.{Place as Message}
 use Rattle.wire_message.specs.declared.place.Place.TheVariants as at
 use Rattle.iim_places.specs.Format.Tickets.{Place, number_octets}

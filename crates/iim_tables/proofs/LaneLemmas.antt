@@ -55,9 +55,6 @@ text_told least true (x ∷ xs) = λ i. line_lane (nat_le least x) (not (nat_eq 
 -- ---- the first octets
 
 module _ (xs : List ℕ) (n : ℕ) (room : n ≤ length xs) (le : n ≤ 64) where
-  pub digits_first : are_set n (digit_lanes n (take n xs)) ≡ list_all is_digit (take n xs)
-  digits_first = first_of xs n room le is_digit digit_lanes digits_told
-
   pub text_first : (least : ℕ) (asked lines : Bool) → asked ≡ lines
       → are_set n (text_lanes least lines n (take n xs)) ≡ list_all (is_text least asked) (take n xs)
   text_first least asked lines is =

@@ -1,19 +1,16 @@
 -- What a run of octets, or the end, tells a message, and what the object's refusal of a head says of it.
 -- Where heads, data and ends of datasets lead the parts of an unpacker.
-use Rattle.iim_unpack.proofs.Words.{AllCanContinue, AreLed, Begun, Bool, CanContinueAt, CountsFor, DataOctet, Dataset, DatasetEvent, FieldsPlace, Head, InData, InTag, IsBetween, IsSome, Limits, List, LowerLaws, MayContinue, MessageCause, MessageRefuses, None, ObjectToken, Octets, Option, Parts, PartsRefuse, Some, PartsStandAt, StandsIn, State, TellsMessage, TellsParts, TextsStandBetweenStxAndEtx, Within, [], ap, append-nil, append_assoc, arith, begun_head, begun_head_of, cond, eqb-true, false, flat_map, handed_on, if◌then◌else◌, length, limits_of, map, message_on, nat_eq, ne_eqb, not_all, object_of, object_so_far, octets_of, refl, same_Some, section, subst, sym, tells_message_nothing, text_so_far, true, ℕ, ◌++◌, ◌==◌, ◌∙◌, ◌∷◌, ◌≡◌}
+use Rattle.iim_unpack.proofs.Words.{AllCanContinue, AreLed, Begun, Bool, CanContinueAt, CountsFor, DataOctet, Dataset, DatasetEvent, FieldsPlace, Head, InData, InTag, IsBetween, IsSome, Limits, List, LowerLaws, MayContinue, MessageCause, MessageRefuses, None, Octets, Option, Parts, PartsRefuse, Some, PartsStandAt, StandsIn, TellsMessage, TellsParts, TextsStandBetweenStxAndEtx, Within, [], ap, append-nil, append_assoc, arith, begun_head, begun_head_of, cond, eqb-true, false, flat_map, handed_on, if◌then◌else◌, length, limits_of, map, message_on, nat_eq, ne_eqb, not_all, object_of, object_so_far, octets_of, refl, same_Some, section, subst, sym, tells_message_nothing, text_so_far, true, ℕ, ◌++◌, ◌==◌, ◌∙◌, ◌∷◌, ◌≡◌}
 use Rattle.wire_message.specs.{Laws.ReadersStandAtLivingOctets, Format.Causes.HasCause}
 use Rattle.wire_message.specs.Format.Messages.{MessageDiesAt, MessageLanguage, MessageLivesWith, StoryLivesIn}
 use Rattle.wire_message.specs.States.Reading.{CountsCause, GoesSomewhere, IsWhole, LeadsOn, StandsAt, TakesPiece, LeadsTo}
 use Rattle.wire_story.specs.Format.Texts.{End, Octet, with_end}
-use Rattle.iim_unpack.specs.Routes.{HaltsAt, PassesTo, end_is_last, goes_nowhere}
+use Rattle.iim_unpack.specs.Routes.{end_is_last, goes_nowhere}
 use Rattle.std.proofs.lemmas.List.{nil_from_length}
-use Rattle.iim_object.specs.{Format.Objects.ObjectEnd, Format.Objects.ObjectOctet, States.Reading.RefusesHead}
+use Rattle.iim_object.specs.{Format.Objects.ObjectEnd, Format.Objects.ObjectOctet}
 use Rattle.wire_message.specs.declared.place.Place.{Place}
 use Rattle.wire_message.specs.declared.fault.MessageCause.TheVariants.{Unfinished}
 use Rattle.wire_story.specs.Format.Texts as story
-use Rattle.iim_object.specs.declared.reading.fault.ObjectFault.{ObjectFault}
-use Rattle.iim_object.specs.declared.reading.fault.ObjectFault.TheVariants.{Size, Stopped}
-use Rattle.iim_unpack.specs.declared.parts.message.ToMessage.{ToMessage}
 use Rattle.iim_dataset.specs.Format.Octets as languages
 use Rattle.iim_dataset.proofs.OctetLists.{octets_append}
 use Rattle.iim_object.specs.Format.Objects as object_events
@@ -74,13 +71,6 @@ module _ {S : Type 0} (goes : S → List story.StoryEvent → S → Type 0) (fai
   pub tells_message_empty : (old : Option Place) (a : S) (run : List ℕ) → true ≡ (length run == 0) → IsSome old → goes a [] a
       → TellsMessage goes failures (old, a) (map ObjectOctet run) (old, a)
   tells_message_empty old a run none some g = rw (nil_from_length run (eqb-true (length run) 0 (sym none))) (tells_message_nothing some g)
-
-  pub by_fault : (object : Option State) (token : ObjectToken) (a b : ToMessage S) → IsSome a.message.now
-      → (fault : ObjectFault) → RefusesHead (PassesTo goes failures) (HaltsAt goes failures) object token a b fault
-      → RefusesHead (TellsMessage goes failures) (MessageRefuses goes failures b.cause) object token (a.message.now, a.sink.now)
-      (b.message.now, b.sink.now) fault
-  by_fault object token a b some (Size why) h = (h.0, h.1.2 some)
-  by_fault object token a b some (Stopped stop) h = (h.0, h.1, h.2, h.3.2 some)
 
 -- ---- the reader of the message
 

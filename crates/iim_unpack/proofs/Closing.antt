@@ -161,11 +161,6 @@ module _ {S : Type 0} (goes : S → List story.StoryEvent → S → Type 0) (fai
       → TellsParts goes failures (old, a) events (new, a)
   tells_quietly old new events a nothing leads = record { more = []; leads = leads; told = nothing; calm = refl }
 
-  -- the end of a dataset, of which no sink is told
-  pub stopped_closed : (p new : Parts) (a : S) (fault : TokenFault) → goes a [] a → NotClosed p fault
-      → PartsRefuse goes failures (Some fault) (p, a) [] DatasetEnd (new, a)
-  stopped_closed p new a fault nothing bad = record { fault = fault; is_fault = refl; more = []; told = nothing; counts = bad.0 (failures a); why = bad.1 }
-
 -- ---- a number
 
 -- octets that were read as a number spell it

@@ -2,15 +2,15 @@
 -- Where an unpacker stands after a piece.
 use Rattle.iim_unpack.proofs.Words.{AllCanContinue, AreAfter, AreBetween, AreInOrder, AreLed, Begun, Bool, Cause, DataOctet, Dataset, DatasetEnd, DatasetEvent, Delivers, Err, HandsOn, Head, HeadRead, InData, InTag, IsDone, IsDoneWith, IsKeptAs, IsLed, IsOctet, IsOpen, IsRefusedIn, IsSome, IsTextOf, IsTruncatedAt, IsUnpacking, LeadsTo, Limits, List, LowerLaws, None, Ok, Option, Parts, Reads, Refusal, Sizes, Some, Stands, StandsAfter, PartsStandAt, StandsSomewhere, Tag, Takes, TakesCalls, TellsParts, TokenFault, Unpacking, Value, [], ap, append-nil, append_assoc, are_some, arith, begun_number, begun_record, between, count_octets, eqb-true, false, get_or, handed_on, has_ended, inl, inr, length, limits_in, limits_of, named_by, nat_eq, not_all, object_of, object_so_far, of_record, place_after_datasets, raised, refl, refusal_at, same_Some, section_after, sections_last, slice_index, subst, sym, take, take_all, text_so_far, to_come, true, true≢false, truncated_in, ℕ, ◌++◌, ◌<◌, ◌||◌, ◌∙◌, ◌∷◌, ◌≡◌, ◌≤◌}
 use Rattle.iim_dataset.specs.declared.head.HeadCause.{HeadCause}
-use Rattle.std.specs.Prelude.{IfErr, IfOk, OnOk, Result}
-use Rattle.iim_dataset.specs.States.Reading.{Completes, Reader, RefusesFor, RefusesOne, StillStands, TagDies, TakesPiece, tag_cause_of, TellsSink}
+use Rattle.std.specs.Prelude.{IfErr, IfOk, Result}
+use Rattle.iim_dataset.specs.States.Reading.{Completes, RefusesFor, RefusesOne, TagDies, TakesPiece, tag_cause_of, TellsSink}
 use Rattle.iim_dataset.specs.{Format.Datasets.SpellsStream, Format.Datasets.CompletesData, Format.Datasets.Concerns, Laws.CompletesNow}
 use Rattle.iim_dataset.specs.declared.fault.Fault.{Fault}
 use Rattle.iim_dataset.specs.declared.place.DatasetPlace.{DatasetPlace as Place}
 use Rattle.iim_fields.specs.{States.Standing.room_of, Format.Records.AreSections, Format.Causes.kept as kept_of}
 use Rattle.wire_story.specs.Format.Texts as story
 use Rattle.iim_unpack.specs.Routes.{RefusesRoute, Routes, Refused, RefusesAt, front_in_order}
-use Rattle.iim_unpack.specs.Steps.{IsStoppedWith, IsStoppedBy, HasAdvanced, cause_of_tag, tag_fault}
+use Rattle.iim_unpack.specs.Steps.{IsStoppedWith, HasAdvanced, cause_of_tag, tag_fault}
 use Rattle.iim_unpack.specs.declared.parts.router.Router.{Router}
 use Rattle.iim_object.specs.States.Reading as objects
 use Rattle.iim_object.specs.Format.Objects.{AreObjectRecords, HaveSizes}
@@ -25,23 +25,6 @@ use Rattle.iim_unpack.proofs.Carrying.{all_for}
 use Rattle.iim_unpack.proofs.Sequences.{Reached, by_data, ended_by_record, handed_in_order, reached, text_of, unended_inside}
 
 module _ {S : Type 0} (goes : S → List story.StoryEvent → S → Type 0) (failures : S → ℕ) where
-  pub fails_for : (cause : Option HeadCause) (old : Place) (octets : List ℕ) (k : ℕ) (new : Place) (a b : Router S)
-      → RefusesFor (Routes goes failures) (RefusesRoute goes failures) cause old octets k new a b
-      → StillStands (λ (r : Router S). Takes r.parts.now) cause new b
-      → IsStoppedBy goes failures cause b.refused (old, a.parts.now, a.sink.now) octets k (new, b.parts.now, b.sink.now)
-  fails_for None old octets k new a b h open' = record { more = h.0.more; event = h.0.event; stopped = h.0.stopped.2; completes = h.0.completes }
-  fails_for (Some cause) old octets k new a b h open' =
-      record { told = record { more = h.0.more; told = h.0.told.2; brings = h.0.brings }; takes = open'; dies = h.1 }
-
-  -- what the reader of tags says of the octets that it used, of the parts
-  pub has_advanced : (r : Result ℕ Fault) (old : Place) (piece : List ℕ) (new : Reader) (a b : Router S) → OnOk r (TakesCalls new)
-      → IfOk r (λ used. TakesPiece (Routes goes failures) (λ (r : Router S). Takes r.parts.now) (λ (r : Router S). AreBetween true r.parts.now)
-      (old, a) piece (new.place, b) used)
-      → IfOk r (HasAdvanced goes failures (old, a.parts.now, a.sink.now) piece (new, b.parts.now, b.sink.now))
-  has_advanced (Ok used) old piece new a b calls t =
-      record { takes_calls = calls; within = t.within; told = record { more = t.told.more; told = t.told.told.2; brings = t.told.brings }; onward = t.onward }
-  has_advanced (Err fault) old piece new a b calls t = tt
-
   -- whatever the reader of tags answers, the header has the room that it had
   pub same_room : (r : Result ℕ Fault) (old : Place) (octets : List ℕ) (new : Place) (a b : Router S)
       → IfOk r (λ used. TakesPiece (Routes goes failures) (λ (r : Router S). Takes r.parts.now) (λ (r : Router S). AreBetween true r.parts.now)

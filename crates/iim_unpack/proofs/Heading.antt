@@ -1,5 +1,5 @@
 -- Where a head leads the parts of an unpacker, and why it is refused.
-use Rattle.iim_unpack.proofs.Words.{AreAfter, AreBetween, Bool, CountsFor, Dataset, DatasetEvent, FieldFault, FieldsPlace, HasFewSubfiles, Head, HeadLeads, HeadRead, InData, InTag, IsHeadFault, IsRefusedHead, List, LowerLaws, ObjectLanguage, ObjectLives, Option, Parts, PartsRefuse, SectionsLiveAt, Some, StandsAfter, StandsIn, State, SubfileBegun, TellsMessage, TellsParts, TextsStandBetweenStxAndEtx, TokenFault, Within, [], ap, append-nil, arith, cases_Bool, cond, events_at, events_of, false, flat_map, head_token, inl, inr, length, limits_of, max_subfiles, message_on, nat_eq, ne_eqb, object_of, object_so_far, octets_of, of_field, of_record, place_after_datasets, place_at, refl, same_Some, sections_last, subst, sym, text_so_far, too_many_on, true, true≢false, ℕ, ◌++◌, ◌<◌, ◌∙◌, ◌∷◌, ◌≡◌, ◌≤◌, ◌⊎◌}
+use Rattle.iim_unpack.proofs.Words.{AreAfter, AreBetween, Bool, CountsFor, Dataset, DatasetEvent, FieldFault, FieldsPlace, HasFewSubfiles, Head, HeadLeads, HeadRead, InData, InTag, IsHeadFault, IsRefusedHead, List, LowerLaws, ObjectLanguage, ObjectLives, Option, Parts, PartsRefuse, SectionsLiveAt, Some, StandsAfter, StandsIn, State, SubfileBegun, TellsMessage, TellsParts, TextsStandBetweenStxAndEtx, TokenFault, Within, [], ap, append-nil, arith, cases_Bool, cond, events_at, events_of, false, flat_map, head_token, inl, inr, length, limits_of, max_subfiles, message_on, nat_eq, ne_eqb, object_of, object_so_far, octets_of, of_field, of_record, place_after_datasets, place_at, refl, same_Some, sections_last, subst, sym, text_so_far, too_many_on, true≢false, ℕ, ◌++◌, ◌<◌, ◌∙◌, ◌∷◌, ◌≡◌, ◌≤◌, ◌⊎◌}
 use Rattle.std.proofs.lemmas.List.{length-map}
 use Rattle.iim_dataset.specs.Format.Octets as languages
 use Rattle.iim_object.specs.Format.Objects.{ObjectEnded}

@@ -36,9 +36,3 @@ canonical_message laws head lines trailer is_head lined is_trailer =
     message_from (canonical head lines trailer) head x trailer [] (packed_info head.info) (13 ∷ 10 ∷ []) [] (refl, omega arith, omega arith) is_head
     (spells_packed head.info) ((refl, omega arith, omega arith), refl) (so_far_text x held.0 held.1 0 held.2) is_trailer (refl, omega arith, omega arith)
     (parts (fixed_header head) (packed_info head.info) x trailer)
-
--- what was appended in turn, joined
-pub head_joined : (s n p c w i a0 a1 a2 a3 a4 a5 a6 a7 a8 : List ℕ) → a0 ≡ [] → a1 ≡ a0 ++ (1 ∷ []) → a2 ≡ a1 ++ s → a3 ≡ a2 ++ n
-    → a4 ≡ a3 ++ (32 ∷ p) → a5 ≡ a4 ++ (32 ∷ c) → a6 ≡ a5 ++ (32 ∷ w) → a7 ≡ a6 ++ i → a8 ≡ a7 ++ (13 ∷ 10 ∷ 2 ∷ [])
-    → a8 ≡ 1 ∷ (s ++ (n ++ (32 ∷ p ++ (32 ∷ c ++ (32 ∷ w)))) ++ (i ++ (13 ∷ 10 ∷ 2 ∷ [])))
-head_joined s n p c w i a0 a1 a2 a3 a4 a5 a6 a7 a8 e0 e1 e2 e3 e4 e5 e6 e7 e8 = rw (e8, e7, e6, e5, e4, e3, e2, e1, e0) (simp append_assoc)

@@ -1,5 +1,5 @@
 -- What a piece does to a reader that stands at a place, and to the story in it.
-use Rattle.wire_message.proofs.Names.{take-add, slice_range, take_more, take_rest, get_or-drop, and_from, eqb-true, lt-ltb, not_from_false, true_from_ne_false, same_Some, ArrayVec, Holds, Octet, End, LivesWith, StoryDiesAt, with_end, StoryLaws, TextReader, TextCause, map_snoc, Are-tail, Are, is_trailer_octet, is_text_octet, max_trailer, Header, MessageDiesAt, MessagesEndAfterEot, ReadersStandAtLivingOctets, LeadsTo, StandsAt, LeadsOn, GoesSomewhere, Refuses, TakesPiece, RefusesOne, IsWhole, is_ended, trailer_read, HasCause, StoryDiesWith, cause_of, TakesSome, TakesOctets, RefusesInPart, DiesWith, MessageCause, BadOctet, LoneReturn, IsPlace, Spells, Place, Filler, Text, Trailer, AfterEnd}
+use Rattle.wire_message.proofs.Names.{take-add, slice_range, take_more, take_rest, get_or-drop, and_from, eqb-true, lt-ltb, not_from_false, true_from_ne_false, same_Some, ArrayVec, Holds, Octet, End, LivesWith, StoryDiesAt, with_end, StoryLaws, TextReader, TextCause, map_snoc, Are-tail, Are, is_trailer_octet, is_text_octet, max_trailer, Header, MessageDiesAt, MessagesEndAfterEot, ReadersStandAtLivingOctets, LeadsTo, StandsAt, LeadsOn, GoesSomewhere, Refuses, TakesPiece, RefusesOne, IsWhole, is_ended, trailer_read, HasCause, StoryDiesWith, cause_of, TakesSome, TakesOctets, RefusesInPart, DiesWith, MessageCause, BadOctet, LoneReturn, IsPlace, Spells, Place, Text, Trailer, AfterEnd}
 use Rattle.wire_message.proofs.{Machine.of, Machine.Stands, Machine.led, Machine.unread, Goings.trailer_ends, Living.message_lives, Living.message_unfinished}
 use Rattle.wire_message.proofs.{Transitions.text_more, Transitions.text_etx, Transitions.one_is, Transitions.field_none, Alike.holds_two, Packed.so_far_text}
 use Rattle.wire_message.proofs.TextSoFar.{text_at, text_is, tokens_are, tokens_of}
@@ -222,9 +222,6 @@ refused_one law {piece = piece} {fault = fault} stops = record {
 }
 
 -- ---- the beginning and the end
-
-pub nothing_stands : StandsAt (Some (Filler 0)) [] []
-nothing_stands = (Filler 0, refl, record { is_place = omega arith; spelled = ((refl, omega arith, omega arith), refl, refl); story = refl })
 
 pub is_whole : (reader : Option Place) → is_ended reader ≡ true → IsWhole reader
 is_whole (Some (AfterEnd h t k)) e octets text s = let l = place_at (AfterEnd h t k) octets text s in (h, refl, l.spelled.0, l.story)
