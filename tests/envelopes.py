@@ -44,33 +44,41 @@ def counted(each, size):
     return bytes([0x1C, record, dataset, 0x80, size]) + len(data).to_bytes(size, "big") + data
 
 
+def as_asked(record, number, octets):
+    """A dataset with these octets, or with the one value that is right there."""
+    return record, number, rules.ASKED.get((record, number), (octets, None))[0]
+
+
 # Values of each kind, counts of each form, sizes that are not announced, subfiles of any size, and a message with all of its parts.
 VARIED_OBJECT = (
     b"\0\r\n\x16\1Wire0042 5 Eco9 000017 a b\x80\r\0\n\x16\2 one\ttwo\nthree\r\n\r\r\nfour\xff\3end\r\n\4\n\0"
 )
 VARIED_FIELDS = [
-    (1, 40, b"00000003"),
-    (1, 5, b"AB"),
-    (1, 5, b""),
-    (1, 60, b"5"),
-    (1, 20, b"\0\2"),
-    (1, 22, b"\xff\xff"),
-    (1, 30, b""),
-    (1, 70, b"20240229"),
-    (1, 80, b"235959-2359"),
-    (1, 100, b"UNIQUE NAME 14"),
-    (1, 200, b"\x1c\1\0"),
-    (1, 0, b"\0\4"),
-    (2, 30, b"20231231"),
-    (2, 35, b"000000+0000"),
-    (2, 0, b"\0\4"),
-    (2, 55, b"20240012"),
-    (2, 15, b"Eco"),
-    (2, 22, b"\x80x"),
-    (2, 40, b" a\r\nb"),
-    (2, 80, b"A B"),
-    (2, 80, b""),
-    (2, 3, b""),
+    as_asked(*field)
+    for field in [
+        (1, 40, b"00000003"),
+        (1, 5, b"AB"),
+        (1, 5, b""),
+        (1, 60, b"5"),
+        (1, 20, b"\0\2"),
+        (1, 22, b"\xff\xff"),
+        (1, 30, b""),
+        (1, 70, b"20240229"),
+        (1, 80, b"235959-2359"),
+        (1, 100, b"UNIQUE NAME 14"),
+        (1, 200, b"\x1c\1\0"),
+        (1, 0, b"\0\4"),
+        (2, 30, b"20231231"),
+        (2, 35, b"000000+0000"),
+        (2, 0, b"\0\4"),
+        (2, 55, b"20240012"),
+        (2, 15, b"Eco"),
+        (2, 22, b"\x80x"),
+        (2, 40, b" a\r\nb"),
+        (2, 80, b"A B"),
+        (2, 80, b""),
+        (2, 3, b""),
+    ]
 ]
 VARIED_SIZES = [(7, 95, b"\0\0\0\1\0"), (7, 10, b"\0"), (7, 20, b"\x09")]
 VARIED_PARTS = [VARIED_OBJECT[:9], b"", VARIED_OBJECT[9:10], *(VARIED_OBJECT[at : at + 8] for at in range(10, len(VARIED_OBJECT), 8)), b""]
@@ -150,8 +158,7 @@ def fields(random, record, others):
             numbers += [each] * (random.randint(1, 3) if ROWS[record, each].repeats else 1)
     numbers += random.choices([each for each in range(256) if each not in known], k=others)
     random.shuffle(numbers)
-    made = [(record, each, value(random, rules.row_of(record, each))) for each in numbers]
-    return [(1, 20, b"\0\2") if field[:2] == (1, 20) else field for field in made]
+    return [as_asked(record, each, value(random, rules.row_of(record, each))) for each in numbers]
 
 
 def line_end(random):

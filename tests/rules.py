@@ -42,6 +42,8 @@ CAUSES = {
     52: "TooManySubfiles",
     61: "Failed",
 }
+# The datasets of which one value alone is right, beside what their row says: the value, and the cause for which any other is refused.
+ASKED = {(1, 20): (b"\0\2", 16)}
 # The causes that octets alone have not: of a sink, of memory, of a packer, of a script.
 OTHER_CAUSES = {
     60: "Sink",
@@ -527,8 +529,9 @@ class Envelope:
             return
         if not KINDS[row_of(record, dataset).kind](data):
             raise Refused(octet, "record", record, dataset, 15)
-        if (record, dataset) == (1, 20) and data != b"\0\2":
-            raise Refused(octet, "record", record, dataset, 16)
+        asked, cause = ASKED.get((record, dataset), (data, None))
+        if data != asked:
+            raise Refused(octet, "record", record, dataset, cause)
         if record in (1, 2):
             self.fields.append((record, dataset, data))
         elif record == 7:

@@ -16,9 +16,9 @@ class Cause(NamedTuple):
 # fmt: off
 CAUSES: Dict[int, Cause] = {
     1: Cause(
-        "the dataset before it has more or fewer octets than its count says, or octets of it were changed on the way: a transfer as text,"
-        " a conversion to UTF-8; at octet 0 of another envelope than the first, octets after the last one, as a line end or NULs; at "
-        "octet 0 of the first, the file is no IIM at all",
+        "the dataset before it has more or fewer octets than its count says, or octets of it were changed on the way: a transfer as text, "
+        "a conversion to UTF-8; at octet 0 of another envelope than the first, octets after the last one, as a line end or NULs; at octet "
+        "0 of the first, the file is no IIM at all",
         "look at the count of the dataset before; send the file again as binary, and without what follows",
     ),
     2: Cause(
@@ -35,8 +35,7 @@ CAUSES: Dict[int, Cause] = {
         "look which records the sender writes, and in which order",
     ),
     11: Cause(
-        "a sender's own dataset in these records; where 7:13 is named, a transfer as text, by which the LF in the tag of 7:10 became CR "
-        "LF",
+        "a sender's own dataset in these records; where 7:13 is named, a transfer as text, by which the LF in the tag of 7:10 became CR LF",
         "it belongs into record 2; send the file again as binary",
     ),
     12: Cause(
@@ -55,8 +54,8 @@ CAUSES: Dict[int, Cause] = {
     ),
     15: Cause(
         "letters in a number, a date that is no day, as 20230229 in 2:30 Release Date, a time with hour 24 or with no sign before its "
-        "offset, a control character in a text, a size of eight octets above 9,223,372,036,854,775,807, 7:20 as 0; a text that begins "
-        "with LF, a transfer as text, by which a count of ten octets, 0A, became 0D and LF",
+        "offset, a control character in a text, a size of eight octets above 9,223,372,036,854,775,807, 7:20 as 0; a text that begins with "
+        "LF, a transfer as text, by which a count of ten octets, 0A, became 0D and LF",
         'look at the dataset\'s kind in `FORMAT.md`, under "Kinds"; send the file again as binary',
     ),
     16: Cause(

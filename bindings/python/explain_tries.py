@@ -328,9 +328,10 @@ def is_utf8(octets: bytes, latin: bytes) -> bool:
 
 
 def placeholder(record: int, number: int) -> bytes:
-    """A dataset that may stand there."""
+    """A dataset that may stand there. Of a number the least is put that is taken there in record 1."""
     rule = iim.row(record, number)
     least, kind = (rule.least, rule.kind) if rule else (0, words.OCTETS)
     value = {words.DATE: b"20240101", words.TIME: b"120000+0000", words.DIGITS: b"0" * least, words.BINARY: b"\0" * least}.get(kind, b"\1" * least)
-    value = b"\0\2" if (record, number) == (1, 20) else value
-    return bytes([0x1C, record, number, 0, len(value)]) + value
+    head = bytes([0x1C, record, number, 0, len(value)])
+    likely = [head + value[:-1] + last for last in SINGLY] if kind == words.BINARY and value else []
+    return next((each for each in likely if iim.Receiver().tries(each)[0] == len(each)), head + value)

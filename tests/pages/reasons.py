@@ -1,0 +1,48 @@
+"""The table of bindings/python/explain_causes.py: of each cause of an envelope the likely reason and what to do, as docs/CAUSES.md has them.
+
+All else in that file is written by hand.
+"""
+import re
+import textwrap
+
+from pages.items import TOP, cells_of, text_of
+
+PAGE = "bindings/python/explain_causes.py"
+# What stands around the entries.
+HEAD, FOOT = "CAUSES: Dict[int, Cause] = {\n", "}\n# fmt: on\n"
+# The columns of a line, without its quotation marks and what follows them.
+WIDTH = 137
+INDENT = " " * 8
+
+
+def causes():
+    """The number, the likely reason and the advice of each cause of an envelope: the first table of the page."""
+    reason = advice = None
+    for _, cells in cells_of(f"{TOP}/docs/CAUSES.md"):
+        if cells[0] == "Cause":
+            if reason is not None:
+                return
+            reason, advice = cells.index("The likely reason"), cells.index("What to do")
+        elif number := re.match(r"\d+", cells[0]):
+            yield int(number[0]), cells[reason], cells[advice]
+
+
+def literal(text):
+    """A text as lines of Python."""
+    parts = textwrap.wrap(text, WIDTH - len(INDENT), break_on_hyphens=False)
+    words = [part + " " for part in parts[:-1]] + parts[-1:]
+    return [INDENT + (repr(each) if re.search(r'["\\]', each) else f'"{each}"') for each in words]
+
+
+def entry(number, reason, advice):
+    """The lines of a cause."""
+    *lines, last = literal(reason)
+    *more, end = literal(advice)
+    return [f"    {number}: Cause(", *lines, f"{last},", *more, f"{end},", "    ),"]
+
+
+def wanted():
+    """The file, with its text."""
+    before, _, rest = text_of(f"{TOP}/{PAGE}").partition(HEAD)
+    entries = "".join(f"{line}\n" for cause in causes() for line in entry(*cause))
+    return {PAGE: f"{before}{HEAD}{entries}{FOOT}{rest.partition(FOOT)[2]}"}
