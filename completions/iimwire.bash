@@ -1,4 +1,4 @@
-# Completes the words of iimwire in bash.
+# Completes the arguments of iimwire in bash.
 _iimwire() {
   local word=${COMP_WORDS[COMP_CWORD]} before=${COMP_WORDS[COMP_CWORD - 1]} options='-h --help'
   COMPREPLY=()
@@ -11,6 +11,7 @@ _iimwire() {
     --subfile | --max) return ;;
   esac
   case ${COMP_WORDS[1]} in
+    check | show | story) options="--files-from $options" ;;
     pack) options="--subfile --unknown --max $options" ;;
     audit) options="--now $options" ;;
   esac

@@ -1,4 +1,5 @@
-"""The rules, held to envelopes and answers that were worked out by hand: `rows` gives what the rules say and what is right."""
+"""Tests of the second reading of the rules, tests/rules.py and tests/tickets.py, and not of the product: `rows` gives what that reading says
+of envelopes that were worked out by hand, and what is right."""
 import rules
 import tickets
 from envelopes import SMALLEST, SMALLEST_FIELDS, SMALLEST_HEAD, VARIED, VARIED_FIELDS, VARIED_OBJECT

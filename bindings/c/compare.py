@@ -1,11 +1,11 @@
 #!/usr/bin/env python3
-"""Compares what the C program c/test.c tells by the library with what the command prints, with the rules a second time
-(tests/rules.py), and the header with the sources.
+"""Compare the output of the C program c/test.c with that of the command and with a second
+implementation of the rules (tests/rules.py), and the header with the sources.
 
-  bindings/c/compare.py PROGRAM..    each PROGRAM: c/test.c, built in some way
+  bindings/c/compare.py PROGRAM..    each PROGRAM: a build of c/test.c
 
-The command is crates/iimwire/out/iimwire, which the gate and the first run of ./iimwire make. Prints each failure, and then
-'N passed, M failed'. The status is 1 where something failed.
+The command is crates/iimwire/out/iimwire, which the gate and the first run of ./iimwire build. The
+program prints each failure, and then 'N passed, M failed'. It exits with status 1 if a test failed.
 """
 import functools
 import glob
@@ -19,13 +19,14 @@ from concurrent.futures import ThreadPoolExecutor
 TOP = os.path.dirname(os.path.dirname(os.path.dirname(os.path.realpath(__file__))))
 sys.path.insert(0, f"{TOP}/tests")
 import rules  # noqa: E402
+from pages import causes as page_of_causes  # noqa: E402
 
 COMMAND = f"{TOP}/crates/iimwire/out/iimwire"
 HEADER = f"{TOP}/bindings/c/iim.h"
 SAMPLES = f"{TOP}/samples"
 ALL = sorted(glob.glob(f"{SAMPLES}/*.iim") + glob.glob(f"{SAMPLES}/damaged/*.iim"))
 SECONDS = 300
-# The statuses of the header, by their names.
+# The statuses of the header, by name.
 STATUSES = dict(re.findall(r"IIM_(\w+) = (\d+)", open(HEADER).read()))
 DONE, REFUSED, TRUNCATED = (int(STATUSES[name]) for name in ("DONE", "REFUSED", "TRUNCATED"))
 TESTS = []
@@ -47,7 +48,7 @@ def octets_of(path):
 
 
 def run(*words, octets=b""):
-    """The status of a program, what it writes, and its errors."""
+    """Return the status of a program, its output and its errors."""
     done = subprocess.run(words, input=octets, capture_output=True, timeout=SECONDS)
     return done.returncode, done.stdout, done.stderr
 
@@ -57,14 +58,14 @@ def batches(parts):
 
 
 def told(program, how, limits, parts):
-    """The answer to each of the octets: status, layer, cause, record, number, octet, used, written and ticket."""
+    """Return the members of the result for each part, in the order of `iim_answer`."""
     status, out, errors = run(program, how, *map(str, limits), octets=batches(parts))
     same((status, errors), (0, b""))
     return [tuple(map(int, line.split())) for line in out.split(b"\n")[:-1]]
 
 
 def by_rules(read):
-    """The same answer, as the rules have read them."""
+    """Return the same result from the rules."""
     if read.is_done:
         return DONE, 0, 0, 0, 0, read.at, read.at, 0, 0
     text = str(read.refusal or read.end())
@@ -74,37 +75,37 @@ def by_rules(read):
 
 
 def checked(parts, limits=rules.LIMITS, asked=(0, 0)):
-    """Holds the answers of `iim_check` and of `iim_feed` to the rules."""
+    """Check the results of `iim_check` and `iim_feed` against the rules."""
     answered(parts, [by_rules(rules.read(part, limits)) for part in parts], asked)
 
 
 def answered(parts, want, asked=(0, 0)):
-    """Holds both answers to these."""
+    """Check both results against these."""
     for program in PROGRAMS:
         same(told(program, "check", asked, parts), want)
         same(told(program, "feed", asked, parts), want)
 
 
 def lines_of(octets):
-    """What the command prints of octets."""
+    """Return what the command prints for bytes."""
     return run(COMMAND, "check", octets=octets)
 
 
-# Sizes of pieces, from the first to the last of each pair.
+# Sizes of chunks, from the first to the last of each pair.
 SIZES = (1, 64), (4096, 4096)
-# What the C program tells of a file for each size, in this order.
+# What the C program prints for a file and each size, in this order.
 TOLD = "check", "show", "story"
 
 
 def by_each_size(answer, first, last):
-    """What the C program tells that tells this answer by pieces of each size."""
+    """Return the output of the C program if chunks of each size have this result."""
     status, out, errors = answer
     sizes = range(first, last + 1)
     return status, b"".join(out + b"\x1e%d\n" % piece for piece in sizes), errors * len(sizes)
 
 
 def each_told(octets):
-    """For each size what is told by its pieces: the size, the status and the octets of each command."""
+    """Yield for each size of chunks the size, the status and the output of each command."""
     told = io.BytesIO(octets)
     while line := told.readline():
         size, status, *counts = map(int, line.split())
@@ -113,7 +114,7 @@ def each_told(octets):
 
 
 def told_of(asked):
-    """What the C program tells of a file, by pieces of each size: a size after another."""
+    """Return what the C program prints for a file, size by size of the chunks."""
     program, path = asked
     ran = [run(program, "streams", str(first), str(last), path) for first, last in SIZES]
     same((path, [(status, errors) for status, _, errors in ran]), (path, [(0, b"")] * len(SIZES)))
@@ -122,14 +123,14 @@ def told_of(asked):
 
 @functools.lru_cache(maxsize=None)
 def streams():
-    """What each C program tells of each sample, which takes a while: some side by side."""
+    """Run each C program on each sample, in parallel, and return what they print."""
     asked = [(program, path) for path in ALL for program in PROGRAMS]
     with ThreadPoolExecutor(os.cpu_count()) as pool:
         return dict(zip(asked, pool.map(told_of, asked), strict=True))
 
 
 def tells_as_the_command(command):
-    """Holds what the C program tells of each sample, in pieces of each size, to what the command prints."""
+    """Check what the C program prints for each sample and size of chunks against the command."""
     want = {path: run(COMMAND, command, path) for path in ALL}
     sizes = [size for first, last in SIZES for size in range(first, last + 1)]
     for (program, path), told in streams().items():
@@ -145,7 +146,7 @@ def lists_the_samples_as_the_command_does():
 
 @test
 def shows_the_samples_as_the_command_does():
-    # (the command tells a refusal as `check` does)
+    # (the command prints a refusal as `check` does)
     tells_as_the_command("show")
 
 
@@ -220,7 +221,7 @@ def tells_the_tables():
         for number in range(256):
             row = rules.row_of(record, number)
             if row:
-                # (7:90 alone is by the mode)
+                # (only 7:90 depends on the mode)
                 duty = 3 if (record, number) == (7, 90) else 1 if row.is_mandatory else 2
                 kind = kinds.index(row.kind) + 1
                 name = names.get((record, number), "")
@@ -262,9 +263,11 @@ def names_the_kinds_and_duties_as_the_header_does():
     same({name: number for name, number in re.findall(r"pub const (\w+): u8 = (\d+);", status)}, {w: n for w, n in STATUSES.items() if "_" not in w or w in ("NO_MEMORY", "BAD_TICKET", "BAD_PACKING", "BAD_INSTANT")})
 
 
-# Answers to the smallest envelope, of 114 octets, written out from docs/FORMAT.md and the header: status, layer, cause, record, number,
-# octet, used, written and ticket. Its 27th octet is in the data of 1:30. Its ticket there has 79 octets; at its end 135, of which 69 are
-# its seven datasets (six each, and 27 of data), 28 the numbers of record 7, and 12 the texts of the message (seven, and five octets).
+# Results for the smallest envelope, of 114 bytes, derived by hand from docs/FORMAT.md and the
+# header: status, layer, cause, record, number, octet, used, written and ticket. Its 27th byte is in
+# the data of 1:30. The ticket there has 79 bytes; at the end it has 135, of which 69 are the seven
+# datasets (six each, and 27 of data), 28 the numbers of record 7, and 12 the texts of the message
+# (seven, and five bytes).
 VALUES = """\
 done 0 0 0 0 0 114 114 0 0
 more 1 0 0 0 0 27 27 0 79
@@ -300,13 +303,13 @@ def tells_each_value_as_it_is_written():
 
 # --- Places ---
 
-# The parts of a message after its filler, as the format numbers them from 1 on: what has come of each, in the worked envelopes. The
-# info alone may be absent.
+# The parts of a message after its filler, as the format numbers them from 1 on: the bytes of each
+# in the example envelopes. Only the info may be absent.
 PARTS = [rb"\x01[A-Z]*", rb"[0-9]+", rb" ", rb"[0-9]", rb" [A-Z]*", rb" [0-9]*", rb"(?: [a-z]*)", rb"([\r\n]+)", rb"\x02([^\x03]*)", rb"\x03", rb"\x04"]
 
 
 def part_of(octets):
-    """The part, the counter and the flag of a message of which these octets have come."""
+    """Return the part, the counter and the flag of a message of which these bytes were received."""
     fronts = [b"".join(part + b"?" * (part == PARTS[6]) for part in PARTS[:number]) for number in range(7)]
     patterns = [*fronts, *(b"".join([*PARTS[:6], PARTS[6] + b"?" * (number > 7), *PARTS[7:number]]) for number in range(7, 12))]
     part = max(number for number, pattern in enumerate(patterns) if re.fullmatch(pattern, octets))
@@ -317,8 +320,8 @@ def part_of(octets):
 
 
 def place_of(front, whole):
-    """What is begun after a front of a worked envelope, whose tags have five octets each: the numbers that the C program prints, and
-    the octets that a ticket keeps of it."""
+    """Return what is in progress after a prefix of an example envelope, whose tags have five bytes:
+    the numbers that the C program prints, and the bytes of it that a ticket stores."""
     at, section, told = 0, 0, b""
     while len(rest := front[at:]) >= 5 and len(rest) >= 5 + int.from_bytes(rest[3:5], "big"):
         section, count = rest[1], int.from_bytes(rest[3:5], "big")
@@ -335,12 +338,12 @@ def place_of(front, whole):
 
 
 def set_of(octets):
-    """A set of octets in hexadecimal digits, as the C program prints it."""
+    """Return a set of bytes in hexadecimal, as the C program prints it."""
     return sum(1 << octet for octet in octets).to_bytes(32, "little").hex()
 
 
 def told_places(program, name):
-    """The lines of the C program after each front of a sample, and its octets."""
+    """Return the lines of the C program after each prefix of a sample, and the sample."""
     status, out, errors = run(program, "places", f"{SAMPLES}/{name}")
     same((status, errors), (0, b""))
     return [line.split(" ") for line in out.decode().split("\n")[:-1]], octets_of(f"{SAMPLES}/{name}")
@@ -365,17 +368,19 @@ def tells_the_octets_that_can_come_next():
     for program in PROGRAMS:
         lines, _ = told_places(program, "smallest.iim")
         same([line[13:15] for line in lines], want)
-        # (a tag begins with 1C alone, the priority is a digit, and in the text all but SOH, STX, ETX and EOT can stand, and the end)
+        # (a tag begins with 1C, the priority is a digit, the text has any byte except SOH, STX and
+        # EOT, and ETX ends it)
         same([lines[at][14] for at in (0, 55, 95)], [set_of([0x1C]), set_of([0x1C]), set_of(range(0x30, 0x3A))])
         same(lines[103][14], set_of([octet for octet in range(256) if octet not in (1, 2, 4)]))
 
 
 # --- Audits ---
 
-# The rows of samples at 12:00 on 2024-03-01, written out: where the envelope begins and how many octets it has, service, number and date
-# sent, the octet of the priority, octets and subfiles of the object, words announced and counted; whether there is an age, and that;
-# whether the copy may be used; and of release and expiration whether there is one, its second and its nanosecond. Then where a refused
-# envelope begins, and its status, layer, cause, record, number and octet.
+# The rows of samples at 12:00 on 2024-03-01, derived by hand: offset and length of the envelope,
+# service, number and date sent, the byte of the priority, bytes and subfiles of the object, words
+# announced and counted; whether there is an age, and the age; whether the copy may be used; whether
+# there is a release and an expiration, with second and nanosecond. Then the offset of a rejected
+# envelope, and its status, layer, cause, record, number and octet.
 ROWS = {
     "audit.iim": """\
 0 136 TST 00000001 20240301 53 14 1 0 0 1 3600 0 0 0 0 0 0 0
@@ -395,7 +400,7 @@ NOON = 1709294400
 
 
 def audits(asked):
-    """Holds the rows of a file, by pieces of some sizes and room for so many, to what is written out."""
+    """Check the rows of a file, for some sizes of chunks and a capacity, against those above."""
     program, first, last, room, second, path, want = asked
     told = run(program, "audit", *map(str, (first, last, room, second)), path)
     same((asked, told), (asked, by_each_size((int("at" in want), want.encode(), b""), first, last)))
@@ -431,13 +436,7 @@ def tells_ages_rounded_down():
 
 @test
 def tells_what_each_cause_means():
-    # (a cause that stands in two tables means what the first says)
-    want, column = {}, 0
-    for line in open(f"{TOP}/docs/CAUSES.md").read().split("\n"):
-        cells = [cell.strip() for cell in line.strip("| ").split(" | ")]
-        column = cells.index("What it means") if cells[0] == "Cause" else column
-        if line.startswith("| ") and (number := re.match(r"(\d+) \w", cells[0])):
-            want.setdefault(int(number[1]), cells[column])
+    want = page_of_causes.meanings()
     same(len(want) >= 40, True)
     for program in PROGRAMS:
         status, out, errors = run(program, "texts")
@@ -458,7 +457,7 @@ def admits_as_the_rules_do():
 
 # --- The header and the sources ---
 
-# A number or a struct of the sources, as C has it.
+# The types of the sources, as C declares them.
 WORDS = {"u8": "uint8_t", "u32": "uint32_t", "u64": "uint64_t", "i64": "int64_t", "usize": "size_t", "bool": "bool"}
 
 
@@ -467,7 +466,7 @@ def plain(text):
 
 
 def of_c(kind):
-    """A type of the sources as the header has it: what stands before the name, for each argument of C."""
+    """Return a type of the sources as the header has it: the types of the arguments in C."""
     if kind == "Global":
         return []
     if slice_of := re.fullmatch(r"&(mut )?\[u8\]", kind):
@@ -484,7 +483,7 @@ def struct_of(name):
 
 
 def exports():
-    """The exports of the crate: of each its name, its result, and what C hands in."""
+    """Yield the exports of the crate: name, result and the types of the arguments in C."""
     source = open(f"{TOP}/crates/iim_exports/src/lib.rt").read()
     for name, words, result in re.findall(r'#\[unsafe\(no_mangle\)\]\npub extern "C" fn (\w+)\((.*?)\)(?: -> (\w+))?\s', source, re.S):
         kinds = [plain(each).partition(": ")[2] for each in words.split(",") if each.strip()]
@@ -492,7 +491,7 @@ def exports():
 
 
 def declared():
-    """The functions of the header: of each its name, its result, and the types of its arguments."""
+    """Yield the functions of the header: name, result and the types of the arguments."""
     code = re.sub(r"/\*.*?\*/", "", open(HEADER).read(), flags=re.S)
     for result, name, words in re.findall(r"^(\w+) (iim_\w+)\(([^)]*)\);", code, re.M):
         words = [] if words.strip() == "void" else [plain(each) for each in words.split(",")]
@@ -501,7 +500,7 @@ def declared():
 
 @test
 def declares_each_export_with_its_arguments():
-    # (a name is text for C, whose octets are `char`)
+    # (a name is text for C, whose bytes are `char`)
     as_text = lambda name, words: [word.replace("uint8_t *", "char *") if name.endswith(("_name", "_text")) else word for word in words]
     want = sorted((name, result, as_text(name, words)) for name, result, words in exports())
     same(sorted(declared()), want)
@@ -515,7 +514,7 @@ def declares_each_struct_with_its_members():
     want = {}
     for path in sorted(glob.glob(f"{TOP}/crates/iim_c/src/*.rt")):
         for name, body in re.findall(r"#\[repr\(C\)\]\n#\[derive\([^)]*\)\]\npub struct (\w+) \{\n(.*?)^\}", open(path).read(), re.M | re.S):
-            # (an array stands with its length after the name)
+            # (an array has its length after the name)
             members = re.findall(r"^    pub (\w+): \[?(\w+)(?:; (\d+)\])?,", body, re.M)
             want[struct_of(name)] = [(WORDS.get(kind) or struct_of(kind), f"{member}[{count}]" if count else member) for member, kind, count in members]
     same(found, want)

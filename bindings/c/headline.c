@@ -4,8 +4,8 @@
  *   cc -o headline bindings/c/headline.c bindings/out/libiim.a
  *   ./headline samples/story.iim
  *
- * The file is read in blocks. The state between two of them is a ticket, in one
- * of two buffers: a call reads the one and writes the other.
+ * The program reads the file in blocks. The state between two blocks is a ticket, in one of two
+ * buffers: each call reads one of them and writes the other.
  */
 #include "iim.h"
 
@@ -13,13 +13,14 @@
 #include <stdio.h>
 #include <string.h>
 
-enum { BLOCK = 4096, TICKET = 65536 + 6 * 512 + 256 };
+enum { BLOCK = 4096, FIELDS = 512, TICKET = 65536 + 6 * FIELDS + 256 };
 
 static uint8_t block[BLOCK];
 static uint8_t text[BLOCK];
 static uint8_t tickets[2][TICKET];
+static iim_dataset datasets[FIELDS];
 
-/* Prints why octets are refused, as `iimwire check` does. */
+/* Prints why the input is rejected, as `iimwire check` does. */
 static int refuse(const iim_answer *answer) {
     char layer[64], cause[64];
     iim_layer_name(answer->layer, layer, sizeof layer);
@@ -29,16 +30,13 @@ static int refuse(const iim_answer *answer) {
     return 1;
 }
 
-/* Prints the first 2:105 of a ticket, or says that there is none. */
+/* Prints the first 2:105 of a ticket, or an error if the ticket has no 2:105. */
 static int print_headline(const uint8_t *ticket, size_t len) {
-    iim_dataset dataset;
     iim_answer answer;
-    for (size_t n = 0;; n++) {
-        iim_field(ticket, len, n, &dataset, &answer);
-        if (answer.status != IIM_DONE)
-            break;
-        if (dataset.rec == 2 && dataset.set == 105) {
-            fwrite(ticket + dataset.data.offset, 1, dataset.data.count, stdout);
+    iim_fields(ticket, len, 0, datasets, FIELDS, &answer);
+    for (size_t n = 0; n < answer.written; n++) {
+        if (datasets[n].rec == 2 && datasets[n].set == 105) {
+            fwrite(ticket + datasets[n].data.offset, 1, datasets[n].data.count, stdout);
             putchar('\n');
             return 0;
         }
@@ -47,7 +45,7 @@ static int print_headline(const uint8_t *ticket, size_t len) {
     return 1;
 }
 
-/* Feeds a file until its first envelope has ended. */
+/* Feeds a file until its first envelope is complete, and prints the headline. */
 static int headline_of(FILE *file) {
     const iim_limits limits = {0, 0};
     iim_answer answer;
@@ -67,6 +65,10 @@ static int headline_of(FILE *file) {
             fprintf(stderr, "status %d\n", answer.status);
             return 1;
         }
+    }
+    if (ferror(file)) {
+        perror("cannot read");
+        return 2;
     }
     iim_end(limits, tickets[now], ticket, at, &answer);
     return refuse(&answer);

@@ -1,42 +1,45 @@
-/*
- * Envelopes of the Information Interchange Model, from C.
+/**
+ * @file
+ * Reads, checks, audits and packs envelopes of the IPTC-NAA Information Interchange Model, from C.
  *
- * Link with libiim.a or libiim.so, which bindings/build makes.
+ * Link with `libiim.a` or `libiim.so`, which `bindings/build` builds.
  *
- * How it is used. Octets of a stream are handed to iim_feed in pieces of any
- * length. The state between two calls is a ticket: octets in a buffer of the
- * caller's, which the caller may keep for as long as it likes, write to a file
- * or send to another machine. An envelope in memory is checked by iim_check in
- * one call. What stands in records 1 and 2, in the header of the message and in
- * record 7 is asked of a ticket, at any time, and never copied: an answer is an
- * offset and a count within the ticket.
+ * ## Usage
  *
- * What holds of every function here:
+ * Pass the bytes of a stream to iim_feed() in chunks of any length. The state between two calls
+ * is a ticket: bytes in a buffer of the caller, which the caller may store for any length of
+ * time, write to a file or send to another machine. iim_check() checks an envelope that is
+ * completely in memory, in one call.
  *
- *  - It returns, whatever the octets are, and never calls back.
- *  - It is reentrant: there is no global state, and nothing lasts from one call
- *    to the next. Any number of threads may call at the same time, each with
- *    answers and buffers of its own. It is not to be called from a signal
- *    handler, since it may take memory.
- *  - It owns nothing of the caller's, and keeps no pointer. All buffers are the
- *    caller's before, during and after the call. What it takes of memory, by
- *    malloc, it has freed when it returns. Where malloc refuses, the status is
- *    IIM_NO_MEMORY, and the call may be made again.
- *  - A pointer with a length is a buffer of that many octets. It may be null
- *    where the length is 0. A pointer without a length is never null.
- *  - What is written to must not overlap anything else that is handed in. So a
- *    ticket and the next one need a buffer each.
- *  - A call answers by *answer, all of whose members it writes: a member that
- *    no word below speaks of is 0.
- *  - Where a buffer is too short the status is IIM_SHORT, and the answer tells
- *    the lengths that are needed. Nothing is lost: the ticket that was handed
- *    in is as it was, and the same call with longer buffers answers all.
- *    After any other status than IIM_DONE and IIM_MORE, and after IIM_SHORT,
- *    what stands in the buffers that could be written to has no meaning,
- *    unless a word below gives it one.
+ * A ticket can be read at any time: iim_fields() lists the datasets of records 1 and 2,
+ * iim_header() returns the header of the message, and iim_sizes() the numbers of record 7. These
+ * functions copy no data: they return an offset and a count within the ticket.
  *
- * All structs are those that a C compiler lays out by its own rules, members in
- * the order in which they stand here. uint8_t and bool have one octet.
+ * ## Rules for every function
+ *
+ * - It returns for every input, and never calls back.
+ * - It is reentrant: there is no global state, and nothing persists from one call to the next. Any
+ *   number of threads may call at the same time, each with its own answers and buffers. Do not
+ *   call it from a signal handler, since it may allocate memory.
+ * - It owns no memory of the caller and stores no pointer. Every buffer belongs to the caller
+ *   before, during and after the call. What the function allocates, with malloc, it has freed
+ *   when it returns. If malloc fails, the status is IIM_NO_MEMORY, and the call may be repeated.
+ * - A pointer with a length is an array of that many elements. It may be null if the length is 0.
+ *   A pointer without a length must not be null.
+ * - Memory that the function writes must not overlap any other argument. So a ticket and the next
+ *   ticket need separate buffers.
+ * - A call that has an `answer` returns its result there, and writes every member: a member that
+ *   the description of the function does not mention is 0.
+ * - If a buffer is too short, the status is IIM_SHORT, and the answer has the lengths that are
+ *   needed. Nothing is lost: the ticket that was passed in is unchanged, and the same call with
+ *   longer buffers returns the complete result. After any status other than IIM_DONE and IIM_MORE
+ *   the contents of output buffers are unspecified, unless the description of the function
+ *   specifies them.
+ * - The bytes of `text_out` and `ticket_out` after those that the answer counts are unspecified:
+ *   they may be unchanged or overwritten.
+ *
+ * Structs have the layout that the C compiler gives them, with their members in the order that is
+ * declared here. `uint8_t` and `bool` have one byte.
  */
 #ifndef IIM_H
 #define IIM_H
@@ -49,167 +52,215 @@
 extern "C" {
 #endif
 
-/* The version of this interface. */
+/** The version of this interface. */
 #define IIM_VERSION 1
 
 /* ---- Answers */
 
-/* What a call came to. */
+/** The status of a call. */
 enum {
-    IIM_DONE = 0,       /* all is done: an envelope has ended, or what was asked for is there */
-    IIM_MORE = 1,       /* all octets were used, and the envelope can continue */
-    IIM_REFUSED = 2,    /* an octet is refused, or a line of a script */
-    IIM_TRUNCATED = 3,  /* the octets end inside an envelope */
-    IIM_NONE = 4,       /* there is none: no dataset of that number */
-    IIM_SHORT = 5,      /* a buffer is too short: the answer tells what is needed */
-    IIM_NO_MEMORY = 6,  /* malloc refused */
-    IIM_BAD_TICKET = 7, /* the octets are no ticket from which the call can continue: the cause tells why */
-    IIM_BAD_PACKING = 8, /* the members of an iim_packing ask for nothing that can be */
-    IIM_BAD_INSTANT = 9 /* the members of an iim_instant tell none */
+    IIM_DONE = 0,        /**< complete: an envelope has ended, or the requested value was written */
+    IIM_MORE = 1,        /**< all bytes were consumed, and the envelope can continue */
+    IIM_REFUSED = 2,     /**< a byte, or a line of a script, is rejected */
+    IIM_TRUNCATED = 3,   /**< the input ends inside an envelope */
+    IIM_NONE = 4,        /**< there is no dataset with this index */
+    IIM_SHORT = 5,       /**< a buffer is too short: the answer has the lengths that are needed */
+    IIM_NO_MEMORY = 6,   /**< malloc failed */
+    IIM_BAD_TICKET = 7,  /**< not a ticket from which the call can continue: see the cause */
+    IIM_BAD_PACKING = 8, /**< the members of an iim_packing are invalid */
+    IIM_BAD_INSTANT = 9  /**< the members of an iim_instant are invalid */
 };
 
-/* The layer that refuses an octet. 0 where none does. */
+/** The layer that rejects a byte; 0 if no layer does. A head is a complete tag. */
 enum {
-    IIM_LAYER_DATASET = 1, /* tags, octet by octet */
-    IIM_LAYER_RECORD = 2,  /* heads, and the values of records 1, 2, 7 and 9 */
-    IIM_LAYER_LIMITS = 3,  /* heads: how much records 1 and 2 have, and how many subfiles there are */
-    IIM_LAYER_OBJECT = 4,  /* the sizes of the object */
-    IIM_LAYER_MESSAGE = 5, /* the octets of the object, and its end */
-    IIM_LAYER_STORY = 6,   /* the octets of the text, and its end */
-    IIM_LAYER_OUTSIDE = 7  /* not the octets: what stands around them */
+    IIM_LAYER_DATASET = 1, /**< tags, byte by byte */
+    IIM_LAYER_RECORD = 2,  /**< heads, and the values of records 1, 2, 7 and 9 */
+    IIM_LAYER_LIMITS = 3,  /**< heads: limits on records 1 and 2 and on the number of subfiles */
+    IIM_LAYER_OBJECT = 4,  /**< the sizes of the object */
+    IIM_LAYER_MESSAGE = 5, /**< the bytes of the object, and its end */
+    IIM_LAYER_STORY = 6,   /**< the bytes of the text, and its end */
+    IIM_LAYER_OUTSIDE = 7  /**< errors that are not in the bytes: a failed read or write, memory */
 };
 
-/*
- * The answer of a call. The causes are the numbers of docs/CAUSES.md; their
- * names are told by iim_cause_name.
+/**
+ * The result of a call. `cause` is a number of docs/CAUSES.md; iim_cause_name() returns its name.
  */
 typedef struct iim_answer {
-    uint8_t status;  /* IIM_DONE, IIM_MORE, .. */
-    uint8_t layer;   /* IIM_REFUSED, IIM_TRUNCATED: IIM_LAYER_DATASET, .. */
-    uint8_t cause;   /* IIM_REFUSED, IIM_TRUNCATED, IIM_BAD_TICKET: the number of the cause */
-    uint8_t rec;     /* IIM_REFUSED, IIM_TRUNCATED: the record of the dataset that is named, or 0 */
-    uint8_t set;     /* and its number in that record, or 0 */
-    uint64_t octet;  /* how many octets the envelope has so far; IIM_REFUSED: the offset of the octet, or a script's line */
-    size_t used;     /* how many octets of the piece were used */
-    size_t written;  /* how many octets of text or of a packed form, or how many rows, were written; IIM_SHORT: how many there are */
-    size_t ticket;   /* how many octets of a ticket were written; IIM_SHORT: how many there are */
+    uint8_t status; /**< IIM_DONE, IIM_MORE, ... */
+    uint8_t layer;  /**< IIM_REFUSED, IIM_TRUNCATED: IIM_LAYER_DATASET, ... */
+    uint8_t cause;  /**< IIM_REFUSED, IIM_TRUNCATED, IIM_BAD_TICKET: the number of the cause */
+    uint8_t rec;    /**< IIM_REFUSED, IIM_TRUNCATED: record of the dataset concerned, or 0 */
+    uint8_t set;    /**< number of that dataset within its record, or 0 */
+    /** Length of the envelope so far. IIM_REFUSED: offset of the byte, or line of a script. */
+    uint64_t octet;
+    size_t used; /**< number of bytes of the chunk that were consumed */
+    /**
+     * Number of bytes of text or of a packed form, of rows or of datasets that were written.
+     * IIM_SHORT: number of those that there are.
+     */
+    size_t written;
+    size_t ticket; /**< number of bytes of a ticket that were written; IIM_SHORT: its length */
 } iim_answer;
 
-/*
- * The most that records 1 and 2 of an envelope may have together. A member that
- * is 0 stands for the limit of wire copy: 65,536 octets, 512 datasets. So
- * `(iim_limits){0, 0}` are the limits of the command.
+/**
+ * The limits on records 1 and 2 of an envelope, together. A member that is 0 selects the limit of
+ * wire copy: 65,536 bytes, 512 datasets. So `(iim_limits){0, 0}` are the limits of the command.
  */
 typedef struct iim_limits {
-    uint32_t octets; /* octets of data */
-    uint32_t fields; /* datasets */
+    uint32_t octets; /**< bytes of data */
+    uint32_t fields; /**< number of datasets */
 } iim_limits;
 
-/* ---- Taking envelopes apart */
+/* ---- Reading envelopes */
 
-/*
- * Tells what the octets, which all lie in memory, begin with.
+/**
+ * Checks the envelope at the beginning of a buffer.
  *
- *   limits   the limits under which they are read
- *   octets   the octets, len of them
- *   answer   is written
+ * @param limits  limits on records 1 and 2
+ * @param octets  the bytes to check
+ * @param len     number of bytes
+ * @param answer  receives the result
  *
- * IIM_DONE: an envelope of answer->octet octets; used is the same number.
- * What follows it was not looked at.
- * IIM_REFUSED: the octet at the offset answer->octet is refused, with layer,
- * cause, rec and set.
- * IIM_TRUNCATED: there are too few octets: answer->octet of them, all fitting.
- * The cause is 3, and rec and set name the begun dataset. No octets at all are
- * truncated, too.
- * IIM_NO_MEMORY.
+ * Status:
+ * - IIM_DONE: the buffer begins with an envelope of `answer->octet` bytes; `used` is the same
+ *   number. The bytes after it were not read.
+ * - IIM_REFUSED: the byte at offset `answer->octet` is rejected; `layer`, `cause`, `rec` and `set`
+ *   are written.
+ * - IIM_TRUNCATED: the envelope is incomplete: all `answer->octet` bytes are valid so far. The
+ *   cause is 3, and `rec` and `set` name the partial dataset. An empty buffer is truncated, too.
+ * - IIM_NO_MEMORY.
  */
 void iim_check(iim_limits limits, const uint8_t *octets, size_t len, iim_answer *answer);
 
-/*
- * Takes the next octets of an envelope.
+/**
+ * Reads the next chunk of an envelope.
  *
- *   limits      the limits under which they are read: for each piece of an
- *               envelope the same
- *   ticket      the ticket of the place that the octets so far have led to,
- *               ticket_len octets; none (length 0) begins a new envelope
- *   at          how many octets came before: 0 with no ticket, and else
- *               the octet of the answer that the ticket came with
- *   piece       the next octets, piece_len of them; they may be none
- *   text_out    where the octets of the story in this piece go, its lines
- *               joined by LF; there are never more of them than the piece has
- *   ticket_out  where the next ticket goes: at most limits.octets +
- *               6 * limits.fields + 256 octets
- *   answer      is written
+ * @param limits          limits on records 1 and 2, the same for every chunk of an envelope
+ * @param ticket          the ticket that the previous call wrote
+ * @param ticket_len      its length in bytes; 0 begins a new envelope
+ * @param at              number of bytes of the envelope before this chunk: 0 without a ticket,
+ *                        otherwise `octet` of the answer that came with the ticket
+ * @param piece           the chunk, which may be empty
+ * @param piece_len       its length in bytes
+ * @param text_out        receives the bytes of the story in this chunk, with LF between its lines;
+ *                        they are never more than `piece_len`
+ * @param text_len        capacity of `text_out`
+ * @param ticket_out      receives the next ticket, of at most limits.octets + 6 * limits.fields +
+ *                        256 bytes, with the default for a limit that is 0
+ * @param ticket_out_len  capacity of `ticket_out`
+ * @param answer          receives the result
  *
- * IIM_MORE: all octets of the piece were used; written octets of the story
- * stand in text_out, the next ticket of answer->ticket octets stands in
- * ticket_out, and the envelope has octet octets so far.
- * IIM_DONE: the same, but that the envelope ends after used octets of the
- * piece. Those after them are the next envelope's, or another's. The ticket is
- * that of the whole envelope: iim_field, iim_header and iim_sizes tell of it;
- * feeding it again uses no octet and is IIM_DONE again. The next envelope begins
- * with no ticket.
- * IIM_REFUSED: octet tells the offset of the refused one, counted by at from the
- * envelope's first, with layer, cause, rec and set. written octets of the story,
- * from before it, stand in text_out. There is no next ticket.
- * IIM_SHORT: a buffer is too short. written tells how many octets of the story
- * there are, and ticket how many of the next ticket (0 where an octet is
- * refused, once its text has room).
- * IIM_BAD_TICKET: cause 100 (no ticket), 101 (of another version), 102 (of a
- * place where no envelope can be), 50 or 51 (it passes the limits).
- * IIM_NO_MEMORY: nothing of the piece counts as used.
+ * Status:
+ * - IIM_MORE: all bytes of the chunk were consumed. `text_out` has `written` bytes of the story,
+ *   `ticket_out` the next ticket of `ticket` bytes, and the envelope has `octet` bytes so far.
+ * - IIM_DONE: as IIM_MORE, but the envelope ends after `used` bytes of the chunk. The bytes after
+ *   them belong to the next envelope, or to something else. The ticket is that of the complete
+ *   envelope: iim_fields(), iim_header() and iim_sizes() read it; feeding it again consumes no
+ *   byte and returns IIM_DONE again. The next envelope begins without a ticket.
+ * - IIM_REFUSED: `octet` is the offset of the rejected byte from the first byte of the envelope,
+ *   computed from `at`; `layer`, `cause`, `rec` and `set` are written. `text_out` has the
+ *   `written` bytes of the story before it. There is no next ticket.
+ * - IIM_SHORT: a buffer is too short. `written` is the number of bytes of the story, and `ticket`
+ *   the length of the next ticket (0 if a byte is rejected, which the same call reports when the
+ *   text fits).
+ * - IIM_BAD_TICKET: cause 100 (not a ticket), 101 (of another version), 102 (of a state that no
+ *   envelope reaches), 50 or 51 (it exceeds the limits).
+ * - IIM_NO_MEMORY: no byte of the chunk counts as consumed.
  *
- * Each call takes memory for what the limits allow, and for the next ticket where
- * ticket_out is too short for it, and frees it. So small pieces cost more than
- * large ones: blocks of 4,096 octets and more are good.
+ * After IIM_SHORT, IIM_BAD_TICKET and IIM_NO_MEMORY the contents of `text_out` and `ticket_out` are
+ * unspecified, and so are those of `ticket_out` after IIM_REFUSED.
+ *
+ * Each call allocates what the limits allow, in two requests, and frees it; writing the next ticket
+ * allocates nothing. So small chunks cost more than large ones: use 4,096 bytes or more.
  */
 void iim_feed(iim_limits limits, const uint8_t *ticket, size_t ticket_len, uint64_t at,
               const uint8_t *piece, size_t piece_len, uint8_t *text_out, size_t text_len,
               uint8_t *ticket_out, size_t ticket_out_len, iim_answer *answer);
 
-/*
- * Tells what it means that the input ends after the octets that have led to a
- * ticket. Arguments as in iim_feed.
+/**
+ * Checks whether the input may end in the state of a ticket.
  *
- * IIM_DONE: the envelope has ended.
- * IIM_TRUNCATED: it has not; octet is at, the cause 3, and rec and set name the
- * begun dataset. So it is with no ticket, too: a caller that has begun nothing
- * need not ask.
- * IIM_BAD_TICKET, with the cause. IIM_NO_MEMORY.
+ * @param limits      limits on records 1 and 2, as for iim_feed()
+ * @param ticket      the ticket that the last call wrote
+ * @param ticket_len  its length in bytes, or 0
+ * @param at          number of bytes of the envelope so far, as for iim_feed()
+ * @param answer      receives the result
+ *
+ * Status:
+ * - IIM_DONE: the envelope is complete.
+ * - IIM_TRUNCATED: the envelope is incomplete. `octet` is `at`, the cause is 3, and `rec` and `set`
+ *   name the partial dataset. The status is the same without a ticket: a caller that has passed no
+ *   byte of an envelope need not call.
+ * - IIM_BAD_TICKET, with the cause.
+ * - IIM_NO_MEMORY.
  */
 void iim_end(iim_limits limits, const uint8_t *ticket, size_t ticket_len, uint64_t at,
              iim_answer *answer);
 
-/* ---- What a ticket tells */
+/* ---- Reading a ticket */
 
-/* So many octets of a ticket, from this offset on. */
+/** A slice of a ticket: `count` bytes from `offset` on. */
 typedef struct iim_span {
     size_t offset;
     size_t count;
 } iim_span;
 
-/* A dataset of records 1 and 2: its record, its number and its data. */
+/** A dataset of records 1 and 2: its record, its number and its data. */
 typedef struct iim_dataset {
     uint8_t rec;
     uint8_t set;
     iim_span data;
 } iim_dataset;
 
-/*
- * Tells the dataset with the index n (0 is the first) of those of records 1 and
- * 2 that have ended, in the order in which they came. The data are the octets
- * ticket[dataset->data.offset] and so on. A caller that wants all of them asks
- * for 0, 1, 2 and so on, up to IIM_NONE.
+/**
+ * Writes the complete datasets of records 1 and 2 into an array, in the order received, and reads
+ * the ticket once. The data of dataset k begin at `ticket[datasets[k].data.offset]`.
  *
- * IIM_DONE: *dataset is written.
- * IIM_NONE: there are no more than n; all members of *dataset are 0.
- * IIM_BAD_TICKET: cause 100 or 101; all members of *dataset are 0. No memory is
- * taken, and it is not asked whether an envelope can be at the ticket's place.
+ * @param ticket        the ticket
+ * @param ticket_len    its length in bytes
+ * @param from          index of the first dataset to write; 0 for all
+ * @param datasets      receives the datasets
+ * @param datasets_len  capacity of `datasets`
+ * @param answer        receives the result
+ *
+ * Status:
+ * - IIM_DONE: `datasets` has all datasets from the index `from` on, `answer->written` of them; 0
+ *   if there are no more than `from`.
+ * - IIM_SHORT: there are `answer->written` of them, more than `datasets_len`. The first
+ *   `datasets_len` of them are in `datasets`. So a call with `datasets_len` 0 returns how many
+ *   there are, and a call with `from` raised by `datasets_len` writes the next ones.
+ * - IIM_BAD_TICKET: cause 100 or 101; `datasets` is unchanged.
+ *
+ * The entries of `datasets` after those written are unchanged. The function allocates no memory,
+ * and its time grows with the length of the ticket, whatever `from` and `datasets_len` are. As
+ * iim_field(), it does not check whether an envelope can be in the state that the ticket encodes.
+ */
+void iim_fields(const uint8_t *ticket, size_t ticket_len, size_t from, iim_dataset *datasets,
+                size_t datasets_len, iim_answer *answer);
+
+/**
+ * Writes one of the datasets that iim_fields() writes. Each call reads the ticket from its
+ * beginning, so a loop over all indexes takes time that grows with the square of the number of
+ * datasets: use iim_fields() to read more than a few.
+ *
+ * @param ticket      the ticket
+ * @param ticket_len  its length in bytes
+ * @param n           index of the dataset, from 0
+ * @param dataset     receives the dataset
+ * @param answer      receives the result
+ *
+ * Status:
+ * - IIM_DONE: `*dataset` is written.
+ * - IIM_NONE: there are no more than `n` datasets; all members of `*dataset` are 0.
+ * - IIM_BAD_TICKET: cause 100 or 101; all members of `*dataset` are 0.
+ *
+ * The function allocates no memory, and does not check whether an envelope can be in the state
+ * that the ticket encodes.
  */
 void iim_field(const uint8_t *ticket, size_t ticket_len, size_t n, iim_dataset *dataset,
                iim_answer *answer);
 
-/* The parts of a message, as iim_message counts them. */
+/** The parts of a message, as iim_message numbers them. */
 enum {
     IIM_PART_FILLER = 0,
     IIM_PART_SOURCE = 1,
@@ -220,14 +271,14 @@ enum {
     IIM_PART_WORDS = 6,
     IIM_PART_INFO = 7,
     IIM_PART_GAP = 8,
-    IIM_PART_TEXT = 9,      /* from here on the header is whole */
+    IIM_PART_TEXT = 9,      /**< from this part on the header is complete */
     IIM_PART_TRAILER = 10,
-    IIM_PART_AFTER_END = 11 /* here the trailer is whole */
+    IIM_PART_AFTER_END = 11 /**< in this part the trailer is complete */
 };
 
-/* The header and the trailer of a message, as far as they have come. */
+/** The header and the trailer of a message, as far as they were received. */
 typedef struct iim_message {
-    uint8_t part; /* the part that the octets so far have led to: IIM_PART_TEXT, .. */
+    uint8_t part; /**< the part that the input has reached: IIM_PART_TEXT, ... */
     iim_span source;
     iim_span number;
     iim_span priority;
@@ -237,206 +288,244 @@ typedef struct iim_message {
     iim_span trailer;
 } iim_message;
 
-/*
- * Tells the header and the trailer of the message, as far as they have come:
- * what has not come has no octets.
+/**
+ * Returns the header and the trailer of the message, as far as they were received. A part that was
+ * not received has a count of 0.
  *
- * IIM_DONE: *message is written.
- * IIM_BAD_TICKET: cause 100 or 101; all members of *message are 0.
+ * @param ticket      the ticket
+ * @param ticket_len  its length in bytes
+ * @param message     receives the header and the trailer
+ * @param answer      receives the result
+ *
+ * Status:
+ * - IIM_DONE: `*message` is written.
+ * - IIM_BAD_TICKET: cause 100 or 101; all members of `*message` are 0.
  */
 void iim_header(const uint8_t *ticket, size_t ticket_len, iim_message *message, iim_answer *answer);
 
-/* The sizes of an object, as far as they have come. A number that has not come is 0. */
+/** The sizes of an object, as far as they were received. A number that was not received is 0. */
 typedef struct iim_object {
-    bool has_mode;      /* 7:10 has come */
-    bool has_subfile;   /* 7:20 */
-    bool has_announced; /* 7:90 */
-    bool has_maximum;   /* 7:95 */
-    uint64_t mode;      /* 7:10: 1 where the size is known at the start, else 0 */
-    uint64_t subfile;   /* 7:20: the largest size of a subfile */
-    uint64_t announced; /* 7:90: the size that is announced */
-    uint64_t maximum;   /* 7:95: the greatest size that is allowed */
-    uint64_t subfiles;  /* how many subfiles have begun */
-    uint64_t octets;    /* how many octets of the object have come */
+    bool has_mode;      /**< whether 7:10 was received */
+    bool has_subfile;   /**< whether 7:20 was received */
+    bool has_announced; /**< whether 7:90 was received */
+    bool has_maximum;   /**< whether 7:95 was received */
+    uint64_t mode;      /**< 7:10: 1 if the size is known at the start, otherwise 0 */
+    uint64_t subfile;   /**< 7:20: the largest size of a subfile */
+    uint64_t announced; /**< 7:90: the announced size */
+    uint64_t maximum;   /**< 7:95: the largest size that is allowed */
+    uint64_t subfiles;  /**< number of subfiles, a partial one included */
+    uint64_t octets;    /**< number of bytes of the object that were received */
 } iim_object;
 
-/*
- * Tells the sizes of the object, as far as they have come.
+/**
+ * Returns the sizes of the object, as far as they were received.
  *
- * IIM_DONE: *object is written.
- * IIM_BAD_TICKET: cause 100 or 101; all members of *object are 0.
+ * @param ticket      the ticket
+ * @param ticket_len  its length in bytes
+ * @param object      receives the sizes
+ * @param answer      receives the result
+ *
+ * Status:
+ * - IIM_DONE: `*object` is written.
+ * - IIM_BAD_TICKET: cause 100 or 101; all members of `*object` are 0.
  */
 void iim_sizes(const uint8_t *ticket, size_t ticket_len, iim_object *object, iim_answer *answer);
 
-/* ---- What stands at a ticket, and what can come next */
+/* ---- The state of a ticket, and the bytes that are accepted next */
 
-/*
- * A set of octets, as a map of 256 bits: the octet o is in it where bit o % 8 of
- * bits[o / 8] is set, bit 0 being the lowest.
+/**
+ * A set of bytes, as a bitmap of 256 bits: it contains the byte o if bit o % 8 of `bits[o / 8]` is
+ * set. Bit 0 is the lowest.
  */
 typedef struct iim_octet_set {
     uint8_t bits[32];
 } iim_octet_set;
 
-/*
- * Tells which octets can come next after the octets that have led to a ticket,
- * or, with no ticket, at the beginning of an envelope. Arguments as in iim_feed.
+/**
+ * Returns the bytes that are accepted next in the state of a ticket or, without a ticket, at the
+ * beginning of an envelope.
  *
- * IIM_MORE: the octet o is in *next exactly where iim_feed from that ticket
- * would take it, and every layer could continue or the envelope would end; each
- * other octet would be refused. So it is whichever octets have led there.
- * IIM_DONE: the envelope has ended, and takes no octet: *next has none.
- * IIM_BAD_TICKET, with the cause. IIM_NO_MEMORY. *next has none.
+ * @param limits      limits on records 1 and 2, as for iim_feed()
+ * @param ticket      the ticket
+ * @param ticket_len  its length in bytes, or 0
+ * @param next        receives the set of bytes
+ * @param answer      receives the result
  *
- * Each of the 256 octets is tried from the ticket: it takes the time of so many
- * calls of iim_feed.
+ * Status:
+ * - IIM_MORE: `*next` contains exactly the bytes that iim_feed() accepts from this ticket, after
+ *   which every layer can continue or the envelope ends; it rejects every other byte. This holds
+ *   whichever bytes have reached the state.
+ * - IIM_DONE: the envelope is complete, and no byte is accepted: `*next` is empty.
+ * - IIM_BAD_TICKET, with the cause: `*next` is empty.
+ * - IIM_NO_MEMORY: `*next` is empty.
+ *
+ * The function tries each of the 256 bytes, and takes as long as 256 calls of iim_feed().
  */
 void iim_next(iim_limits limits, const uint8_t *ticket, size_t ticket_len, iim_octet_set *next,
               iim_answer *answer);
 
-/* What is begun at a place. */
+/** What is in progress in the state of a ticket. */
 enum {
-    IIM_BEGUN_NOTHING = 0, /* nothing: it is between datasets */
-    IIM_BEGUN_TAG = 1,     /* a tag, of which some octets have come */
-    IIM_BEGUN_DATA = 2,    /* the data of a dataset, of which some octets are to come */
-    IIM_BEGUN_ENDED = 3    /* nothing: the envelope has ended */
+    IIM_BEGUN_NOTHING = 0, /**< nothing: the state is between datasets */
+    IIM_BEGUN_TAG = 1,     /**< a tag, of which some bytes were received */
+    IIM_BEGUN_DATA = 2,    /**< the data of a dataset, of which some bytes are remaining */
+    IIM_BEGUN_ENDED = 3    /**< nothing: the envelope is complete */
 };
 
-/*
- * What is begun at a place, and where in the message it is. A member that is not
- * spoken of is 0.
+/**
+ * What is in progress in the state of a ticket, and the position within the message. Members that
+ * are not mentioned are 0.
  */
 typedef struct iim_begun {
-    uint8_t kind;    /* IIM_BEGUN_NOTHING, .. */
-    uint8_t section; /* the record of the last whole head, or 0 before the first */
-    uint8_t rec;     /* IIM_BEGUN_TAG, IIM_BEGUN_DATA: the record of the dataset, or 0 where it isn't read */
-    uint8_t set;     /* and its number in that record, or 0 */
-    uint8_t part;    /* the part of the message: IIM_PART_TEXT, .. */
-    uint8_t counter; /* IIM_PART_FILLER, IIM_PART_AFTER_END: the octets of filler so far; IIM_PART_GAP: those of the gap */
-    uint8_t flag;    /* IIM_PART_GAP: 1 once an LF was read; IIM_PART_TEXT: how many CR are held, 0 to 2 */
-    uint64_t count;  /* IIM_BEGUN_DATA: how many octets the data have */
-    uint64_t came;   /* IIM_BEGUN_TAG, IIM_BEGUN_DATA: how many octets of the tag, or of the data, have come */
-    uint64_t left;   /* IIM_BEGUN_DATA: how many are to come */
-    uint64_t first;  /* the offset of the first octet of the tag, or of the data, from the envelope's first octet */
-    uint64_t token;  /* the offset of the first octet of what the next octet belongs to, see below */
-    iim_span octets; /* where the octets that have come of it stand in the ticket: of a subfile, 8:10, none do */
+    uint8_t kind;    /**< IIM_BEGUN_NOTHING, ... */
+    uint8_t section; /**< record of the last complete head, or 0 before the first */
+    /** IIM_BEGUN_TAG, IIM_BEGUN_DATA: record of the dataset, or 0 if it was not read yet. */
+    uint8_t rec;
+    uint8_t set;  /**< number of that dataset within its record, or 0 if it was not read yet */
+    uint8_t part; /**< the part of the message: IIM_PART_TEXT, ... */
+    /** IIM_PART_FILLER, IIM_PART_AFTER_END: bytes of filler so far; IIM_PART_GAP: of the gap. */
+    uint8_t counter;
+    /** IIM_PART_GAP: 1 after an LF; IIM_PART_TEXT: number of pending CR, 0 to 2. */
+    uint8_t flag;
+    uint64_t count; /**< IIM_BEGUN_DATA: length of the data */
+    uint64_t came;  /**< IIM_BEGUN_TAG, IIM_BEGUN_DATA: bytes of the tag or data received so far */
+    uint64_t left;  /**< IIM_BEGUN_DATA: number of bytes of the data that are remaining */
+    uint64_t first; /**< offset within the envelope of the first byte of the tag or of the data */
+    uint64_t token; /**< offset of the token that the next byte belongs to, see iim_place() */
+    /** The received bytes of the tag or of the data, in the ticket; a subfile, 8:10, has none. */
+    iim_span octets;
 } iim_begun;
 
-/*
- * Tells what is begun at the place of a ticket, at octets being those that came
- * before, as in iim_feed.
+/**
+ * Returns what is in progress in the state of a ticket.
  *
- * The layers look at a tag, at a value and at an octet of a subfile as a whole:
- * these are the tokens. The token that the next octet belongs to begins at
- * begun->token. So where iim_feed refuses an octet, and the ticket is that of the
- * place just before it, the refused token begins there: it is the tag, the value
- * of a dataset or, in a subfile, the octet itself. A value of no octets is looked
- * at with the last octet of its tag, and stands for that.
+ * The layers check a tag, a value, or a byte of a subfile as a unit, a token. The token that the
+ * next byte belongs to begins at `begun->token`. So if iim_feed() rejects a byte, and the ticket is
+ * that of the state just before it, the rejected token begins there: it is the tag, the value of a
+ * dataset or, within a subfile, the byte itself. An empty value is checked with the last byte of
+ * its tag, so the token is then the tag.
  *
- * The tag of data that have begun is not kept in a ticket, and how many octets
- * it had isn't told: a count can be written in several ways.
+ * A ticket does not store the tag of partial data, nor the length of that tag: a count can be
+ * encoded in several ways.
  *
- * IIM_DONE: *begun is written.
- * IIM_BAD_TICKET: cause 100 or 101; all members of *begun are 0. No memory is
- * taken, and it is not asked whether an envelope can be at the ticket's place.
+ * @param ticket      the ticket
+ * @param ticket_len  its length in bytes
+ * @param at          number of bytes of the envelope so far, as for iim_feed()
+ * @param begun       receives what is in progress
+ * @param answer      receives the result
+ *
+ * Status:
+ * - IIM_DONE: `*begun` is written.
+ * - IIM_BAD_TICKET: cause 100 or 101; all members of `*begun` are 0.
+ *
+ * The function allocates no memory, and does not check whether an envelope can be in the state
+ * that the ticket encodes.
  */
 void iim_place(const uint8_t *ticket, size_t ticket_len, uint64_t at, iim_begun *begun,
                iim_answer *answer);
 
 /* ---- Audits */
 
-/* An instant, from 1970-01-01T00:00:00Z on. */
+/** An instant, relative to 1970-01-01T00:00:00Z. */
 typedef struct iim_instant {
-    int64_t second;      /* the whole seconds, rounded down: below zero before then */
-    uint32_t nanosecond; /* the nanoseconds after that second, below 1,000,000,000 */
+    int64_t second;      /**< whole seconds, rounded down: below zero for earlier instants */
+    uint32_t nanosecond; /**< nanoseconds after that second, below 1,000,000,000 */
 } iim_instant;
 
-/*
- * What is kept beside a ticket of iim_audit, of the envelope in hand. With no
- * ticket only at is looked at. `(iim_so_far){0}` begins an input.
+/**
+ * The state of an audit beside a ticket of iim_audit(), for the envelope in progress. Without a
+ * ticket only `at` is read. `(iim_so_far){0}` begins an input.
  */
 typedef struct iim_so_far {
-    uint64_t at;     /* the offset in the input at which the envelope begins */
-    uint64_t octets; /* how many octets of it have come: 0 where none is begun */
-    uint64_t words;  /* how many words were counted in them */
-    bool inside;     /* whether they end inside a word */
+    uint64_t at;     /**< offset in the input of the first byte of the envelope */
+    uint64_t octets; /**< number of bytes of it that were received: 0 if none is in progress */
+    uint64_t words;  /**< number of words counted in them */
+    bool inside;     /**< whether they end inside a word */
 } iim_so_far;
 
-/* Whether the copy of an envelope may be used. */
+/** Whether the copy of an envelope may be used. */
 enum {
-    IIM_COPY_FREE = 0,   /* it may */
-    IIM_COPY_HELD = 1,   /* its release is after the instant of the audit */
-    IIM_COPY_EXPIRED = 2 /* it is not held, and that instant is after its expiration */
+    IIM_COPY_FREE = 0,   /**< it may be used */
+    IIM_COPY_HELD = 1,   /**< its release is after the instant of the audit */
+    IIM_COPY_EXPIRED = 2 /**< it is not held, and that instant is after its expiration */
 };
 
-/*
- * What is told of an envelope, as in a row of `iimwire audit`, but which earlier
- * one it repeats. A member that is not spoken of is 0.
+/**
+ * The columns of `iimwire audit` for an envelope, except the number of the earlier envelope that it
+ * repeats. Members that are not mentioned are 0.
  */
 typedef struct iim_audit_row {
-    uint64_t at;            /* the offset in the input at which it begins */
-    uint64_t octets;        /* how many octets it has */
-    uint64_t size;          /* the octets of its object */
-    uint64_t subfiles;      /* the subfiles of its object */
-    uint64_t announced;     /* the words that its message announces */
-    uint64_t counted;       /* the words of its story: the longest runs, inside one line, of octets other than SP and TAB */
-    int64_t age;            /* has_age: how many whole seconds ago it was sent, rounded down, below zero for the future */
-    iim_instant release;    /* has_release: the instant from which on its copy may be used */
-    iim_instant expires;    /* has_expires: the last instant at which its copy may be used */
-    bool has_age;           /* whether it names the instant at which it was sent */
-    bool has_release;       /* whether it names a release */
-    bool has_expires;       /* whether it names an expiration */
-    uint8_t copy;           /* IIM_COPY_FREE, .. */
-    uint8_t priority;       /* the digit of 1:60, an ASCII character, or 0 where it was not sent */
-    uint8_t service_octets; /* how many octets 1:30 has */
-    uint8_t service[10];    /* 1:30 Service Identifier, and zeros after it */
-    uint8_t number[8];      /* 1:40 Envelope Number, eight digits */
-    uint8_t date_sent[8];   /* 1:70 Date Sent, eight digits */
+    uint64_t at;        /**< offset in the input of its first byte */
+    uint64_t octets;    /**< its length in bytes */
+    uint64_t size;      /**< number of bytes of its object */
+    uint64_t subfiles;  /**< number of subfiles of its object */
+    uint64_t announced; /**< number of words that its message announces */
+    /** Number of words of its story: the longest spans, within a line, without SP and TAB. */
+    uint64_t counted;
+    /** has_age: whole seconds since it was sent, rounded down, below zero for the future. */
+    int64_t age;
+    iim_instant release;    /**< has_release: the first instant at which its copy may be used */
+    iim_instant expires;    /**< has_expires: the last instant at which its copy may be used */
+    bool has_age;           /**< whether it states the instant at which it was sent */
+    bool has_release;       /**< whether it states a release */
+    bool has_expires;       /**< whether it states an expiration */
+    uint8_t copy;           /**< IIM_COPY_FREE, ... */
+    uint8_t priority;       /**< the digit of 1:60 as an ASCII character, or 0 if it was not sent */
+    uint8_t service_octets; /**< length of 1:30 */
+    uint8_t service[10];    /**< 1:30 Service Identifier, and zeros after it */
+    uint8_t number[8];      /**< 1:40 Envelope Number, eight digits */
+    uint8_t date_sent[8];   /**< 1:70 Date Sent, eight digits */
 } iim_audit_row;
 
-/*
- * Tells a row for each envelope that ends in a piece of an input: one envelope
- * after the other, with nothing between them. The pieces may be cut anywhere,
- * and the rows are the same for all cuts.
+/**
+ * Writes a row for each envelope that ends in a chunk of an input. The envelopes follow one
+ * another, with nothing between them. The chunks may be split anywhere, and the rows are the same
+ * for every split.
  *
- *   limits      the limits under which they are read: for each piece of an
- *               input the same
- *   ticket      the ticket of the place that the octets so far have led to,
- *               ticket_len octets; none (length 0) begins a new envelope
- *   so_far      what came with the ticket; it is written
- *   piece       the next octets, piece_len of them; they may be none
- *   now         the instant at which ages and copies are looked at
- *   rows        where the rows go, rows_len of them at most
- *   ticket_out  where the next ticket goes: at most limits.octets +
- *               6 * limits.fields + 256 octets
- *   answer      is written
+ * @param limits          limits on records 1 and 2, the same for every chunk of an input
+ * @param ticket          the ticket that the previous call wrote
+ * @param ticket_len      its length in bytes; 0 begins a new envelope
+ * @param so_far          the state that the call that wrote the ticket left in it. It is not
+ *                        checked, and the rows are wrong if it belongs to another ticket. It is
+ *                        written
+ * @param piece           the chunk, which may be empty
+ * @param piece_len       its length in bytes
+ * @param now             the instant to compute ages and the use of copies for
+ * @param rows            receives the rows
+ * @param rows_len        capacity of `rows`
+ * @param ticket_out      receives the next ticket, of at most limits.octets + 6 * limits.fields +
+ *                        256 bytes, with the default for a limit that is 0
+ * @param ticket_out_len  capacity of `ticket_out`
+ * @param answer          receives the result
  *
- * IIM_MORE: all octets of the piece were used. The rows of the envelopes that
- * end in it stand in rows, answer->written of them, fewer than rows_len. The next
- * ticket, of answer->ticket octets, stands in ticket_out, *so_far is what is kept
- * beside it, and octet is so_far->octets. Where that is 0 no envelope is begun,
- * and the input may end there; else iim_end tells how it is truncated.
- * IIM_DONE: the same, but that rows is full: answer->written is rows_len. Only
- * the octets of these envelopes were used, answer->used of them, so that no
- * envelope is begun. The call continues with the others, and the next ticket. With
- * rows_len 0 no octet is used.
- * IIM_REFUSED: octet tells the offset of the refused one, counted from the first
- * octet of its envelope, with layer, cause, rec and set. The rows of the
- * envelopes before it stand in rows, answer->written of them, and used tells how
- * many octets of the piece these had. so_far->at is the offset at which the
- * refused one begins, and its other members are 0. There is no next ticket.
- * IIM_SHORT: ticket_out is too short. ticket tells how many octets the next
- * ticket has. *so_far is as it was, and the same call can be made again.
- * IIM_BAD_TICKET: as for iim_feed; cause 0: the envelope has ended with the
- * octets of the ticket, which iim_feed gave.
- * IIM_BAD_INSTANT: now has more nanoseconds than a second, or lies outside the
- * years -9999 to 9999.
- * IIM_NO_MEMORY: nothing of the piece counts as used.
- * After these *so_far is as it was. Rows that are not spoken of are as they
- * were, but after IIM_NO_MEMORY and IIM_SHORT.
+ * Status:
+ * - IIM_MORE: all bytes of the chunk were consumed. `rows` has the rows of the envelopes that end
+ *   in it, `answer->written` of them, fewer than `rows_len`. `ticket_out` has the next ticket, of
+ *   `answer->ticket` bytes, `*so_far` the state beside it, and `octet` is `so_far->octets`. If that
+ *   is 0, no envelope is in progress, and the input may end there; otherwise iim_end() returns how
+ *   it is truncated.
+ * - IIM_DONE: as IIM_MORE, but `rows` is full: `answer->written` is `rows_len`. Only the bytes of
+ *   these envelopes were consumed, `answer->used` of them, so no envelope is in progress. Call
+ *   again with the remaining bytes and the next ticket. With `rows_len` 0 no byte is consumed.
+ * - IIM_REFUSED: `octet` is the offset of the rejected byte from the first byte of its envelope;
+ *   `layer`, `cause`, `rec` and `set` are written. `rows` has the rows of the envelopes before it,
+ *   `answer->written` of them, and `used` is the number of bytes of the chunk that these had.
+ *   `so_far->at` is the offset at which the rejected envelope begins, and the other members of
+ *   `*so_far` are 0. There is no next ticket.
+ * - IIM_SHORT: `ticket_out` is too short. `ticket` is the length of the next ticket. `*so_far` is
+ *   unchanged, and the same call can be repeated.
+ * - IIM_BAD_TICKET: as for iim_feed(); cause 0: the ticket is that of a complete envelope, which
+ *   iim_feed() wrote. `*so_far` is unchanged.
+ * - IIM_BAD_INSTANT: `now` has more nanoseconds than a second, or is earlier than
+ *   -009999-01-02T01:59:59Z or later than 9999-12-30T22:00:00.999999999Z. `*so_far` is unchanged.
+ * - IIM_NO_MEMORY: no byte of the chunk counts as consumed. `*so_far` is unchanged.
  *
- * Each call takes memory for what the limits allow, once for all envelopes of the
- * piece, and for the next ticket where ticket_out is too short for it, and frees it.
+ * Rows that are not mentioned are unchanged, except after IIM_SHORT: then the answer counts the
+ * rows that were found, and these are in `rows`. The contents of `ticket_out` after the ticket are
+ * unspecified, and after any status other than IIM_DONE and IIM_MORE all of them are.
+ *
+ * Each call allocates what the limits allow, in two requests, once for all envelopes of the chunk,
+ * and frees it; writing the next ticket allocates nothing.
  */
 void iim_audit(iim_limits limits, const uint8_t *ticket, size_t ticket_len, iim_so_far *so_far,
                const uint8_t *piece, size_t piece_len, iim_instant now, iim_audit_row *rows,
@@ -444,46 +533,55 @@ void iim_audit(iim_limits limits, const uint8_t *ticket, size_t ticket_len, iim_
 
 /* ---- Packing */
 
-/* How an envelope is packed. `(iim_packing){0}` is what the command does where it is told nothing. */
+/** How to pack an envelope. `(iim_packing){0}` has the defaults of the command. */
 typedef struct iim_packing {
-    uint64_t subfile; /* octets of a full subfile; 0 stands for 1,024 */
-    bool unknown;     /* whether the size of the object is left unknown */
-    bool has_max;     /* whether a maximum is told of it, which only an unknown size has */
-    uint64_t max;     /* the maximum */
+    uint64_t subfile; /**< bytes of a full subfile; 0 selects 1,024 */
+    bool unknown;     /**< whether the envelope leaves the size of the object unknown */
+    bool has_max;     /**< whether the envelope states a maximum size, which needs `unknown` */
+    uint64_t max;     /**< the maximum size */
 } iim_packing;
 
-/*
- * Packs the envelope that a script tells, as `iimwire pack` does: the script is
- * a text of up to 16,777,216 octets in the form of docs/FORMAT.md.
+/**
+ * Packs the envelope that a script specifies, as `iimwire pack` does. The script is a text of up to
+ * 16,777,216 bytes in the form of docs/FORMAT.md.
  *
- *   packing  how it is packed
- *   script   the script, script_len octets
- *   out      where the envelope goes, out_len octets
- *   answer   is written
+ * @param packing     how to pack the envelope
+ * @param script      the script
+ * @param script_len  its length in bytes
+ * @param out         receives the envelope
+ * @param out_len     capacity of `out`
+ * @param answer      receives the result
  *
- * IIM_DONE: the envelope, of answer->written octets, stands in out.
- * IIM_SHORT: it has answer->written octets, more than out_len; out is as it was.
- * IIM_REFUSED: the line answer->octet of the script is wrong (counted from 1; 0:
- * the script is too long), by its cause; 80 PastAnnounced: the object has more octets than
- * are asked for. out is as it was.
- * IIM_BAD_PACKING: subfile or max is above 9,223,372,036,854,775,807, or a
- * maximum is told of a known size. out is as it was.
- * IIM_NO_MEMORY: out is as it was. Memory is taken for the datasets, the lines
- * and the envelope itself.
+ * Status:
+ * - IIM_DONE: `out` has the envelope, of `answer->written` bytes.
+ * - IIM_SHORT: the envelope has `answer->written` bytes, more than `out_len`; `out` is unchanged.
+ * - IIM_REFUSED: line `answer->octet` of the script is invalid (counted from 1; 0 if the script is
+ *   too long), for the reason `cause`; 80 PastAnnounced: the object has more bytes than `packing`
+ *   allows. `out` is unchanged.
+ * - IIM_BAD_PACKING: `subfile` or `max` is above 9,223,372,036,854,775,807, or a known size has a
+ *   maximum. `out` is unchanged.
+ * - IIM_NO_MEMORY: `out` is unchanged. Memory is allocated for the datasets, the lines and the
+ *   envelope itself.
  */
 void iim_pack(iim_packing packing, const uint8_t *script, size_t script_len, uint8_t *out,
               size_t out_len, iim_answer *answer);
 
-/*
- * Tells how many octets iim_pack would write: IIM_DONE with answer->written, or
- * any other of its statuses but IIM_SHORT.
+/**
+ * Returns the number of bytes that iim_pack() would write.
+ *
+ * @param packing     how to pack the envelope
+ * @param script      the script
+ * @param script_len  its length in bytes
+ * @param answer      receives the result
+ *
+ * Status: IIM_DONE, with `answer->written`, or any other status of iim_pack() except IIM_SHORT.
  */
 void iim_pack_size(iim_packing packing, const uint8_t *script, size_t script_len,
                    iim_answer *answer);
 
 /* ---- The tables */
 
-/* Which octets a dataset may have. docs/FORMAT.md tells of each kind which these are. */
+/** The bytes that a dataset may have. docs/FORMAT.md defines each kind. */
 enum {
     IIM_KIND_GRAPHIC = 1,
     IIM_KIND_SPACED = 2,
@@ -500,60 +598,99 @@ enum {
     IIM_KIND_SIZE_FROM_ONE = 13
 };
 
-/* Whether a dataset has to occur in its record. */
+/** Whether a record must have a dataset. */
 enum {
     IIM_DUTY_MANDATORY = 1,
     IIM_DUTY_OPTIONAL = 2,
-    IIM_DUTY_BY_MODE = 3 /* exactly where 7:10 says that the size is known at the start */
+    IIM_DUTY_BY_MODE = 3 /**< if and only if 7:10 states that the size is known at the start */
 };
 
-/* What the tables say of a dataset. */
+/** The row of a dataset in the tables. */
 typedef struct iim_rule {
-    uint64_t min; /* the least number of octets */
-    uint64_t max; /* the greatest number of octets */
-    uint8_t kind; /* IIM_KIND_GRAPHIC, .. */
-    uint8_t duty; /* IIM_DUTY_MANDATORY, .. */
-    bool repeats; /* whether it may occur more than once */
+    uint64_t min; /**< the least number of bytes */
+    uint64_t max; /**< the greatest number of bytes */
+    uint8_t kind; /**< IIM_KIND_GRAPHIC, ... */
+    uint8_t duty; /**< IIM_DUTY_MANDATORY, ... */
+    bool repeats; /**< whether it may occur more than once */
 } iim_rule;
 
-/*
- * Tells the row of the dataset rec:set. True where it has one: *rule is written.
- * Else false, and all members of *rule are 0. Takes no memory.
+/**
+ * Looks up the row of the dataset `rec`:`set`. Allocates no memory.
+ *
+ * @param rec   the record
+ * @param set   the number of the dataset within it
+ * @param rule  receives the row; all its members are 0 if there is no row
+ * @return      whether the dataset has a row
  */
 bool iim_row(uint8_t rec, uint8_t set, iim_rule *rule);
 
-/*
- * True exactly where the dataset rec:set has a row and the len octets are as it
- * says. Takes no memory.
+/**
+ * Checks whether bytes are a valid value of the dataset `rec`:`set`. Allocates no memory.
+ *
+ * @param rec     the record
+ * @param set     the number of the dataset within it
+ * @param octets  the value
+ * @param len     its length in bytes
+ * @return        true if and only if the dataset has a row and the bytes are as it requires
  */
 bool iim_admits(uint8_t rec, uint8_t set, const uint8_t *octets, size_t len);
 
 /* ---- Names */
 
 /*
- * The functions below write a name of ASCII characters with a NUL after it into
- * out, where it has room for both, and else leave out as it was. They return how
- * many characters the name has, without the NUL. Where there is no such name that
- * is 0, and the NUL alone is written. 64 octets are enough for each name. They
- * take no memory.
+ * Each function below writes a name of ASCII characters and a NUL into `out` if they fit, and
+ * otherwise leaves `out` unchanged. It returns the number of characters of the name, without the
+ * NUL. For a number that has no name it returns 0, and writes only the NUL. Every name and its NUL
+ * fit in 64 bytes. The functions allocate no memory.
  */
 
-/* The name of a cause by its number, as `CountRange` for 13. */
+/**
+ * Writes the name of a cause, such as `CountRange` for 13.
+ *
+ * @param cause  the number of the cause
+ * @param out    receives the name and a NUL, if they fit
+ * @param len    capacity of `out`
+ * @return       number of characters of the name, without the NUL; 0 if the cause is unknown
+ */
 size_t iim_cause_name(uint8_t cause, char *out, size_t len);
 
-/*
- * What a cause means, by its number, in a sentence with no point, as it stands in
- * docs/CAUSES.md. 128 octets are enough for each. Else as for a name.
+/**
+ * Writes the meaning of a cause, as in docs/CAUSES.md: a sentence without a full stop. Every
+ * sentence and its NUL fit in 128 bytes.
+ *
+ * @param cause  the number of the cause
+ * @param out    receives the sentence and a NUL, if they fit
+ * @param len    capacity of `out`
+ * @return       number of characters of the sentence, without the NUL; 0 if the cause is unknown
  */
 size_t iim_cause_text(uint8_t cause, char *out, size_t len);
 
-/* The name of a layer by its number, as `dataset` for IIM_LAYER_DATASET. */
+/**
+ * Writes the name of a layer, such as `dataset` for IIM_LAYER_DATASET.
+ *
+ * @param layer  the number of the layer
+ * @param out    receives the name and a NUL, if they fit
+ * @param len    capacity of `out`
+ * @return       number of characters of the name, without the NUL; 0 if the layer is unknown
+ */
 size_t iim_layer_name(uint8_t layer, char *out, size_t len);
 
-/* The name of a dataset that stands in the tables of the standard, as `Headline` for 2:105. */
+/**
+ * Writes the name of a dataset of the tables of the standard, such as `Headline` for 2:105.
+ *
+ * @param rec  the record
+ * @param set  the number of the dataset within it
+ * @param out  receives the name and a NUL, if they fit
+ * @param len  capacity of `out`
+ * @return     number of characters of the name, without the NUL; 0 if the dataset is unknown
+ */
 size_t iim_dataset_name(uint8_t rec, uint8_t set, char *out, size_t len);
 
-/* The version of the interface that the library has: IIM_VERSION. Takes no memory. */
+/**
+ * Returns the version of the interface that the library implements. Allocates no memory.
+ *
+ * @return  the IIM_VERSION of that interface
+ */
 uint32_t iim_version(void);
 
 #ifdef __cplusplus

@@ -1,38 +1,55 @@
 /*
- * The C half of bindings/test: a caller of every function of iim.h.
+ * The C half of bindings/test: calls every function of iim.h.
  *
- *   test check OCTETS FIELDS     answers of iim_check to the octets on standard input: batches, see below
- *   test feed OCTETS FIELDS      the same by iim_feed, octet by octet, and iim_end
- *   test streams FIRST LAST FILE   what `iimwire` prints of FILE, by pieces of each size from FIRST to LAST octets: see below
- *   test pack S U H M FILE       what `iimwire pack` writes, by these members of an iim_packing
- *   test places FILE             what iim_place and iim_next tell after each front of FILE, which is an envelope
- *   test audit FIRST LAST ROOM SECOND FILE   the rows of FILE, by pieces of these sizes with room for ROOM rows, at a second
- *   test texts                   the causes, each with what it means
- *   test admits                  answers of iim_admits to batches: record, number and octets
+ *   test check OCTETS FIELDS     results of iim_check for the batches on standard input, see below
+ *   test feed OCTETS FIELDS      the same with iim_feed, byte by byte, and iim_end
+ *   test streams FIRST LAST FILE   what `iimwire` prints for FILE, by chunks of each size from
+ *                                FIRST to LAST bytes, see below
+ *   test pack S U H M FILE       what `iimwire pack` writes, with these members of an iim_packing
+ *   test places FILE             results of iim_place and iim_next after each prefix of FILE, which
+ *                                is an envelope
+ *   test audit FIRST LAST ROOM SECOND FILE   the rows of FILE at the instant SECOND, by chunks of
+ *                                these sizes, with capacity for ROOM rows
+ *   test texts                   the causes, each with its meaning
+ *   test admits                  results of iim_admits for batches: record, number and bytes
  *   test tables                  rows and names by their numbers
- *   test values FILE SCRIPT      answers of each kind, by their numbers: FILE is the smallest envelope, SCRIPT its script
- *   test buffers FILE ..         tries buffers that are too short, tickets that are none, and memory that is refused
+ *   test values FILE SCRIPT      results of each kind, as numbers: FILE is the smallest envelope,
+ *                                SCRIPT its script
+ *   test buffers FILE ..         tries buffers that are too short, invalid tickets and failed
+ *                                allocations
  *
- * A batch is a number of four octets, low octet first, and so many octets. Of streams there stands for each size a line with the size, the
- * status, and how many octets `check`, `show` and `story` print; and then these. Of audits there is a line after each size, of RS and the size;
- * the status is that of each, or 3 where they differ.
+ * A batch is a count of four bytes, low byte first, and that many bytes. `streams` prints a line
+ * for each size, with the size, the status and the number of bytes that `check`, `show` and `story`
+ * print, and then these bytes. `audit` prints RS and the size after the rows of each size; the
+ * status is that of every size, or 3 if they differ.
+ *
+ * Compiled with GUARDED, each buffer that is passed to the library lies between pages that must not
+ * be accessed (guard.h): before the page after it or, with GUARD_BEFORE in the environment, after
+ * the page before it.
  */
 #define _DEFAULT_SOURCE
 #include "iim.h"
+#ifdef GUARDED
+#include "guard.h"
+#endif
 
 #include <inttypes.h>
 #include <stdio.h>
 #include <stdlib.h>
 #include <string.h>
 #include <sys/mman.h>
+#include <time.h>
 
 enum { TICKET = 65536 + 6 * 512 + 256 };
 
 static const iim_limits DEFAULTS = {0, 0};
 
-/* ---- Memory: malloc, realloc and free of the library are these */
+/* ---- Memory: the library calls these instead of malloc, realloc and free */
 
 static long allowed = -1;
+
+/* Number of requests since it was last set to 0. */
+static long requests;
 
 void *__real_malloc(size_t size);
 void *__wrap_malloc(size_t size);
@@ -40,6 +57,7 @@ void *__real_realloc(void *old, size_t size);
 void *__wrap_realloc(void *old, size_t size);
 
 static bool is_refused(void) {
+    requests++;
     if (allowed < 0)
         return false;
     if (allowed == 0)
@@ -48,7 +66,8 @@ static bool is_refused(void) {
     return false;
 }
 
-/* Requests of more than GREAT octets get addresses alone: a page of them takes memory once it is written. */
+/* Requests of more than GREAT bytes only reserve addresses: a page takes memory when it is
+ * written. */
 static const size_t GREAT = (size_t)1 << 30;
 
 static struct {
@@ -73,6 +92,10 @@ void __wrap_free(void *at);
 void *__wrap_malloc(size_t size) { return is_refused() ? NULL : size > GREAT ? great_room(size) : __real_malloc(size); }
 
 void __wrap_free(void *at) {
+#ifdef GUARDED
+    if (guarded_free(at))
+        return;
+#endif
     for (size_t i = 0; at != NULL && i < sizeof great / sizeof great[0]; i++) {
         if (great[i].at == at) {
             munmap(at, great[i].size);
@@ -85,7 +108,8 @@ void __wrap_free(void *at) {
 
 void *__wrap_realloc(void *old, size_t size) { return is_refused() ? NULL : __real_realloc(old, size); }
 
-/* The library's memmove: the sanitizer moves octets one by one, but copies them at once, and looks at the same ones for both. */
+/* The library's memmove: the sanitizer moves bytes one by one, but copies them at once, and checks
+ * the same bytes for both. */
 void *__real_memmove(void *to, const void *from, size_t count);
 void *__wrap_memmove(void *to, const void *from, size_t count);
 
@@ -101,8 +125,13 @@ typedef struct {
     size_t count;
 } octets;
 
-/* Octets in a buffer of just their number: a sanitizer sees each one that is read beyond. */
+/* Bytes in a buffer of exactly their number: a sanitizer reports every read beyond its end. */
 static octets room_for(size_t count) {
+#ifdef GUARDED
+    octets between = {guarded_room(count), count};
+    if (between.octets != NULL)
+        return between;
+#endif
     octets made = {malloc(count ? count : 1), count};
     if (made.octets == NULL)
         exit(3);
@@ -160,16 +189,18 @@ static receiver *new_receiver(void) {
     return r;
 }
 
-/* Feeds a piece; text goes to `to`, where that is a file. Buffers have just the room that they need. */
+/* Feeds a chunk, and writes its text to `to` unless that is null. Buffers have exactly the capacity
+ * that they need. */
 static iim_answer feed(receiver *r, iim_limits limits, const uint8_t *piece, size_t count, FILE *to) {
-    octets before = room_for(r->ticket), fed = room_for(count), text = room_for(count);
+    octets before = room_for(r->ticket), fed = room_for(count), text = room_for(count), told = room_for(sizeof(iim_answer));
     iim_answer answer;
     memcpy(before.octets, r->tickets[r->now], r->ticket);
     if (count > 0)
         memcpy(fed.octets, piece, count);
-    memset(&answer, 0xAA, sizeof answer);
+    memset(told.octets, 0xAA, told.count);
     iim_feed(limits, before.octets, before.count, r->at, fed.octets, fed.count, text.octets, text.count, r->tickets[!r->now],
-             TICKET, &answer);
+             TICKET, (iim_answer *)(void *)told.octets);
+    memcpy(&answer, told.octets, sizeof answer);
     if (answer.written > 0 && to != NULL)
         fwrite(text.octets, 1, answer.written, to);
     if (answer.status == IIM_MORE || answer.status == IIM_DONE) {
@@ -181,6 +212,7 @@ static iim_answer feed(receiver *r, iim_limits limits, const uint8_t *piece, siz
     free(before.octets);
     free(fed.octets);
     free(text.octets);
+    free(told.octets);
     return answer;
 }
 
@@ -207,17 +239,18 @@ static void print_number(FILE *to, bool has, uint64_t number) {
         putc('-', to);
 }
 
-/* What `iimwire show` prints of an envelope. */
+/* Prints what `iimwire show` prints for an envelope. */
 static void print_envelope(FILE *to, const receiver *r, long number) {
     const uint8_t *ticket = r->tickets[r->now];
     iim_answer answer;
-    iim_dataset d;
+    iim_dataset datasets[512];
     iim_message m;
     iim_object o;
     fprintf(to, "envelope %ld\n", number);
-    for (size_t n = 0; iim_field(ticket, r->ticket, n, &d, &answer), answer.status == IIM_DONE; n++) {
-        fprintf(to, "%d:%02d%s", d.rec, d.set, d.data.count > 0 ? " " : "");
-        print_span(to, ticket, "", d.data);
+    iim_fields(ticket, r->ticket, 0, datasets, 512, &answer);
+    for (size_t n = 0; answer.status == IIM_DONE && n < answer.written; n++) {
+        fprintf(to, "%d:%02d%s", datasets[n].rec, datasets[n].set, datasets[n].data.count > 0 ? " " : "");
+        print_span(to, ticket, "", datasets[n].data);
         putc('\n', to);
     }
     iim_header(ticket, r->ticket, &m, &answer);
@@ -237,10 +270,10 @@ static void print_envelope(FILE *to, const receiver *r, long number) {
     putc('\n', to);
 }
 
-/* What the command prints of a file: by `check`, by `show` and by `story`, on its output alone. */
+/* What the commands `check`, `show` and `story` print for a file on standard output. */
 enum { CHECK, SHOW, STORY, KINDS };
 
-/* Goes through a file as the command does, and answers its status. */
+/* Reads a file as the command does, and returns its status. */
 static int stream(FILE *const *to, octets file, size_t piece) {
     receiver *r = new_receiver();
     long number = 1;
@@ -271,7 +304,7 @@ static int stream(FILE *const *to, octets file, size_t piece) {
     return answer.status == IIM_DONE || file.count == 0 ? 0 : 1;
 }
 
-/* Goes through a file by pieces of each size. */
+/* Reads a file by chunks of each size. */
 static int streams(size_t first, size_t last, const char *path) {
     octets file = file_of(path);
     for (size_t piece = first; piece <= last; piece++) {
@@ -295,7 +328,7 @@ static int streams(size_t first, size_t last, const char *path) {
     return 0;
 }
 
-/* Ends what is printed by pieces of a size, and answers the status of it and of those before it. */
+/* Ends the output for chunks of a size, and returns the status of this size and those before it. */
 static int end_size(size_t piece, size_t first, int before, int status) {
     printf("\x1e%zu\n", piece);
     return piece == first || before == status ? status : 3;
@@ -315,7 +348,7 @@ static int check_batches(iim_limits limits) {
     return 0;
 }
 
-/* Where a receiver stood after each front of a batch, and of how many. */
+/* The state of a receiver after each prefix of a batch, and the number of prefixes. */
 enum { FRONTS = 1024 };
 
 typedef struct {
@@ -324,7 +357,7 @@ typedef struct {
     size_t count;
 } fronts;
 
-/* Notes where a receiver stands after the next octet. */
+/* Stores the state of a receiver after the next byte. */
 static void keep_front(fronts *kept, const receiver *r) {
     if (kept->count == FRONTS)
         return;
@@ -334,7 +367,8 @@ static void keep_front(fronts *kept, const receiver *r) {
     kept->at[kept->count++] = r->at;
 }
 
-/* Puts a receiver where it stood after the octets that two batches both begin with, and answers how many. */
+/* Restores the state of a receiver after the longest common prefix of two batches, and returns the
+ * length of that prefix. */
 static size_t stand_after_same(receiver *r, fronts *kept, octets last, octets batch) {
     size_t same = 0;
     while (same < kept->count && same < batch.count && batch.octets[same] == last.octets[same])
@@ -348,8 +382,8 @@ static size_t stand_after_same(receiver *r, fronts *kept, octets last, octets ba
     return same;
 }
 
-/* The same answer, of octets that come one by one. What a batch begins with as the one before it did is not fed again: the calls would be
- * the same. */
+/* Prints the same results for bytes that are fed one by one. The prefix that a batch has in common
+ * with the one before it is not fed again: the calls would be the same. */
 static int feed_batches(iim_limits limits) {
     octets last = room_for(0), batch;
     receiver *r = new_receiver();
@@ -444,7 +478,8 @@ static void tell(const char *what, const iim_answer *answer) {
     print_answer(answer);
 }
 
-/* The answers of calls that are done, or can go on, and of a buffer that is too short. Leaves the ticket of the whole envelope. */
+/* Prints results with the status IIM_DONE, IIM_MORE or IIM_SHORT. Leaves the ticket of the complete
+ * envelope. */
 static octets tell_progress(octets file) {
     octets ticket = room_for(TICKET), other = room_for(TICKET);
     iim_answer answer;
@@ -463,7 +498,7 @@ static octets tell_progress(octets file) {
     return ticket;
 }
 
-/* The answers of calls whose octets, whose memory or whose way of packing will not do. */
+/* Prints results for invalid bytes, failed allocations and invalid packings. */
 static void tell_refusals(octets file, octets script) {
     const iim_packing wrong = {0, false, true, 5}, plain = {0, false, false, 0};
     iim_answer answer;
@@ -485,7 +520,7 @@ static void tell_refusals(octets file, octets script) {
     tell("size", &answer);
 }
 
-/* The answers to tickets that will not do, by the ticket of the whole envelope. */
+/* Prints results for invalid tickets, made from the ticket of the complete envelope. */
 static void tell_tickets(octets ticket, uint64_t at) {
     iim_answer answer;
     iim_dataset d;
@@ -544,12 +579,14 @@ static bool is_all(const uint8_t *octets, size_t count, uint8_t octet) {
     return true;
 }
 
-/* Whether the answer has this status and this cause, and 0 in all else but the members that are passed over. */
+/* Checks whether the answer has this status and this cause, and 0 in every other member that is not
+ * skipped. */
 static bool is_plain(const iim_answer *a, uint8_t status, uint8_t cause) {
     return a->status == status && a->cause == cause && a->layer == 0 && a->rec == 0 && a->set == 0 && a->octet == 0 && a->used == 0;
 }
 
-/* Each buffer one octet too short: the answer tells what is needed, and the same call with it answers as ever. */
+/* Each buffer is one byte too short: the answer has the length that is needed, and the same call
+ * with that length returns the usual result. */
 static void try_short_buffers(octets file, size_t first) {
     receiver *r = new_receiver();
     feed(r, DEFAULTS, file.octets, first, NULL);
@@ -582,7 +619,7 @@ static void try_short_buffers(octets file, size_t first) {
     free(text.octets), free(next.octets), free(ticket.octets), free(r);
 }
 
-/* Text before a refused octet: with too little room the text is not lost. */
+/* Text before a rejected byte: if its buffer is too short, the text is not lost. */
 static void try_short_refusal(octets file) {
     octets bad = room_for(file.count), text = room_for(file.count), next = room_for(TICKET);
     memcpy(bad.octets, file.octets, file.count);
@@ -604,7 +641,8 @@ static void try_short_refusal(octets file) {
     free(bad.octets), free(text.octets), free(next.octets);
 }
 
-/* A ticket of an envelope that has ended, of none, of another version and of a place that can't be. */
+/* The ticket of a complete envelope, bytes that are no ticket, and tickets of another version and
+ * of a state that no envelope reaches. */
 static void try_tickets(octets file) {
     receiver *r = new_receiver();
     iim_answer answer = feed(r, DEFAULTS, file.octets, file.count, NULL);
@@ -656,7 +694,7 @@ static void try_tickets(octets file) {
     free(ended.octets), free(next.octets), free(r);
 }
 
-/* The octets that iim_feed takes next from a ticket, as a set: each of them tried. */
+/* Returns the set of bytes that iim_feed accepts next from a ticket, by trying each of them. */
 static iim_octet_set tried(octets ticket, uint64_t at, octets next) {
     iim_octet_set set = {{0}};
     for (int o = 0; o < 256; o++) {
@@ -669,7 +707,8 @@ static iim_octet_set tried(octets ticket, uint64_t at, octets next) {
     return set;
 }
 
-/* What is told of the place after each front of an envelope: a line for each, with the set in hexadecimal digits. */
+/* Prints a line about the state after each prefix of an envelope, with the set of accepted bytes in
+ * hexadecimal. */
 static int print_places(const char *path) {
     octets file = file_of(path), text = room_for(file.count), ticket = room_for(TICKET), next = room_for(TICKET);
     for (size_t count = 0; count <= file.count; count++) {
@@ -731,13 +770,12 @@ static auditor *new_auditor(void) {
     return a;
 }
 
-/* Audits a piece. The ticket, the piece and the rows have just the room that they need, or that is asked for. */
+/* Audits a chunk. The ticket, the chunk and the rows have exactly the capacity that they need, or
+ * that is requested. */
 static iim_answer audit(auditor *a, iim_instant now, const uint8_t *piece, size_t count, iim_audit_row *rows, size_t room) {
     octets before = room_for(a->ticket), fed = room_for(count);
-    iim_audit_row *there = malloc(room ? room * sizeof *there : 1);
+    iim_audit_row *there = (iim_audit_row *)(void *)room_for(room * sizeof *there).octets;
     iim_answer answer;
-    if (there == NULL)
-        exit(3);
     memcpy(before.octets, a->tickets[a->now], a->ticket);
     if (count > 0)
         memcpy(fed.octets, piece, count);
@@ -755,7 +793,7 @@ static iim_answer audit(auditor *a, iim_instant now, const uint8_t *piece, size_
     return answer;
 }
 
-/* The rows of a file, and how it ends. */
+/* Prints the rows of a file, and how it ends. */
 static int print_audit(size_t piece, size_t room, int64_t second, const char *path) {
     octets file = file_of(path);
     auditor *a = new_auditor();
@@ -783,7 +821,7 @@ static int print_audit(size_t piece, size_t room, int64_t second, const char *pa
     return answer.status == IIM_DONE || answer.status == IIM_MORE ? 0 : 1;
 }
 
-/* The rows of a file by pieces of each size. */
+/* Prints the rows of a file by chunks of each size. */
 static int print_audits(size_t first, size_t last, char **words) {
     int status = 0;
     for (size_t piece = first; piece <= last; piece++)
@@ -791,7 +829,7 @@ static int print_audits(size_t first, size_t last, char **words) {
     return status;
 }
 
-/* What each cause means. */
+/* Prints the meaning of each cause. */
 static int print_texts(void) {
     char text[128];
     for (int cause = 0; cause < 256; cause++) {
@@ -802,7 +840,7 @@ static int print_texts(void) {
     return 0;
 }
 
-/* Places of tickets that are none, of other limits, and under memory that is refused. */
+/* States of invalid tickets, with other limits, and with failed allocations. */
 static void try_places(octets file) {
     octets text = room_for(file.count), ticket = room_for(TICKET);
     iim_answer answer;
@@ -851,12 +889,13 @@ static void try_places(octets file) {
 /* 12:00 and 14:00 on 2024-03-01, at offset zero. */
 static const iim_instant NOON = {1709294400, 0}, LATER = {1709301600, 0};
 
-/* Whether what is kept is this. */
+/* Checks whether the stored state is this one. */
 static bool is_kept(const iim_so_far *s, uint64_t at, uint64_t octets, uint64_t words, bool inside) {
     return s->at == at && s->octets == octets && s->words == words && s->inside == inside;
 }
 
-/* The two worked envelopes after one another, the story cut inside its word "change": arrays that are too short. */
+/* The two example envelopes one after the other, split inside the word "change" of the story, with
+ * arrays that are too short. */
 static void try_audit_rooms(octets smallest, octets story) {
     size_t count = smallest.count + story.count, cut = count - 15;
     octets both = room_for(count);
@@ -883,7 +922,8 @@ static void try_audit_rooms(octets smallest, octets story) {
     free(both.octets), free(a);
 }
 
-/* A refusal after an envelope, a ticket that has no room, instants that are none, and tickets that will not do. */
+/* A refusal after an envelope, a buffer too short for the ticket, invalid instants and invalid
+ * tickets. */
 static void try_audit_answers(octets file) {
     octets bad = room_for(2 * file.count), next = room_for(TICKET);
     memcpy(bad.octets, file.octets, file.count);
@@ -904,10 +944,22 @@ static void try_audit_answers(octets file) {
     octets little = room_for(some - 1);
     iim_audit(DEFAULTS, NULL, 0, &so_far, file.octets, 27, NOON, NULL, 0, little.octets, little.count, &answer);
     expect(is_plain(&answer, IIM_SHORT, 0) && answer.ticket == some && answer.written == 0 && is_kept(&so_far, 5, 0, 0, false), "a ticket that has no room");
+    octets just = room_for(some);
+    iim_audit(DEFAULTS, NULL, 0, &so_far, file.octets, file.count, NOON, NULL, 0, just.octets, just.count, &answer);
+    expect(answer.status == IIM_DONE && answer.ticket == some && memcmp(just.octets, next.octets, some) == 0, "a ticket of just the length that is needed");
+    free(just.octets);
     iim_audit(DEFAULTS, NULL, 0, &so_far, file.octets, file.count, NOON, rows, 2, NULL, 0, &answer);
     expect(is_plain(&answer, IIM_SHORT, 0) && answer.ticket == some && answer.written == 1 && is_kept(&so_far, 5, 0, 0, false), "no room for a ticket");
-    const iim_instant none[4] = {{0, 1000000000}, {INT64_MAX, 0}, {INT64_MIN, 0}, {253402207201, 0}};
-    for (int i = 0; i < 4; i++) {
+    /* the first instant, -009999-01-02T01:59:59Z, the last one, 9999-12-30T22:00:00.999999999Z, and
+     * invalid ones next to them */
+    const iim_instant edges[2] = {{-377705023201, 0}, {253402207200, 999999999}};
+    const iim_instant none[5] = {{0, 1000000000}, {INT64_MAX, 0}, {INT64_MIN, 0}, {253402207201, 0}, {-377705023202, 999999999}};
+    for (int i = 0; i < 2; i++) {
+        iim_so_far unread = {5, 0, 0, false};
+        iim_audit(DEFAULTS, NULL, 0, &unread, NULL, 0, edges[i], rows, 2, next.octets, next.count, &answer);
+        expect(is_plain(&answer, IIM_MORE, 0) && answer.written == 0 && is_kept(&unread, 5, 0, 0, false), "the first and the last instant");
+    }
+    for (int i = 0; i < 5; i++) {
         memset(rows, 0xAA, sizeof rows);
         iim_audit(DEFAULTS, NULL, 0, &so_far, file.octets, file.count, none[i], rows, 2, next.octets, next.count, &answer);
         expect(is_plain(&answer, IIM_BAD_INSTANT, 0) && answer.ticket == 0 && is_all((uint8_t *)rows, sizeof rows, 0xAA) && is_kept(&so_far, 5, 0, 0, false),
@@ -922,7 +974,7 @@ static void try_audit_answers(octets file) {
     free(bad.octets), free(next.octets), free(little.octets), free(text.octets), free(ended.octets), free(a);
 }
 
-/* The copy of an envelope that expires at 13:00, before and after. */
+/* The copy of an envelope that expires at 13:00, before and after that. */
 static void try_audit_copies(octets release) {
     octets file = room_for(release.count);
     memcpy(file.octets, release.octets, release.count);
@@ -942,7 +994,8 @@ static void try_audit_copies(octets release) {
     free(file.octets), free(a);
 }
 
-/* Each request for memory refused in turn: an audit of many envelopes takes as many blocks as one of a few. */
+/* Each allocation fails in turn: an audit of many envelopes makes as many allocations as one of a
+ * few. */
 static void try_audit_memory(octets file) {
     octets many = room_for(100 * file.count), next = room_for(TICKET);
     for (int i = 0; i < 100; i++)
@@ -968,7 +1021,8 @@ static void try_audit_memory(octets file) {
     free(many.octets), free(next.octets);
 }
 
-/* Each request for memory refused in turn: a status, and then the same call answers as ever. */
+/* Each allocation fails in turn: the call returns a status, and the same call then returns the
+ * usual result. */
 static void try_memory(octets file) {
     octets text = room_for(file.count), next = room_for(TICKET);
     iim_answer answer;
@@ -995,7 +1049,7 @@ static void try_memory(octets file) {
     free(text.octets), free(next.octets);
 }
 
-/* The greatest limits: memory for them is asked for, and the answers are as ever. */
+/* The largest limits: the call allocates memory for them, and the results are the usual ones. */
 static void try_great_limits(octets file) {
     const iim_limits greatest[3] = {{UINT32_MAX, 0}, {0, UINT32_MAX}, {UINT32_MAX, UINT32_MAX}};
     octets text = room_for(file.count), next = room_for(TICKET);
@@ -1038,7 +1092,7 @@ static void try_names(void) {
     expect(iim_version() == IIM_VERSION, "the version");
 }
 
-/* The script, packed into buffers that are too short and under memory that is refused. */
+/* The script, packed into buffers that are too short and with failed allocations. */
 static void try_packing(octets script, octets packed) {
     iim_packing packing = {0, false, false, 0}, wrong[4] = {{UINT64_MAX, false, false, 0}, {0, false, true, 5}, {0, true, true, UINT64_MAX}, {1ull << 63, false, false, 0}};
     octets out = room_for(packed.count);
@@ -1068,6 +1122,291 @@ static void try_packing(octets script, octets packed) {
     free(out.octets);
 }
 
+/* The meaning of each cause, as in docs/CAUSES.md. */
+static const struct {
+    uint8_t number;
+    const char *text;
+} CAUSES[] = {
+    {1, "a tag doesn't begin with 1C"},
+    {2, "octet 4 of a tag is above 80, or it is 80 and octet 5 is not 1 to 8"},
+    {3, "the input ends inside an envelope; the octet is how many there were"},
+    {10, "the record is neither the present one nor the next"},
+    {11, "record 7, 8 or 9 has no dataset of this number"},
+    {12, "a dataset that doesn't repeat comes a second time"},
+    {13, "the dataset has fewer or more octets than its row allows; a subfile, 8:10, more than 9,223,372,036,854,775,807"},
+    {14, "the next record begins, and a mandatory dataset is absent"},
+    {15, "the octets are not of the dataset's kind"},
+    {16, "1:20 is not 2"},
+    {20, "mode 0 and 7:90, at the later value; mode 1 without 7:90, at the first head of 8:10"},
+    {21, "announced above maximum, at the later value"},
+    {22, "a subfile has more octets than 7:20 allows"},
+    {23, "with this subfile's count the object is longer than announced, than the maximum, or than 9,223,372,036,854,775,807 octets"},
+    {24, "the total is below announced, at the head of 9:10"},
+    {25, "9:10 is not the total"},
+    {30, "no message can continue with the octet"},
+    {32, "the object ends before the message does"},
+    {40, "after held CR comes an octet of the text that is neither LF nor the second CR, or ETX"},
+    {41, "01, 02 or 04 stands in the text, with no CR held"},
+    {50, "with the head's count the data of records 1 and 2 pass the limit on octets"},
+    {51, "with the head the datasets of records 1 and 2 pass the limit on their number"},
+    {52, "a head of 8:10 after 4,294,967,295 others"},
+    {60, "the sink of the story refused what it was told; the dataset is 8:10"},
+    {61, "something was refused before, and the reader was called again; the octet is that of the first refusal, the dataset 0:00"},
+    {70, "memory was refused; no refusal's line has it"},
+    {71, "a read failed"},
+    {72, "a read was interrupted 1,000,000 times in a row"},
+    {80, "the object is longer than its announced size or its maximum, or than 4,294,967,295 subfiles hold"},
+    {81, "the object is shorter than its announced size"},
+    {82, "a line of the story has 01, 02, 03, 04, CR or LF in it"},
+    {83, "the trailer has more than 64 octets, or one that may not stand there"},
+    {84, "a write failed; what is out begins the packed form"},
+    {85, "a write failed before, and the packer was called again"},
+    {90, "an input has more than 1,000,000 envelopes; the command prints `too many envelopes`"},
+    {91, "a line has no form that may stand there, or a line is missing"},
+    {92, "the script has more than 16,777,216 octets; it is told of line 0"},
+    {100, "the octets have not the form of a ticket"},
+    {101, "the ticket is of a version other than 1 and 2"},
+    {102, "no envelope can be at the place that the ticket tells; of version 1, none by the sizes of that version"},
+};
+
+/* Each cause has the meaning in docs/CAUSES.md, and no other number has one. */
+static void try_sentences(void) {
+    size_t at = 0;
+    for (int number = 0; number < 256; number++) {
+        const char *want = "";
+        char means[128];
+        if (at < sizeof CAUSES / sizeof CAUSES[0] && CAUSES[at].number == number)
+            want = CAUSES[at++].text;
+        expect(iim_cause_text((uint8_t)number, means, sizeof means) == strlen(want) && strcmp(means, want) == 0, "what a cause means");
+    }
+    expect(at == sizeof CAUSES / sizeof CAUSES[0], "each cause was asked for");
+}
+
+/* ---- Many datasets */
+
+/* The smallest envelope up to its object: 7 datasets, with 27 bytes of data together. */
+enum { FRONT = 62, FRONT_FIELDS = 7, FRONT_DATA = 27 };
+
+static const struct {
+    uint8_t rec, set, count;
+    const char *data;
+} FRONT_DATASETS[FRONT_FIELDS] = {{1, 0, 2, "\0\4"}, {1, 20, 2, "\0\2"}, {1, 22, 2, "\0\1"}, {1, 30, 3, "TST"},
+                                  {1, 40, 8, "00000001"}, {1, 70, 8, "20240301"}, {2, 0, 2, "\0\4"}};
+
+/* Adds a dataset of record 2 whose data are copies of one byte. */
+static void add_dataset(octets *made, uint8_t set, size_t count) {
+    uint8_t *at = made->octets + made->count;
+    const uint8_t tag[5] = {0x1C, 2, set, (uint8_t)(count >> 8), (uint8_t)count};
+    memcpy(at, tag, 5);
+    memset(at + 5, 'k', count);
+    made->count += 5 + count;
+}
+
+/* Returns the first FRONT bytes of the smallest envelope, with capacity for `more` bytes after
+ * them. */
+static octets begun_with(octets smallest, size_t more) {
+    octets made = room_for(FRONT + more);
+    memcpy(made.octets, smallest.octets, FRONT);
+    made.count = FRONT;
+    return made;
+}
+
+/* Feeds bytes as one chunk of a new envelope. A ticket has the capacity that the limits require. */
+static octets fed(iim_limits limits, octets piece, iim_answer *answer) {
+    octets text = room_for(piece.count), ticket = room_for(limits.octets + 6 * (size_t)limits.fields + 256);
+    iim_feed(limits, NULL, 0, 0, piece.octets, piece.count, text.octets, text.count, ticket.octets, ticket.count, answer);
+    free(text.octets);
+    ticket.count = answer->ticket;
+    return ticket;
+}
+
+/* Expects that the bytes are accepted, and that with one more dataset its tag is rejected at its
+ * end. */
+static void try_edge(octets piece, size_t count, uint8_t cause) {
+    const iim_limits wire = {65536, 512}, zero = {0, 0};
+    for (int i = 0; i < 2; i++) {
+        const iim_limits limits = i == 0 ? wire : zero;
+        octets text = room_for(piece.count + 5 + count), ticket = room_for(TICKET);
+        iim_answer answer;
+        iim_feed(limits, NULL, 0, 0, piece.octets, piece.count, text.octets, text.count, ticket.octets, TICKET, &answer);
+        expect(answer.status == IIM_MORE && answer.used == piece.count && answer.octet == piece.count, "as much as the default limits allow");
+        octets more = piece;
+        add_dataset(&more, 250, count);
+        iim_feed(limits, NULL, 0, 0, more.octets, more.count, text.octets, text.count, ticket.octets, TICKET, &answer);
+        expect(answer.status == IIM_REFUSED && answer.layer == IIM_LAYER_LIMITS && answer.cause == cause && answer.rec == 2 && answer.set == 250
+                   && answer.octet == piece.count + 4,
+               "one more than the default limits allow");
+        free(text.octets), free(ticket.octets);
+    }
+}
+
+/* The default limits are 65,536 bytes and 512 datasets. */
+static void try_default_limits(octets smallest) {
+    octets many = begun_with(smallest, 512 * 6), full = begun_with(smallest, 65536 + 16 * 5);
+    for (int i = FRONT_FIELDS; i < 512; i++)
+        add_dataset(&many, 250, 1);
+    try_edge(many, 1, 51);
+    for (int i = 0; i < 7; i++)
+        add_dataset(&full, 250, 8192);
+    add_dataset(&full, 250, 65536 - FRONT_DATA - 7 * 8192);
+    try_edge(full, 1, 50);
+    free(many.octets), free(full.octets);
+}
+
+static bool is_same_dataset(const iim_dataset *a, const iim_dataset *b) {
+    return a->rec == b->rec && a->set == b->set && a->data.offset == b->data.offset && a->data.count == b->data.count;
+}
+
+/* Returns an array of exactly `count` datasets, with 0xAA in each byte: a sanitizer reports a write
+ * beyond its end. */
+static iim_dataset *array_of(size_t count) {
+    octets made = room_for(count * sizeof(iim_dataset));
+    memset(made.octets, 0xAA, made.count);
+    return (iim_dataset *)made.octets;
+}
+
+/* Checks one call of iim_fields against the datasets that iim_field returned. */
+static void try_fields_at(octets ticket, const iim_dataset *want, size_t all, size_t from, size_t room) {
+    iim_dataset *array = array_of(room);
+    size_t there = from < all ? all - from : 0, written = there < room ? there : room;
+    iim_answer answer;
+    memset(&answer, 0xAA, sizeof answer);
+    iim_fields(ticket.octets, ticket.count, from, array, room, &answer);
+    bool holds = is_plain(&answer, there <= room ? IIM_DONE : IIM_SHORT, 0) && answer.written == there && answer.ticket == 0;
+    for (size_t k = 0; k < written; k++)
+        holds = holds && is_same_dataset(&array[k], &want[from + k]);
+    expect(holds && is_all((uint8_t *)(array + written), (room - written) * sizeof *array, 0xAA), "the datasets from an index on");
+    free(array);
+}
+
+/* Bytes that are not a ticket, or a ticket of another version: the array is unchanged. */
+static void try_fields_of_none(octets ticket, size_t count, uint8_t cause) {
+    octets front = room_for(count);
+    memcpy(front.octets, ticket.octets, count);
+    iim_dataset *array = array_of(3);
+    iim_answer answer;
+    iim_fields(front.octets, count, 0, array, 3, &answer);
+    expect(is_plain(&answer, IIM_BAD_TICKET, cause) && answer.written == 0 && is_all((uint8_t *)array, 3 * sizeof *array, 0xAA),
+           "the datasets of no ticket");
+    free(front.octets), free(array);
+}
+
+/* Reads all datasets in one call: from each ticket of an envelope, from each index, into arrays of
+ * each length. */
+static void try_fields(octets file) {
+    for (size_t first = 0; first <= file.count; first++) {
+        octets piece = {file.octets, first};
+        iim_answer answer;
+        octets ticket = fed((iim_limits){65536, 512}, piece, &answer);
+        iim_dataset want[64];
+        size_t all = 0;
+        while (all < 64 && (iim_field(ticket.octets, ticket.count, all, &want[all], &answer), answer.status == IIM_DONE))
+            all++;
+        for (size_t from = 0; from <= all + 1; from++)
+            for (size_t room = 0; room <= all + 1; room++)
+                try_fields_at(ticket, want, all, from, room);
+        try_fields_at(ticket, want, all, SIZE_MAX, 2);
+        iim_fields(ticket.octets, ticket.count, 0, NULL, 0, &answer);
+        expect(is_plain(&answer, all > 0 ? IIM_SHORT : IIM_DONE, 0) && answer.written == all, "how many datasets there are");
+        if (first == file.count) {
+            for (size_t count = 0; count < ticket.count; count++)
+                try_fields_of_none(ticket, count, 100);
+            ticket.octets[4] = 9;
+            try_fields_of_none(ticket, ticket.count, 101);
+        }
+        free(ticket.octets);
+    }
+}
+
+/* The datasets of the smallest envelope, as in docs/FORMAT.md. */
+static void try_known_fields(octets smallest) {
+    iim_answer answer;
+    iim_dataset array[FRONT_FIELDS];
+    octets ticket = fed((iim_limits){65536, 512}, smallest, &answer);
+    expect(answer.status == IIM_DONE, "the smallest envelope is whole");
+    iim_fields(ticket.octets, ticket.count, 0, array, FRONT_FIELDS, &answer);
+    expect(answer.status == IIM_DONE && answer.written == FRONT_FIELDS, "how many datasets the smallest envelope has");
+    for (size_t k = 0; k < FRONT_FIELDS; k++)
+        expect(array[k].rec == FRONT_DATASETS[k].rec && array[k].set == FRONT_DATASETS[k].set && array[k].data.count == FRONT_DATASETS[k].count
+                   && memcmp(ticket.octets + array[k].data.offset, FRONT_DATASETS[k].data, FRONT_DATASETS[k].count) == 0,
+               "a dataset of the smallest envelope");
+    free(ticket.octets);
+}
+
+/* The least processor time of five calls that read a chunk, and of five that write all datasets of
+ * its ticket. */
+static void try_time(octets smallest) {
+    enum { MORE = 16000, ALL = FRONT_FIELDS + MORE };
+    const iim_limits limits = {200000, 20000};
+    octets piece = begun_with(smallest, MORE * 13);
+    for (int i = 0; i < MORE; i++)
+        add_dataset(&piece, 25, 8);
+    clock_t reading = 0, writing = 0;
+    for (int turn = 0; turn < 5; turn++) {
+        iim_answer answer;
+        clock_t began = clock();
+        octets ticket = fed(limits, piece, &answer);
+        clock_t read = clock() - began;
+        iim_dataset *array = array_of(ALL);
+        expect(answer.status == IIM_MORE, "16,007 datasets are read");
+        began = clock();
+        iim_fields(ticket.octets, ticket.count, 0, array, ALL, &answer);
+        clock_t wrote = clock() - began;
+        expect(answer.status == IIM_DONE && answer.written == ALL && array[ALL - 1].set == 25
+                   && array[ALL - 1].data.offset == array[FRONT_FIELDS].data.offset + (size_t)(MORE - 1) * 14,
+               "16,007 datasets in one call");
+        reading = turn == 0 || read < reading ? read : reading;
+        writing = turn == 0 || wrote < writing ? wrote : writing;
+        free(array), free(ticket.octets);
+    }
+    expect(writing <= 5 * reading + CLOCKS_PER_SEC / 1000, "16,007 datasets in at most five times the time of reading them");
+    free(piece.octets);
+}
+
+/* ---- Number of allocations */
+
+/* Returns the number of requests since the last call. */
+static long asked_for(void) {
+    long asked = requests;
+    requests = 0;
+    return asked;
+}
+
+/* A call that continues an envelope allocates twice, for the bytes and the datasets that the limits
+ * allow, whether or not its buffers are long enough. A call that only reads a ticket does not
+ * allocate. */
+static void try_requests_at(octets file, size_t first) {
+    octets piece = {file.octets, first}, rest = {file.octets + first, file.count - first};
+    iim_answer answer;
+    octets ticket = fed((iim_limits){65536, 512}, piece, &answer), text = room_for(rest.count), next = room_for(TICKET);
+    iim_so_far so_far = {0, first, 0, false}, kept = so_far;
+    iim_audit_row row;
+    iim_dataset dataset;
+    iim_message message;
+    iim_object object;
+    iim_begun begun;
+    asked_for();
+    iim_feed(DEFAULTS, ticket.octets, ticket.count, first, rest.octets, rest.count, text.octets, text.count, next.octets, TICKET, &answer);
+    expect(answer.status == IIM_DONE && asked_for() == 2, "requests for memory of a piece");
+    iim_feed(DEFAULTS, ticket.octets, ticket.count, first, rest.octets, rest.count, NULL, 0, NULL, 0, &answer);
+    expect(answer.status == IIM_SHORT && asked_for() == 2, "requests for memory of a piece without buffers");
+    iim_end(DEFAULTS, ticket.octets, ticket.count, first, &answer);
+    expect(answer.status == (first == file.count ? IIM_DONE : IIM_TRUNCATED) && asked_for() == 2, "requests for memory at the end");
+    if (first < file.count) {
+        iim_audit(DEFAULTS, ticket.octets, ticket.count, &so_far, rest.octets, rest.count, NOON, &row, 1, next.octets, TICKET, &answer);
+        expect(answer.status == IIM_DONE && answer.written == 1 && asked_for() == 2, "requests for memory of an audit");
+        iim_audit(DEFAULTS, ticket.octets, ticket.count, &kept, rest.octets, rest.count, NOON, &row, 1, NULL, 0, &answer);
+        expect(answer.status == IIM_SHORT && asked_for() == 2, "requests for memory of an audit without buffers");
+    }
+    iim_fields(ticket.octets, ticket.count, 0, &dataset, 1, &answer);
+    iim_field(ticket.octets, ticket.count, 0, &dataset, &answer);
+    iim_header(ticket.octets, ticket.count, &message, &answer);
+    iim_sizes(ticket.octets, ticket.count, &object, &answer);
+    iim_place(ticket.octets, ticket.count, first, &begun, &answer);
+    expect(asked_for() == 0, "requests for memory of what a ticket tells");
+    free(ticket.octets), free(text.octets), free(next.octets);
+}
+
 static int try_buffers(char **words) {
     octets smallest = file_of(words[0]), story = file_of(words[1]), script = file_of(words[2]), packed = file_of(words[3]), release = file_of(words[4]);
     for (size_t first = 0; first < story.count; first++)
@@ -1086,6 +1425,14 @@ static int try_buffers(char **words) {
     try_memory(story);
     try_great_limits(story);
     try_names();
+    try_sentences();
+    try_default_limits(smallest);
+    try_fields(smallest);
+    try_fields(story);
+    try_known_fields(smallest);
+    try_time(smallest);
+    for (size_t first = 0; first <= story.count; first++)
+        try_requests_at(story, first);
     try_packing(script, packed);
     free(smallest.octets), free(story.octets), free(script.octets), free(packed.octets), free(release.octets);
     printf("%d passed, %d failed\n", passed, failed);
@@ -1093,6 +1440,9 @@ static int try_buffers(char **words) {
 }
 
 int main(int count, char **words) {
+#ifdef GUARDED
+    guarded.end = getenv("GUARD_BEFORE") != NULL ? GUARD_BEFORE : GUARD_AFTER;
+#endif
     if (count == 4 && strcmp(words[1], "check") == 0)
         return check_batches((iim_limits){(uint32_t)atol(words[2]), (uint32_t)atol(words[3])});
     if (count == 4 && strcmp(words[1], "feed") == 0)

@@ -1,4 +1,5 @@
-// Prints what `iimwire check` prints of a file, and after each envelope its headline, if it has one.
+// Prints what `iimwire check` prints for a file and, after each envelope, its headline if it has
+// one.
 //
 //   mcs -out:check.exe bindings/examples/Check.cs && LD_LIBRARY_PATH=bindings/out mono check.exe FILE
 //
@@ -13,10 +14,10 @@ static class Check
     const string Library = "libiim.so.1";
     const byte Done = 0, More = 1;
 
-    // The most octets of a ticket under the limits of wire copy, which a Limits of zeros stands for.
+    // The greatest length of a ticket with the limits of wire copy, which all zeros select.
     const int MostOfTicket = 65536 + 6 * 512 + 256;
 
-    // It goes by value: a structure that isn't marked `ref` or `out` does.
+    // Passed by value, as every structure that is not marked `ref` or `out`.
     [StructLayout(LayoutKind.Sequential)]
     struct Limits { public uint Octets, Fields; }
 
@@ -46,7 +47,8 @@ static class Check
     static extern void iim_end(Limits limits, byte[] ticket, UIntPtr ticketLength, ulong at, out Answer answer);
 
     [DllImport(Library)]
-    static extern void iim_field(byte[] ticket, UIntPtr ticketLength, UIntPtr number, out Dataset dataset, out Answer answer);
+    static extern void iim_fields(byte[] ticket, UIntPtr ticketLength, UIntPtr from, [Out] Dataset[] datasets, UIntPtr datasetsLength,
+        out Answer answer);
 
     [DllImport(Library)]
     static extern UIntPtr iim_layer_name(byte layer, byte[] name, UIntPtr length);
@@ -56,7 +58,7 @@ static class Check
 
     static UIntPtr Count(byte[] octets) { return (UIntPtr)(ulong)octets.Length; }
 
-    // The line of a refusal.
+    // Returns the line of a refusal.
     static string Refusal(int number, Answer answer)
     {
         byte[] layer = new byte[64], cause = new byte[64];
@@ -67,16 +69,16 @@ static class Check
             Encoding.ASCII.GetString(cause, 0, causeLength));
     }
 
-    // The headline that a ticket holds, or null.
+    // Returns the headline in a ticket, or null.
     static byte[] Headline(byte[] ticket, UIntPtr length)
     {
-        for (uint number = 0; ; number++)
+        // The most datasets that the limits of wire copy allow.
+        Dataset[] datasets = new Dataset[512];
+        Answer answer;
+        iim_fields(ticket, length, UIntPtr.Zero, datasets, (UIntPtr)datasets.Length, out answer);
+        for (int number = 0; number < (int)answer.Written; number++)
         {
-            Dataset dataset;
-            Answer answer;
-            iim_field(ticket, length, (UIntPtr)number, out dataset, out answer);
-            if (answer.Status != Done)
-                return null;
+            Dataset dataset = datasets[number];
             if (dataset.Record == 2 && dataset.Set == 105)
             {
                 byte[] headline = new byte[(int)dataset.Data.Count];
@@ -84,6 +86,7 @@ static class Check
                 return headline;
             }
         }
+        return null;
     }
 
     static int Main(string[] words)

@@ -1,9 +1,10 @@
 /*
- * Prints what `iimwire check` prints of a file, and after each envelope its headline, if it has one.
+ * Prints what `iimwire check` prints for a file and, after each envelope, its headline if it has
+ * one.
  *
  *   java -cp /usr/share/java/jna.jar -Djna.library.path=bindings/out bindings/examples/Check.java FILE
  *
- * JNA (Debian: libjna-java) calls the library.
+ * The program calls the library with JNA (Debian: libjna-java).
  */
 import com.sun.jna.Library;
 import com.sun.jna.Native;
@@ -17,10 +18,10 @@ public class Check {
     static final int DONE = 0, MORE = 1;
     static final int HEADLINE_RECORD = 2, HEADLINE_NUMBER = 105;
 
-    /** The most octets of a ticket under the limits of wire copy. */
-    static final int TICKET = 65536 + 6 * 512 + 256;
+    /** The most datasets and the greatest length of a ticket with the limits of wire copy. */
+    static final int FIELDS = 512, TICKET = 65536 + 6 * FIELDS + 256;
 
-    /** Goes by value: JNA has to be told. All zero are the limits of wire copy. */
+    /** Is passed by value, which JNA must know. Zeros select the limits of wire copy. */
     @Structure.FieldOrder({"octets", "fields"})
     public static class Limits extends Structure implements Structure.ByValue {
         public int octets, fields;
@@ -32,7 +33,7 @@ public class Check {
         public long octet, used, written, ticket;
     }
 
-    /** Lies in a dataset as a value: a field of a structure type is that, and needs no more words. */
+    /** Is stored in a dataset by value, as every field of a structure type. */
     @Structure.FieldOrder({"offset", "count"})
     public static class Span extends Structure {
         public long offset, count;
@@ -50,17 +51,17 @@ public class Check {
 
         void iim_end(Limits limits, byte[] ticket, long ticketLength, long at, Answer answer);
 
-        void iim_field(byte[] ticket, long ticketLength, long number, Dataset dataset, Answer answer);
+        void iim_fields(byte[] ticket, long ticketLength, long from, Dataset[] datasets, long datasetsLength, Answer answer);
 
         long iim_layer_name(byte layer, byte[] name, long length);
 
         long iim_cause_name(byte cause, byte[] name, long length);
     }
 
-    /** libiim.so.1, where jna.library.path says, or where the system has it. */
+    /** Loads libiim.so.1 from jna.library.path or from the directories of the system. */
     static final Iim IIM = Native.load("libiim.so.1", Iim.class);
 
-    /** The line of a refusal. */
+    /** Returns the line of a refusal. */
     static String refusal(int number, Answer answer) {
         byte[] layer = new byte[64], cause = new byte[64];
         IIM.iim_layer_name(answer.layer, layer, layer.length);
@@ -70,20 +71,19 @@ public class Check {
                 Native.toString(cause));
     }
 
-    /** The headline that a ticket holds, or null. */
+    /** Returns the headline in a ticket, or null. */
     static byte[] headline(byte[] ticket, long length) {
         Answer answer = new Answer();
-        Dataset dataset = new Dataset();
-        for (long number = 0;; number++) {
-            IIM.iim_field(ticket, length, number, dataset, answer);
-            if (answer.status != DONE) {
-                return null;
-            }
+        Dataset[] datasets = (Dataset[]) new Dataset().toArray(FIELDS);
+        IIM.iim_fields(ticket, length, 0, datasets, FIELDS, answer);
+        for (int number = 0; number < answer.written; number++) {
+            Dataset dataset = datasets[number];
             if (dataset.rec == HEADLINE_RECORD && dataset.set == HEADLINE_NUMBER) {
                 int begin = (int) dataset.data.offset;
                 return Arrays.copyOfRange(ticket, begin, begin + (int) dataset.data.count);
             }
         }
+        return null;
     }
 
     public static void main(String[] words) throws IOException {

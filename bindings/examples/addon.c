@@ -1,10 +1,10 @@
 /*
- * The library for Node: the module iim.node, with one function.
+ * Makes the library available to Node: the module iim.node, with one function.
  *
  *   cc -shared -fPIC -I/usr/include/node -Ibindings/c -o iim.node bindings/examples/addon.c bindings/out/libiim.a
  *
- * read(Buffer) answers an object of the envelope that the octets begin with: { octets, headline }, where the headline is a Buffer or null;
- * or { refusal }, which is told as `iimwire check` tells it.
+ * read(Buffer) reads the envelope at the beginning of the buffer. It returns { octets, headline },
+ * with the headline as a Buffer or null, or { refusal }, the line that `iimwire check` prints.
  */
 #include "iim.h"
 
@@ -13,16 +13,16 @@
 #include <stdio.h>
 #include <stdlib.h>
 
-enum { TICKET = 65536 + 6 * 512 + 256 };
+enum { FIELDS = 512, TICKET = 65536 + 6 * FIELDS + 256 };
 
-/* Node calls the functions of a module on one thread. */
-static uint8_t ticket[TICKET];
+/* Each worker of Node calls the functions on its own thread, and all workers share this module. */
+static _Thread_local uint8_t ticket[TICKET];
 
 static void set(napi_env env, napi_value object, const char *name, napi_value value) {
     napi_set_named_property(env, object, name, value);
 }
 
-/* The line of a refusal, without the number of the envelope. */
+/* Returns the line of a refusal, without the number of the envelope. */
 static napi_value refusal(napi_env env, const iim_answer *answer) {
     char layer[64], cause[64], line[256];
     napi_value text;
@@ -34,22 +34,21 @@ static napi_value refusal(napi_env env, const iim_answer *answer) {
     return text;
 }
 
-/* The headline that the ticket holds, or null. */
+/* Returns the headline in the ticket, or null. */
 static napi_value headline(napi_env env, size_t len) {
-    iim_dataset dataset;
+    iim_dataset datasets[FIELDS];
     iim_answer answer;
     napi_value value;
-    for (size_t n = 0;; n++) {
-        iim_field(ticket, len, n, &dataset, &answer);
-        if (answer.status != IIM_DONE) {
-            napi_get_null(env, &value);
-            return value;
-        }
-        if (dataset.rec == 2 && dataset.set == 105) {
-            napi_create_buffer_copy(env, dataset.data.count, ticket + dataset.data.offset, NULL, &value);
+    iim_fields(ticket, len, 0, datasets, FIELDS, &answer);
+    for (size_t n = 0; n < answer.written; n++) {
+        const iim_span data = datasets[n].data;
+        if (datasets[n].rec == 2 && datasets[n].set == 105) {
+            napi_create_buffer_copy(env, data.count, ticket + data.offset, NULL, &value);
             return value;
         }
     }
+    napi_get_null(env, &value);
+    return value;
 }
 
 static napi_value read_envelope(napi_env env, napi_callback_info info) {

@@ -1,9 +1,10 @@
-// Prints what `iimwire check` prints of a file, and after each envelope its headline, if it has one.
+// Prints what `iimwire check` prints for a file and, after each envelope, its headline if it has
+// one.
 //
 //	CGO_CFLAGS=-I$PWD/bindings/c CGO_LDFLAGS=-L$PWD/bindings/out go build -o check bindings/examples/check.go
 //	LD_LIBRARY_PATH=bindings/out ./check FILE
 //
-// Where libiim-dev is installed neither flags nor LD_LIBRARY_PATH are needed.
+// If libiim-dev is installed, neither the flags nor LD_LIBRARY_PATH are needed.
 package main
 
 // #cgo LDFLAGS: -liim
@@ -16,10 +17,10 @@ import (
 	"unsafe"
 )
 
-// The most octets of a ticket under the limits of wire copy, which an iim_limits of zeros stands for.
+// The greatest length of a ticket with the limits of wire copy, which all zeros select.
 const mostOfTicket = 65536 + 6*512 + 256
 
-// Octets as C takes them: where they begin, and how many they are.
+// Returns bytes as C accepts them: a pointer and a length.
 func lent(octets []byte) (*C.uint8_t, C.size_t) {
 	if len(octets) == 0 {
 		return nil, 0
@@ -27,7 +28,7 @@ func lent(octets []byte) (*C.uint8_t, C.size_t) {
 	return (*C.uint8_t)(unsafe.Pointer(&octets[0])), C.size_t(len(octets))
 }
 
-// Feeds the octets that an envelope begins: what they came to, and the ticket.
+// Feeds the bytes from the beginning of an envelope, and returns the answer and the ticket.
 func feed(octets []byte) (C.iim_answer, []byte) {
 	var answer C.iim_answer
 	text, ticket := make([]byte, len(octets)), make([]byte, mostOfTicket)
@@ -38,7 +39,7 @@ func feed(octets []byte) (C.iim_answer, []byte) {
 	return answer, ticket[:answer.ticket]
 }
 
-// The line of a refusal.
+// Returns the line of a refusal.
 func refusal(number int, answer C.iim_answer) string {
 	var layer, cause [64]C.char
 	C.iim_layer_name(answer.layer, &layer[0], 64)
@@ -47,20 +48,18 @@ func refusal(number int, answer C.iim_answer) string {
 		number, answer.octet, C.GoString(&layer[0]), answer.rec, answer.set, answer.cause, C.GoString(&cause[0]))
 }
 
-// The headline that a ticket holds, and whether it holds one.
+// Returns the headline in a ticket, and whether the ticket has one.
 func headline(ticket []byte) ([]byte, bool) {
-	var dataset C.iim_dataset
+	var datasets [512]C.iim_dataset // the most that the limits of wire copy allow
 	var answer C.iim_answer
 	octets, length := lent(ticket)
-	for number := C.size_t(0); ; number++ {
-		C.iim_field(octets, length, number, &dataset, &answer)
-		if answer.status != C.IIM_DONE {
-			return nil, false
-		}
+	C.iim_fields(octets, length, 0, &datasets[0], 512, &answer)
+	for _, dataset := range datasets[:answer.written] {
 		if dataset.rec == 2 && dataset.set == 105 {
 			return ticket[dataset.data.offset:][:dataset.data.count], true
 		}
 	}
+	return nil, false
 }
 
 func main() {

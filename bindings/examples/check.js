@@ -1,8 +1,9 @@
-// Prints what `iimwire check` prints of a file, and after each envelope its headline, if it has one.
+// Prints what `iimwire check` prints for a file and, after each envelope, its headline if it has
+// one.
 //
 //   node bindings/examples/check.js ./iim.node FILE
 //
-// addon.c, beside this file, tells how iim.node is made.
+// The first lines of addon.c, beside this file, show how to build iim.node.
 const { readFileSync, writeSync } = require('node:fs');
 const { resolve } = require('node:path');
 

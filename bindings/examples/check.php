@@ -1,15 +1,17 @@
 <?php
-// Prints what `iimwire check` prints of a file, and after each envelope its headline, if it has one.
+// Prints what `iimwire check` prints for a file and, after each envelope, its headline if it has
+// one.
 //
 //   php bindings/examples/check.php bindings/c/iim.h bindings/out/libiim.so.1 FILE
 //
-// FFI (Debian: php-cli has it) reads the header as it stands, but for the lines that are the preprocessor's or C++'s.
+// FFI (Debian: in php-cli) reads the header, except the lines for the preprocessor and for C++,
+// which this program removes.
 const TICKET = 65536 + 6 * 512 + 256;
 
 [, $header, $library, $name] = $argv;
 $iim = FFI::cdef(preg_replace(['/^\s*#.*$/m', '/^extern "C" \{|^\}$/m'], '', file_get_contents($header)), $library);
 
-/** Octets in memory of C. */
+/** Copies bytes to memory of C. */
 function lent(string $octets): FFI\CData
 {
     $lent = FFI::new('uint8_t[' . max(1, strlen($octets)) . ']');
@@ -17,7 +19,7 @@ function lent(string $octets): FFI\CData
     return $lent;
 }
 
-/** The line of a refusal. */
+/** Returns the line of a refusal. */
 function refusal(FFI $iim, int $number, FFI\CData $answer): string
 {
     $layer = FFI::new('char[64]');
@@ -28,24 +30,24 @@ function refusal(FFI $iim, int $number, FFI\CData $answer): string
         FFI::string($layer), $answer->rec, $answer->set, $answer->cause, FFI::string($cause));
 }
 
-/** The headline that a ticket holds, or null. */
+/** Returns the headline in a ticket, or null. */
 function headline(FFI $iim, FFI\CData $ticket, int $length): ?string
 {
-    $dataset = $iim->new('iim_dataset');
+    // The most datasets that the limits of wire copy allow.
+    $datasets = $iim->new('iim_dataset[512]');
     $answer = $iim->new('iim_answer');
-    for ($number = 0;; $number++) {
-        $iim->iim_field($ticket, $length, $number, FFI::addr($dataset), FFI::addr($answer));
-        if ($answer->status !== $iim->IIM_DONE) {
-            return null;
-        }
+    $iim->iim_fields($ticket, $length, 0, $datasets, 512, FFI::addr($answer));
+    for ($number = 0; $number < $answer->written; $number++) {
+        $dataset = $datasets[$number];
         if ($dataset->rec === 2 && $dataset->set === 105) {
             return substr(FFI::string($ticket, $length), $dataset->data->offset, $dataset->data->count);
         }
     }
+    return null;
 }
 
 $rest = file_get_contents($name);
-// The limits go by value. All zero, as `new` makes them, are those of wire copy.
+// The limits are passed by value. All zero, as from `new`, they select those of wire copy.
 $limits = $iim->new('iim_limits');
 $answer = $iim->new('iim_answer');
 $ticket = FFI::new('uint8_t[' . TICKET . ']');

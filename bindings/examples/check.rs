@@ -1,4 +1,5 @@
-//! Prints what `iimwire check` prints of a file, and after each envelope its headline, if it has one.
+//! Prints what `iimwire check` prints for a file and, after each envelope, its headline if it has
+//! one.
 //!
 //! ```sh
 //! rustc -O --edition 2021 --crate-type lib --crate-name iim_sys bindings/examples/iim-sys/lib.rs

@@ -1,11 +1,12 @@
 #!/usr/bin/env python3
-"""Compiles the programs of this folder, each of which calls the library from another language, and compares what they print with the
-second reading of the rules in tests/rules.py.
+"""Compile the programs of this directory, which call the library from other languages, and compare
+their output with that of the second implementation of the rules in tests/rules.py.
 
   bindings/examples/test.py
 
-It needs the library, which bindings/build makes. A language that isn't there is told, and counted as skipped. Prints each failure,
-and then 'N passed, M failed', and how many are skipped where one is.
+The test needs the library, which bindings/build builds. It prints each language that is not
+installed, and counts it as skipped. It prints each failure, and then 'N passed, M failed', with the
+number of skipped languages if there are any.
 """
 import concurrent.futures
 import functools
@@ -27,18 +28,18 @@ import rules  # noqa: E402
 
 
 class NotHere(Exception):
-    """What of a language isn't on this machine."""
+    """The part of a language that is not installed on this machine."""
 
 
 def run(words, folder, **more):
     env = {**os.environ, "LD_LIBRARY_PATH": LIBRARY, "HOME": folder, "GOCACHE": f"{folder}/cache", "GO111MODULE": "off", **more}
-    # (where cargo has its own rustc, that is found by its home)
+    # (rustup's rustc and cargo are found by their home directories)
     env |= {name: os.path.join(os.environ["HOME"], at) for name, at in (("RUSTUP_HOME", ".rustup"), ("CARGO_HOME", ".cargo")) if name not in os.environ}
     return subprocess.run(words, cwd=folder, env=env, stdin=subprocess.DEVNULL, capture_output=True, timeout=SECONDS)
 
 
 def made(words, folder, **more):
-    """Runs a compiler, which has to be content."""
+    """Run a compiler, which must succeed."""
     ran = run(words, folder, **more)
     if ran.returncode != 0:
         raise AssertionError(f"{' '.join(words)}\n{(ran.stdout + ran.stderr).decode(errors='replace')}")
@@ -102,7 +103,7 @@ LANGUAGES = {"Java": java, "Go": go, "Rust": rust, "C#": c_sharp, "Node": node, 
 
 @functools.lru_cache(maxsize=None)
 def inputs():
-    """Files by name: all kinds of answers, a headline with an octet above 7F, one after another, and none."""
+    """Return files by name: each kind of result, a byte above 7F, several envelopes, no envelope."""
     found = {os.path.relpath(path, f"{TOP}/samples"): open(path, "rb").read() for path in glob.glob(f"{TOP}/samples/**/*.iim", recursive=True)}
     kept = ("stream.iim", "subfiles.iim", "damaged/truncated.iim", "damaged/bad_value.iim", "damaged/short.iim", "damaged/too_many_fields.iim")
     accented = found["story.iim"].replace(b"Rates held", b"R\xe4tes held")
@@ -110,7 +111,7 @@ def inputs():
 
 
 def wanted(octets):
-    """What a program has to print of a file, and its status."""
+    """Return what a program must print for a file, and its status."""
     lines, number = b"", 1
     while octets:
         envelope = rules.read(octets)
@@ -123,7 +124,7 @@ def wanted(octets):
 
 
 def tried(language):
-    """What went wrong with a language: nothing, where its list is empty."""
+    """Return the failures of a language."""
     with tempfile.TemporaryDirectory() as folder:
         words, wrong = LANGUAGES[language](folder), []
         for name, octets in inputs().items():

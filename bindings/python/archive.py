@@ -1,31 +1,37 @@
 #!/usr/bin/env python3
-"""Checks and audits a tree of files of envelopes, on one machine or on many, and keeps an index of it.
+"""Check and audit a directory tree of files of envelopes, on one machine or several, and index it.
 
-    archive.py [--workers N | --scheduler ADDRESS] [--now INSTANT] [--name PATTERN] [--batch N] [--limits OCTETS FIELDS] TREE..
-    archive.py --into INDEX [the same words] TREE..
-    archive.py report [--html OUT] [--now INSTANT] [--limits OCTETS FIELDS] INDEX
-    archive.py query [--date DATE[..DATE]] [--service SERVICE] [--cause CAUSE] [--repeats] [--only KIND] [--now INSTANT] [--csv] INDEX..
+    archive.py [--workers N | --scheduler ADDRESS] [--now INSTANT] [--name PATTERN] [--batch N]
+               [--limits OCTETS FIELDS] [--timeout SECONDS] TREE..
+    archive.py --into INDEX [the same options] TREE..
+    archive.py report [--html OUT [--force]] [--now INSTANT] [--limits OCTETS FIELDS] INDEX
+    archive.py query [--date DATE[..DATE]] [--service SERVICE] [--cause CAUSE] [--repeats]
+               [--only KIND] [--now INSTANT] [--csv] INDEX..
 
-TREE is a folder, of which all files are read, or a file. Each line that is printed is a value of JSON. There is one for each
-envelope: its file and number, its id, sizes, words, age, whether its copy may be used, and which earlier one it repeats. An envelope
-repeats the first one of all files that has the same service, number and date sent; files stand in the order of their names' octets.
-Octets that are refused get a line that names the place, the cause and what is known of the envelope; so do files of no octets, and
-files that can't be read: none stops anything. The last line has the sums.
+TREE is a file, or a directory of which all files are read. Each line printed is a value of JSON.
+There is one for each envelope: its file and number, its id, sizes, words, age, whether its copy may
+be used, and which earlier envelope it repeats. An envelope repeats the first one of all files with
+the same service, number and date sent; files are ordered by the bytes of their names. There is a
+line for each rejected envelope with its position, its cause and what is known of it, for each empty
+file, and for each file that can't be read; the run continues after each. The last line has the
+totals.
 
-With --into the rows go to INDEX, a database of SQLite, and the sums alone are printed. A second run reads only what is new or has
-changed, and marks what is gone; so does a run after one that was stopped. `query` prints the rows that an index has, or several. `report`
-tells how the archive stands, as text or as a page with pictures, which leads to what explain.py tells of the damaged files.
+With --into the rows are stored in INDEX, an SQLite database, and only the totals are printed. A
+later run reads only files that are new or changed, and marks files that are gone; it also continues
+a run that was interrupted. `query` prints the rows of one or several indexes. `report` summarizes
+an archive as text, or as a page with charts and links to explanations of the damaged files.
 
---workers N runs N processes of this machine. --scheduler ADDRESS runs on Dask distributed, where each worker finds the same files
-under the same names, and this folder on its PYTHONPATH. Without either it runs in this process.
+--workers N runs N processes on this machine. --scheduler ADDRESS runs on Dask distributed: each
+worker must have the same files under the same names, and the installed package, or this directory
+on its PYTHONPATH. Without either option all files are read in this process.
 
-Status 0: all is accepted; 1: octets were refused; 2: a mistake in the words; 3: a file could not be read, or the output failed;
-130: Ctrl-C.
+Exit status: 0 if all is accepted, 1 if input was rejected, 2 for a usage error, 3 if a file can't be
+read or the run failed, which prints one line `iim-archive: what: reason`, and 130 after Ctrl-C or
+SIGTERM.
 """
 from __future__ import annotations
 
 import argparse
-import collections
 import contextlib
 import datetime
 import fnmatch
@@ -36,81 +42,36 @@ import marshal
 import os
 import re
 import signal
-import stat
+import sqlite3
 import sys
-from typing import TYPE_CHECKING, Any, Callable, Dict, Iterable, Iterator, List, NamedTuple, Optional, Tuple, TypeVar, Union
+from typing import TYPE_CHECKING, Any, Callable, Dict, Iterable, Iterator, List, NoReturn, Optional, Tuple, TypeVar, Union
 
 import archive_rows
 import iim
-from archive_rows import AHEAD, Asked, Blocks, Cells, FileRow, FileRows, Reader, RefusalRow, lost
+from archive_files import Found, files_of
+from archive_rows import ENDS, Asked, Cells, Failure, FileRow, Form, KeptRows, Lines, RefusalRow, kept_rows, lines_of
+from safe_output import OutputRefused, replace_file
 
 if TYPE_CHECKING:
     from archive_index import Index, Known
 
-# What a block has of a file at an instant: `lines_of` or `kept_rows`.
-Form = Callable[[FileRows, datetime.datetime], Tuple[object, ...]]
-Lines = Tuple[str, List[Tuple[str, str]], Optional[str], str, int, int]
-KeptRows = Tuple[int, bytes, int, int, int, str, Optional[str], Cells, Optional[RefusalRow]]
-
 Thing = TypeVar("Thing")
 
-# A batch has no further file once it has so many octets.
+# The size, in bytes, from which on a batch is full.
 BATCH_OCTETS = 2 << 20
 
-# How a block is written (the same by each Python from 3.4 on).
-FORM = 4
+# The maximum number of processes.
+MOST_WORKERS = 1_000
+
+# The maximum time for a file: a year.
+MOST_SECONDS = 31_536_000
 
 
 # --- Many files ---
 
 
-class Found(NamedTuple):
-    """A file of a tree: its name, its size, the time of its change in nanoseconds, or else why it can't be read. A folder that can't
-    be listed has a name that ends with `/`."""
-
-    path: bytes
-    size: int
-    changed: int
-    reason: Optional[str]
-
-    @property
-    def is_folder(self) -> bool:
-        return self.path.endswith(b"/")
-
-
-def found_at(path: bytes, look: Callable[[], os.stat_result]) -> Found:
-    """A file, by what looks at it."""
-    try:
-        told = look()
-    except OSError as fault:
-        return Found(path, 0, 0, fault.strerror or str(fault))
-    if not stat.S_ISREG(told.st_mode):
-        return Found(path, 0, 0, "no regular file")
-    return Found(path, told.st_size, told.st_mtime_ns, None)
-
-
-def files_of(tree: bytes, pattern: str) -> Iterator[Found]:
-    """The files of a tree, in the order of their names' octets."""
-    if not os.path.isdir(tree):
-        yield found_at(tree, lambda: os.stat(tree))
-        return
-    # (links to folders are passed over; and `/` stands after a folder's name, where it will stand in the names of its files)
-    matches = None if pattern == "*" else re.compile(fnmatch.translate(pattern)).match
-    try:
-        with os.scandir(tree) as entries:
-            named = sorted((entry.name + b"/" if entry.is_dir(follow_symlinks=False) else entry.name, entry) for entry in entries)
-    except OSError as fault:
-        yield Found(os.path.join(tree, b""), 0, 0, fault.strerror or str(fault))
-        return
-    for name, entry in named:
-        if name.endswith(b"/"):
-            yield from files_of(entry.path, pattern)
-        elif (matches is None or matches(os.fsdecode(name))) and not (entry.is_symlink() and entry.is_dir()):
-            yield found_at(entry.path, entry.stat)
-
-
 def batches_of(files: Iterable[Asked], most: int) -> Iterator[List[Asked]]:
-    """The files, so many at a time, or fewer where they are long."""
+    """Yield the files in batches of at most `most`, and of fewer if they are long."""
     batch: List[Asked] = []
     octets = 0
     for file in files:
@@ -123,94 +84,83 @@ def batches_of(files: Iterable[Asked], most: int) -> Iterator[List[Asked]]:
         yield batch
 
 
-def read_files(files: List[Asked], limits: iim.Limits, now: datetime.datetime, form: Form) -> List[Tuple[object, ...]]:
-    """What is told of some files."""
-    return [form(archive_rows.read_file(file, limits, now), now) for file in files]
-
-
-def read_batch(files: List[Asked], limits: iim.Limits, now: datetime.datetime, form: Form) -> bytes:
-    """The same as a block. A worker runs this."""
-    return marshal.dumps(read_files(files, limits, now, form), FORM)
-
-
-def by_distributed(batches: Iterable[List[Asked]], reader: Reader, address: str) -> Blocks:
-    """Runs the batches on the workers of a Dask scheduler, and gives their blocks in order. The engine runs again what a lost worker
-    had. Where it gives a batch up, since too many workers were lost with it, each of its files is run once more, one after another."""
-    import distributed
-
-    with distributed.Client(address) as client:
-        client.wait_for_workers(1)
-        ahead = AHEAD * max(1, sum(client.nthreads().values()))
-        # (its futures have no types)
-        waiting: collections.deque[Tuple[List[Asked], Any]] = collections.deque()
-
-        def start(files: List[Asked]) -> Any:
-            return client.submit(reader, files, pure=False)
-
-        def alone(file: Asked) -> bytes:
-            try:
-                block: bytes = start([file]).result()
-                return block
-            except distributed.KilledWorker:
-                return lost(file, reader)
-
-        def oldest() -> Blocks:
-            batch, future = waiting.popleft()
-            try:
-                yield future.result()
-            except distributed.KilledWorker:
-                yield from map(alone, batch)
-
-        for batch in batches:
-            waiting.append((batch, start(batch)))
-            if len(waiting) >= ahead:
-                yield from oldest()
-        while waiting:
-            yield from oldest()
+def load_library(words: argparse.Namespace) -> None:
+    """Load the library once if this machine reads the files. Raise `ImportError` if it has none."""
+    if words.scheduler is None:
+        iim.cause_name(1)
 
 
 def told_of(files: Iterable[Asked], words: argparse.Namespace, form: Form) -> Iterator[List[Any]]:
-    """What is told of the files, batch by batch, read as the words ask."""
-    of_run = {"limits": iim.Limits(*words.limits), "now": words.now, "form": form}
-    reader = functools.partial(read_batch, **of_run)
+    """Return the rows of the files, batch by batch, as the arguments specify."""
+    of_run = {"limits": iim.Limits(*words.limits), "now": words.now, "form": form, "most": words.timeout}
+    reader = functools.partial(archive_rows.read_batch, **of_run)
     batches = batches_of(files, words.batch)
     if words.scheduler is not None:
-        return map(marshal.loads, by_distributed(batches, reader, words.scheduler))
-    # (where the library isn't there, that is said once, and not of each file)
-    iim.cause_name(1)
+        import archive_distributed
+
+        return map(marshal.loads, archive_distributed.by_distributed(batches, reader, words.scheduler))
     if words.workers is not None:
         import archive_workers
 
-        return map(marshal.loads, archive_workers.by_processes(batches, reader, words.workers))
-    return map(functools.partial(read_files, **of_run), batches)
+        return map(marshal.loads, archive_workers.by_processes(batches, reader, words.workers, words.timeout))
+    archive_rows.interrupt_reads()
+    return map(functools.partial(archive_rows.read_files, **of_run), batches)
 
 
-# --- Manners ---
+# --- Output, signals and progress ---
 
 
 class ReaderStopped(Exception):
-    """Nobody reads standard output any more."""
+    """Raised if the reader of standard output has closed it."""
+
+
+class OutputFailed(Failure):
+    """Raised if standard output can't be written."""
 
 
 def write(text: str) -> None:
-    """Writes to standard output, at once. Raises `ReaderStopped` or `iim.CannotWrite`, and then nothing more is written."""
-    # (Python's own loses what is left of a long text where a signal comes)
+    """Write to standard output without a buffer.
+
+    Raises:
+        ReaderStopped: The reader has closed the pipe. Nothing more is written.
+        OutputFailed: Standard output can't be written. Nothing more is written.
+    """
+    # (if it was closed, its descriptor may be that of another file)
+    if sys.stdout is None:
+        raise OutputFailed("standard output: closed")
+    # (Python's own stream loses the rest of a long text if a signal arrives)
     left = memoryview(text.encode("utf-8"))
     try:
         while left:
             left = left[os.write(sys.stdout.fileno(), left) :]
     except OSError as fault:
-        # (so that Python doesn't try it once more at its end)
-        os.dup2(os.open(os.devnull, os.O_WRONLY), sys.stdout.fileno())
-        raise ReaderStopped if isinstance(fault, BrokenPipeError) else iim.CannotWrite from None
+        # (so that Python doesn't retry when it exits)
+        with contextlib.suppress(OSError):
+            os.dup2(os.open(os.devnull, os.O_WRONLY), sys.stdout.fileno())
+        if isinstance(fault, BrokenPipeError):
+            raise ReaderStopped from None
+        raise OutputFailed(f"standard output: {fault.strerror}") from None
+
+
+def write_error(text: str) -> None:
+    """Write to standard error, if that is possible."""
+    with contextlib.suppress(OSError, ValueError):
+        if sys.stderr is not None:
+            sys.stderr.write(text)
+            sys.stderr.flush()
 
 
 class Interrupt:
-    """Ctrl-C. It stops the wait for the next block, and never the work on one: what is told of a block is told as a whole."""
+    """A handler of Ctrl-C and SIGTERM.
+
+    A signal ends the wait for the next block, but not the work on one, so that the rows of a block
+    are written as a whole.
+    """
 
     def __init__(self) -> None:
         self._pressed = self._waits = False
-        signal.signal(signal.SIGINT, self._press)
+        for each in signal.SIGINT, signal.SIGTERM:
+            signal.signal(each, self._press)
 
     def _press(self, *_: object) -> None:
         self._pressed = True
@@ -218,7 +168,7 @@ class Interrupt:
             raise KeyboardInterrupt
 
     def each(self, things: Iterator[Thing]) -> Iterator[Thing]:
-        """The things, one after another. Raises `KeyboardInterrupt` where Ctrl-C was pressed before the next one came."""
+        """Yield the things. Raise `KeyboardInterrupt` if a signal arrives before the next one."""
         while True:
             self._waits = True
             try:
@@ -233,7 +183,7 @@ class Interrupt:
 
 
 class Progress:
-    """What has been done so far, on a terminal: by tqdm, where that is there, or else by a line every two seconds."""
+    """Report progress on a terminal: by tqdm if installed, or else by a line every two seconds."""
 
     EVERY = 2.0
 
@@ -249,7 +199,7 @@ class Progress:
             self._bar = tqdm(total=octets, unit="B", unit_scale=True, leave=False, mininterval=min(self.EVERY, 0.1))
 
     def add(self, files: int, octets: int, envelopes: int, refused: int) -> None:
-        """So many more were done."""
+        """Add to the counts, and report them."""
         self.files += files
         self.octets += octets
         self.envelopes += envelopes
@@ -259,7 +209,7 @@ class Progress:
             self._bar.update(octets)
         elif clock() - self._told >= self.EVERY:
             self._told = clock()
-            sys.stderr.write(f"{self._counts()}, {self._speed()}\n")
+            write_error(f"{self._counts()}, {self._speed()}\n")
 
     def _counts(self) -> str:
         return f"{self.files:,} of {self._of_files:,} files, {self.envelopes:,} envelopes, {self.refused:,} refused"
@@ -270,13 +220,13 @@ class Progress:
         return f"{a_second / 1e6:.1f} MB/s, {left} left"
 
     def end(self) -> None:
-        """No more is told."""
+        """End the report."""
         if self._bar is not None:
             self._bar.close()
 
 
 class Silence:
-    """No progress is told."""
+    """Report no progress."""
 
     def add(self, files: int, octets: int, envelopes: int, refused: int) -> None:
         pass
@@ -294,45 +244,33 @@ def clock() -> float:
     return time.monotonic()
 
 
-def progress_over(trees: List[bytes], pattern: str) -> Teller:
-    """What tells the progress: on a terminal all files are counted first."""
-    if not sys.stderr.isatty():
+def progress_over(trees: List[bytes], pattern: str, interrupt: Interrupt) -> Teller:
+    """Return an object that reports the progress. On a terminal all files are counted first.
+
+    Raises:
+        KeyboardInterrupt: A signal arrived while the files were counted.
+    """
+    if sys.stderr is None or not sys.stderr.isatty():
         return Silence()
     files = octets = 0
-    for found in itertools.chain.from_iterable(files_of(tree, pattern) for tree in trees):
+    for found in interrupt.each(itertools.chain.from_iterable(files_of(tree, pattern) for tree in trees)):
         files += 1
         octets += found.size
     return Progress(files, octets)
 
 
-# --- Rows that are printed ---
-
-
-def lines_of(rows: FileRows, now: datetime.datetime) -> Lines:
-    """What is printed of a file, but for what its envelopes repeat: its name; of each envelope its id, and its line up to there; the line
-    after those, or None; the file's state, how many octets it has, and how many of its envelopes are held."""
-    name = archive_rows.name_of(rows.path)
-    second = archive_rows.seconds(now)
-    envelopes = archive_rows.rows_in(rows.envelopes)
-    fronts = [(row[5] + row[6] + row[4], archive_rows.envelope_front(name, row, now, second)) for row in envelopes]
-    held = sum(row[13] is not None and row[13] > second for row in envelopes)
-    last = None
-    if rows.refusal is not None:
-        last = archive_rows.refusal_line(name, rows.refusal[-1])
-    elif rows.state != "accepted":
-        last = archive_rows.file_line(name, rows.state, rows.reason)
-    return name, fronts, last, rows.state, rows.size, held
+# --- Printing rows ---
 
 
 class Report:
-    """Prints the rows of all files as they come, each with what it repeats, and keeps the sums and the ids."""
+    """Print the rows of all files, each with the envelope that it repeats, and count them."""
 
     def __init__(self) -> None:
         self.sums = dict.fromkeys(("files", "envelopes", "repeated", "held", "refused", "empty", "failed"), 0)
         self._first: Dict[str, Tuple[str, int]] = {}
 
     def add(self, files: List[Lines], progress: Teller) -> None:
-        """Prints the rows of some files."""
+        """Print the rows of some files."""
         text: List[str] = []
         sums = self.sums
         for name, fronts, last, state, size, held in files:
@@ -351,12 +289,12 @@ class Report:
         write("".join(text))
 
     def status(self) -> int:
-        """The status of the command."""
+        """Return the exit status."""
         return 3 if self.sums["failed"] else 1 if self.sums["refused"] else 0
 
 
 def print_trees(words: argparse.Namespace, interrupt: Interrupt) -> int:
-    """Audits the trees that the words name, prints the rows, and answers the status."""
+    """Audit the trees that the arguments name, print the rows, and return the exit status."""
     trees = [os.fsencode(tree) for tree in words.tree]
     report = Report()
 
@@ -365,27 +303,37 @@ def print_trees(words: argparse.Namespace, interrupt: Interrupt) -> int:
             report.sums["files"] += not found.is_folder
             yield Asked(number, *found)
 
-    progress = progress_over(trees, words.name)
+    write("")
+    load_library(words)
+    progress: Teller = Silence()
     status = 130
-    with contextlib.suppress(KeyboardInterrupt):
-        for told in interrupt.each(told_of(files(), words, lines_of)):
-            report.add(told, progress)
-        status = report.status()
+    try:
+        with contextlib.suppress(KeyboardInterrupt):
+            progress = progress_over(trees, words.name, interrupt)
+            for block in interrupt.each(told_of(files(), words, lines_of)):
+                report.add(block, progress)
+            status = report.status()
+    except (ReaderStopped, OutputFailed):
+        raise
+    except Exception as fault:
+        end_early(fault, progress, report.sums)
     progress.end()
     write(json.dumps(report.sums) + "\n")
     return status
 
 
-# --- Rows that are kept ---
+def end_early(fault: Exception, progress: Teller, sums: Dict[str, int]) -> NoReturn:
+    """Print the totals so far of a run that failed, and raise its exception."""
+    progress.end()
+    write(json.dumps(sums) + "\n")
+    raise fault from None
 
 
-def kept_rows(rows: FileRows, now: datetime.datetime) -> KeptRows:
-    """What is kept of a file."""
-    return (*rows,)
+# --- Storing rows in an index ---
 
 
 def separate(trees: Iterable[str]) -> List[bytes]:
-    """The whole names of the trees, in order, without those that lie in others."""
+    """Return the absolute paths of the trees, in order, without those inside others."""
     names: List[bytes] = []
     for name in sorted({os.fsencode(os.path.abspath(tree)) for tree in trees}, key=lambda name: name + b"/"):
         if not (names and name.startswith(os.path.join(names[-1], b""))):
@@ -394,20 +342,24 @@ def separate(trees: Iterable[str]) -> List[bytes]:
 
 
 class Kept:
-    """A run that writes an index: what is new or has changed is read, and what is gone is marked."""
+    """A run that updates an index: it reads new and changed files, and marks files gone."""
 
-    # So many files are marked at a time.
+    # The number of files that are marked at a time.
     MARKS = 1_000
 
     def __init__(self, index: Index, words: argparse.Namespace, progress: Teller) -> None:
-        self._index, self._words, self._progress = index, words, progress
+        self._index, self._words, self.progress = index, words, progress
         self.found = self.unchanged = self.gone = 0
         self._matches = re.compile(fnmatch.translate(words.name)).match
-        self._own = {os.fsencode(os.path.abspath(words.into)) + end for end in (b"", b"-wal", b"-shm", b"-journal", b".lock")}
+        self._own = {os.fsencode(os.path.abspath(words.into) + end) for end in ENDS}
         self._marks: Dict[bool, List[int]] = {True: [], False: []}
 
+    def of_run(self) -> Dict[str, int]:
+        """Return the totals of this run, which the index doesn't have."""
+        return {"files": self.found, "unchanged": self.unchanged, "gone": self.gone}
+
     def files(self, trees: List[bytes]) -> Iterator[Asked]:
-        """The files that have to be read."""
+        """Yield the files to read."""
         for tree in trees:
             if os.path.isdir(tree):
                 below = os.path.join(tree, b"")
@@ -419,7 +371,12 @@ class Kept:
             self._mark(gone, 1)
 
     def _changes(self, files: Iterator[Found], known: Iterator[Tuple[bytes, Known]]) -> Iterator[Asked]:
-        """Those of a tree: its files, and what is known of them, both in the order of their names."""
+        """Yield the files of a tree to read.
+
+        Args:
+            files: The files of the tree, ordered by name.
+            known: The entries of the index for the tree, ordered by name.
+        """
         nothing: Tuple[bytes, Optional[Known]] = b"", None
         path, was = next(known, nothing)
         for found in files:
@@ -434,7 +391,7 @@ class Kept:
                 mine = was
                 path, was = next(known, nothing)
             if found.is_folder:
-                # (of what lies in it nothing is said)
+                # (it is not known which of its files are gone)
                 while was is not None and path.startswith(found.path):
                     path, was = next(known, nothing)
             if mine is None:
@@ -448,7 +405,7 @@ class Kept:
             path, was = next(known, nothing)
 
     def _miss(self, path: bytes, was: Known) -> None:
-        """A file is not there, if it was among those that are asked for."""
+        """Mark a file as gone if its name matches the pattern."""
         if self._matches(os.fsdecode(os.path.basename(path))) or path.endswith(b"/"):
             self.gone += 1
             if not was.gone:
@@ -456,21 +413,21 @@ class Kept:
                 self._mark(True, self.MARKS)
 
     def _meet(self, was: Known, found: Found) -> None:
-        """A file is as it was."""
+        """Count a file that is unchanged, and mark it as present."""
         self.unchanged += 1
-        self._progress.add(1, found.size, 0, 0)
+        self.progress.add(1, found.size, 0, 0)
         if was.gone:
             self._marks[False].append(was.file)
             self._mark(False, self.MARKS)
 
     def _mark(self, gone: bool, least: int) -> None:
-        """Marks the files, where there are so many."""
+        """Write the marks to the index if there are at least `least`."""
         if len(self._marks[gone]) >= least:
             self._index.mark(self._marks[gone], gone)
             self._marks[gone].clear()
 
     def add(self, kept: List[KeptRows]) -> None:
-        """Writes the rows of some files."""
+        """Write the rows of some files to the index."""
         files: List[FileRow] = []
         envelopes: Cells = []
         refusals: List[RefusalRow] = []
@@ -479,49 +436,73 @@ class Kept:
             envelopes += rows
             if refusal is not None:
                 refusals.append(refusal)
-            self._progress.add(1, size, len(rows) // archive_rows.COLUMNS, state == "refused")
+            self.progress.add(1, size, len(rows) // archive_rows.COLUMNS, state == "refused")
         self._index.write(files, envelopes, refusals)
 
 
 def write_index(words: argparse.Namespace, interrupt: Interrupt) -> int:
-    """Brings an index up to the trees that the words name, prints the sums, and answers the status."""
+    """Update an index from the trees given, print the totals, and return the exit status."""
     import archive_index
 
+    write("")
+    load_library(words)
+    for tree in words.tree:
+        if os.path.exists(words.into) and os.path.exists(tree) and os.path.samefile(words.into, tree):
+            raise Failure(f"{words.into}: is an input")
     with contextlib.closing(archive_index.Index(words.into)) as index:
-        trees = separate(words.tree)
-        progress = progress_over(trees, words.name)
+        progress: Teller = Silence()
         kept = Kept(index, words, progress)
         stopped = True
-        with contextlib.suppress(KeyboardInterrupt):
-            for told in interrupt.each(told_of(kept.files(trees), words, kept_rows)):
-                kept.add(told)
-            stopped = False
-        progress.end()
-        sums = index.end(archive_rows.seconds(words.now))
-        of_run = {"files": kept.found, "unchanged": kept.unchanged, "gone": kept.gone}
-        write(json.dumps({**of_run, **sums}) + "\n")
+        try:
+            with contextlib.suppress(KeyboardInterrupt):
+                trees = separate(words.tree)
+                kept.progress = progress = progress_over(trees, words.name, interrupt)
+                for block in interrupt.each(told_of(kept.files(trees), words, kept_rows)):
+                    kept.add(block)
+                stopped = False
+            progress.end()
+            sums = index.end(archive_rows.seconds(words.now))
+        except Exception as fault:
+            so_far = {**kept.of_run(), **index.sums_so_far(archive_rows.seconds(words.now))}
+            end_early(in_index(fault, words.into), progress, so_far)
+        write(json.dumps({**kept.of_run(), **sums}) + "\n")
         return 130 if stopped else 3 if sums["failed"] else 1 if sums["refused"] else 0
 
 
+def in_index(fault: Exception, *names: str) -> Exception:
+    """Return the exception to raise for a fault.
+
+    An error of SQLite becomes one that names the indexes.
+    """
+    return archive_rows.NoIndex(f"{', '.join(names)}: {fault}") if isinstance(fault, sqlite3.Error) else fault
+
+
 def print_query(words: argparse.Namespace, interrupt: Interrupt) -> int:
-    """Prints the rows of indexes that the words ask for."""
+    """Print the rows of indexes that the arguments select, and return the exit status."""
     import archive_query
 
-    lines = archive_query.lines(words)
-    with contextlib.suppress(KeyboardInterrupt):
-        for text in interrupt.each(lines):
+    write("")
+    try:
+        for text in interrupt.each(archive_query.lines(words)):
             write(text)
-        return 0
-    return 130
+    except sqlite3.Error as fault:
+        raise in_index(fault, *words.index) from None
+    except KeyboardInterrupt:
+        return 130
+    return 0
 
 
 def print_report(words: argparse.Namespace, interrupt: Interrupt) -> int:
-    """Tells how the archive of an index stands: prints it, or writes it as a page."""
+    """Print the report on an archive or write it as a page, and return the exit status."""
     import archive_report
 
+    if words.html is None:
+        write("")
     found: Dict[str, Any] = {}
     try:
         found.update(interrupt.each(archive_report.parts(words)))
+    except sqlite3.Error as fault:
+        raise in_index(fault, words.index) from None
     except KeyboardInterrupt:
         return 130
     told = archive_report.told_of(found)
@@ -529,123 +510,169 @@ def print_report(words: argparse.Namespace, interrupt: Interrupt) -> int:
         import archive_page
 
         text = archive_page.page(told)
-        try:
-            with open(words.html, "w", encoding="utf-8") as to:
-                to.write(text)
-        except OSError:
-            raise iim.CannotWrite from None
+        with replace_file(words.html, words.inputs, force=words.force) as to:
+            to.write(text)
         return 0
     if words.html is not None:
-        sys.stderr.write("no page is made: python3-matplotlib or python3-jinja2 is not here\n")
+        write_error("no page is written: python3-matplotlib or python3-jinja2 is not installed\n")
     write("\n".join([*archive_report.lines(told), ""]))
     return 0
 
 
-# --- Words ---
+# --- Arguments ---
+
+
+class Parser(argparse.ArgumentParser):
+    """A parser that reports a failure to print its help, which argparse ignores."""
+
+    def print_help(self, file: Any = None) -> None:
+        """Print the help to standard output."""
+        write(self.format_help())
 
 
 def instant(word: str) -> datetime.datetime:
-    """An instant, as 2024-03-01T12:00:00Z."""
+    """Parse an instant, such as 2024-03-01T12:00:00Z."""
     read = datetime.datetime.fromisoformat(re.sub("[zZ]$", "+00:00", word))
     if read.tzinfo is None:
-        raise argparse.ArgumentTypeError("an instant has an offset, or Z")
+        raise argparse.ArgumentTypeError("an instant must have an offset, or Z")
     if archive_rows.seconds(read) > iim.LAST_SECOND:
         raise argparse.ArgumentTypeError("the last instant is 9999-12-30T22:00:00Z")
     return read
 
 
+def time_limit(word: str) -> float:
+    """Parse a time limit in seconds."""
+    seconds = float(word)
+    if not 0 < seconds <= MOST_SECONDS:
+        raise argparse.ArgumentTypeError(f"must be more than 0 and at most {MOST_SECONDS}")
+    return seconds
+
+
+def workers(word: str) -> int:
+    """Parse a number of processes."""
+    number = at_least_one(word)
+    if number > MOST_WORKERS:
+        raise argparse.ArgumentTypeError(f"must be at most {MOST_WORKERS}")
+    return number
+
+
 def at_least_one(word: str) -> int:
-    """A number that isn't 0."""
+    """Parse a positive number."""
     number = int(word)
     if number < 1:
-        raise argparse.ArgumentTypeError("at least 1")
+        raise argparse.ArgumentTypeError("must be at least 1")
     return number
 
 
 def dates(word: str) -> Tuple[str, str]:
-    """A date, or the first and the last of several, as 20240301..20240331."""
+    """Parse a date, or a range of dates, such as 20240301..20240331."""
     first, _, last = word.partition("..")
     if not all(re.fullmatch("[0-9]{8}", each) for each in (first, last or first)):
-        raise argparse.ArgumentTypeError("a date is as 20240301")
+        raise argparse.ArgumentTypeError("a date must have the form CCYYMMDD, such as 20240301")
     return first, last or first
 
 
+# Help of options that several commands have.
+LIMITS_HELP = "maximum bytes of data, and number of datasets, in records 1 and 2 together [default: 65536 512]"
+NOW_HELP = "instant for ages, and for copy that is held or expired, such as 2024-03-01T12:00:00Z [default: the present]"
+
+
 def parse(words: List[str]) -> argparse.Namespace:
-    """What the words ask for."""
-    parser = argparse.ArgumentParser(
-        description="Checks and audits a tree of files of envelopes, as lines of JSON.",
-        epilog="`%(prog)s query --help` tells how an index is asked, and `%(prog)s report --help` how the archive is shown.",
+    """Parse the arguments of a run."""
+    parser = Parser(
+        description="Check and audit a directory tree of files of envelopes, and print lines of JSON.",
+        epilog="Other commands: `%(prog)s query` prints rows of an index, and `%(prog)s report` summarizes an archive; see their `--help`.",
     )
-    parser.add_argument("tree", metavar="TREE", nargs="+", help="a folder or a file")
-    parser.add_argument("--into", metavar="INDEX", help="keep the rows in this database, and read only what is new or changed")
+    parser.add_argument("tree", metavar="TREE", nargs="+", help="directory or file to read")
+    parser.add_argument("--into", metavar="INDEX", help="store the rows in this database, and read only files that are new or changed")
     engine = parser.add_mutually_exclusive_group()
-    engine.add_argument("--workers", metavar="N", type=at_least_one, help="run on N processes of this machine")
-    engine.add_argument("--scheduler", metavar="ADDRESS", help="run on the workers of this Dask scheduler, as tcp://host:8786")
-    parser.add_argument("--now", metavar="INSTANT", type=instant, help="as 2024-03-01T12:00:00Z; the present where it isn't given")
-    parser.add_argument("--name", metavar="PATTERN", default="*", help="the names of files to read in a folder, as '*.iim'")
-    parser.add_argument("--batch", metavar="N", type=at_least_one, default=128, help="most files of one task; 128 where it isn't given")
-    parser.add_argument("--limits", metavar=("OCTETS", "FIELDS"), type=int, nargs=2, default=iim.WIRE, help="of records 1 and 2")
+    engine.add_argument("--workers", metavar="N", type=workers, help="read with N processes on this machine")
+    engine.add_argument("--scheduler", metavar="ADDRESS", help="read with the workers of this Dask scheduler, such as tcp://host:8786")
+    parser.add_argument("--now", metavar="INSTANT", type=instant, help=NOW_HELP)
+    parser.add_argument("--name", metavar="PATTERN", default="*", help="read only files whose names match, such as '*.iim' [default: all]")
+    parser.add_argument("--batch", metavar="N", type=at_least_one, default=128, help="maximum number of files in one task [default: 128]")
+    parser.add_argument("--limits", metavar=("OCTETS", "FIELDS"), type=int, nargs=2, default=iim.WIRE, help=LIMITS_HELP)
+    parser.add_argument(
+        "--timeout", metavar="SECONDS", type=time_limit, default=archive_rows.LONGEST_TIME, help="maximum time for one file [default: 300]"
+    )
     asked = parser.parse_args(words)
     if not all(1 <= limit <= iim.GREATEST_LIMIT for limit in asked.limits):
-        parser.error(f"a limit is from 1 to {iim.GREATEST_LIMIT}")
+        parser.error(f"a limit must be from 1 to {iim.GREATEST_LIMIT}")
     asked.run = print_trees if asked.into is None else write_index
     return asked
 
 
 def parse_query(words: List[str]) -> argparse.Namespace:
-    """What the words after `query` ask for."""
-    parser = argparse.ArgumentParser(description="Prints the rows of indexes, in the order of the files' names.")
+    """Parse the arguments of `query`."""
+    parser = Parser(description="Print the rows of indexes, ordered by the files' names.")
     parser.prog += " query"
-    parser.add_argument("index", metavar="INDEX", nargs="+", help="what a run with --into has written; of several all rows together")
-    parser.add_argument("--date", metavar="DATE[..DATE]", type=dates, help="of envelopes sent then, as 20240301 or 20240301..20240331")
-    parser.add_argument("--service", metavar="SERVICE", help="of envelopes of this service")
-    parser.add_argument("--cause", metavar="CAUSE", help="refusals by this cause: its number or its name")
-    parser.add_argument("--repeats", action="store_true", help="envelopes that repeat another one")
-    parser.add_argument("--only", metavar="KIND", choices=("envelope", "refused", "empty", "failed", "gone"), help="envelope, refused, empty, failed or gone")
-    parser.add_argument("--now", metavar="INSTANT", type=instant, help="for ages, and for copy that is held or expired")
-    parser.add_argument("--csv", action="store_true", help="as CSV, with a line of names; else as lines of JSON")
+    parser.add_argument("index", metavar="INDEX", nargs="+", help="index written by a run with --into; the rows of several are merged")
+    parser.add_argument("--date", metavar="DATE[..DATE]", type=dates, help="only envelopes sent then, such as 20240301 or 20240301..20240331")
+    parser.add_argument("--service", metavar="SERVICE", help="only envelopes of this service")
+    parser.add_argument("--cause", metavar="CAUSE", help="only refusals with this cause: its number or its name")
+    parser.add_argument("--repeats", action="store_true", help="only envelopes that repeat another one")
+    kinds = ("envelope", "refused", "empty", "failed", "gone")
+    parser.add_argument("--only", metavar="KIND", choices=kinds, help="only rows of this kind: envelope, refused, empty, failed or gone")
+    parser.add_argument("--now", metavar="INSTANT", type=instant, help=NOW_HELP)
+    parser.add_argument("--csv", action="store_true", help="print CSV with a header line [default: lines of JSON]")
     asked = parser.parse_args(words)
     asked.run = print_query
     return asked
 
 
 def parse_report(words: List[str]) -> argparse.Namespace:
-    """What the words after `report` ask for."""
-    parser = argparse.ArgumentParser(description="Tells how an archive stands, by its index.")
+    """Parse the arguments of `report`."""
+    parser = Parser(description="Summarize an archive by its index.")
     parser.prog += " report"
-    parser.add_argument("index", metavar="INDEX", help="what a run with --into has written")
-    parser.add_argument("--html", metavar="OUT", help="write it as a page, and the pages of damaged files into a folder beside that")
-    parser.add_argument("--now", metavar="INSTANT", type=instant, help="for ages, and for copy that is held or expired")
-    parser.add_argument("--limits", metavar=("OCTETS", "FIELDS"), type=int, nargs=2, default=iim.WIRE, help="of records 1 and 2")
+    parser.add_argument("index", metavar="INDEX", help="index written by a run with --into")
+    parser.add_argument("--html", metavar="OUT", help="write an HTML page, and pages of damaged files in a directory beside it")
+    parser.add_argument("--force", action="store_true", help="replace symbolic links, and files that are no pages of this program")
+    parser.add_argument("--now", metavar="INSTANT", type=instant, help=NOW_HELP)
+    parser.add_argument("--limits", metavar=("OCTETS", "FIELDS"), type=int, nargs=2, default=iim.WIRE, help=LIMITS_HELP)
     asked = parser.parse_args(words)
     asked.run = print_report
     return asked
 
 
 def main(words: Optional[List[str]] = None) -> int:
-    """Runs the command, and answers its status."""
+    """Run the command, and return its exit status."""
     words = sys.argv[1:] if words is None else words
     parsers = {"query": parse_query, "report": parse_report}
-    asked = parsers[words[0]](words[1:]) if words[:1] and words[0] in parsers else parse(words)
-    asked.now = asked.now or datetime.datetime.now(datetime.timezone.utc)
     try:
+        asked = parsers[words[0]](words[1:]) if words[:1] and words[0] in parsers else parse(words)
+        asked.now = asked.now or datetime.datetime.now(datetime.timezone.utc)
         status: int = asked.run(asked, Interrupt())
         return status
     except ReaderStopped:
-        pass
-    except iim.CannotWrite:
-        sys.stderr.write("cannot write\n")
-    except ModuleNotFoundError as fault:
-        sys.stderr.write(f"{fault} (Debian: python3-distributed)\n")
-    except (ImportError, archive_rows.NoIndex) as fault:
-        sys.stderr.write(f"{fault}\n")
-    except OSError as fault:
-        sys.stderr.write(f"no scheduler: {fault}\n")
-    return 3
+        return 3
+    except KeyboardInterrupt:
+        return 130
+    except Exception as fault:
+        if sys.flags.dev_mode:
+            raise
+        write_error(f"iim-archive: {one_line(reason_of(fault))}\n")
+        return 3
+
+
+def reason_of(fault: Exception) -> str:
+    """Return the text that is printed for a fault that ended the run: `what: reason`."""
+    if isinstance(fault, MemoryError):
+        return "out of memory"
+    if isinstance(fault, ModuleNotFoundError) and fault.name == "distributed":
+        return "--scheduler: Dask distributed is not installed (Debian: python3-distributed)"
+    if isinstance(fault, OSError) and fault.filename is not None:
+        return f"{os.fsdecode(fault.filename)}: {fault.strerror}"
+    known = isinstance(fault, (Failure, OutputRefused, ImportError, OSError))
+    return str(fault) if known else f"{type(fault).__name__}: {fault}"
+
+
+def one_line(text: str) -> str:
+    """Return a text as one line, with escapes for characters that can't be printed."""
+    return "".join(each if each.isprintable() else repr(each)[1:-1] for each in text)
 
 
 if __name__ == "__main__":
-    # Workers find what they run in the module, by its name.
+    # Workers import their functions from the module by its name.
     import archive
 
     sys.exit(archive.main())

@@ -1,7 +1,9 @@
-"""The page of archive.py's report: its pictures by matplotlib, within it, and the page by jinja2. It has no script, and asks for nothing."""
+"""Generate the HTML page of archive.py's report, by jinja2, with charts by matplotlib.
+
+The charts are part of the page. It has no script and loads nothing.
+"""
 from __future__ import annotations
 
-import contextlib
 import io
 import os
 import re
@@ -12,20 +14,23 @@ import matplotlib
 from markupsafe import Markup
 
 import archive_report
+import archive_rows
 import explain
 import explain_page
 import iim
 from archive_report import Bars, Told
 from explain_walk import Source
+from safe_output import LINK, PAGE_HEAD, Input, OutputRefused, replace_file
 
-# Damaged files that have a page of their own.
+# The maximum number of damaged files that get a page.
 PAGES = 50
 
 matplotlib.use("svg")
 matplotlib.rcParams.update({"svg.fonttype": "none", "svg.hashsalt": "report", "text.parse_math": False, "font.size": 10, "text.usetex": False})
 
-TEMPLATE = """<!doctype html>
-<html lang="en"><head><meta charset="utf-8"><title>{{ told.name }}</title>
+TEMPLATE = (
+    PAGE_HEAD
+    + """<title>{{ told.name }}</title>
 <meta http-equiv="Content-Security-Policy" content="default-src 'none'; style-src 'unsafe-inline'"><meta name="viewport" content="width=device-width">
 <style>
 :root { color-scheme: light dark; --back: #f1f3f5; --card: #fff; --text: #1d2530; --dim: #5d6874; --line: #ccd3da }
@@ -54,43 +59,62 @@ table { border-collapse: collapse; font-size: 14px } td, th { padding: 2px 14px 
 <tr><th>file</th><th>envelope</th><th>octet of the file</th><th>dataset</th><th>cause</th><th>id</th></tr>
 {% for each in told.damaged %}<tr><td>{% if each.page %}<a href="{{ each.page }}">{{ named(each.path) }}</a>{% else %}{{ named(each.path) }}{% endif %}</td>
 <td>{{ each.envelope }}</td><td>{{ "{:,}".format(each.at) }}</td><td>{{ each.dataset }}</td><td>{{ each.cause }}</td><td>{{ each.id }}</td></tr>
-{% endfor %}</table><p class=no>A file's name leads to what explain tells of it. Where it leads nowhere, <code>python3 -m iim explain FILE --html OUT</code> makes that page.</p>
+{% endfor %}</table><p class=no>A file's name links to its explanation. Without a link, <code>python3 -m iim explain FILE --html OUT</code> writes that page.</p>
 {% else %}<p class=no>none</p>{% endif %}</section>
 </main></body></html>
 """
+)
 
 
 class Pages:
-    """The pages of damaged files: they are written into a folder beside the report."""
+    """The pages of damaged files, in a directory beside the report."""
 
-    def __init__(self, report: str, limits: Tuple[int, int]) -> None:
+    def __init__(self, report: str, limits: Tuple[int, int], inputs: List[Input], force: bool) -> None:
         self._folder = f"{re.sub('[.]html?$', '', report)}.files"
         self._limits, self._count = iim.Limits(*limits), 0
+        self._inputs, self._force = inputs, force
 
     def page_of(self, path: bytes) -> Optional[str]:
-        """Writes the page of a file, and answers where it is, as the report names it; or None where there is none."""
-        if self._count == PAGES:
+        """Write the page of a file, and return its link.
+
+        Returns:
+            The link, or `None` if the file can't be read, or if there are `PAGES` pages already.
+
+        Raises:
+            OSError: The page can't be written.
+            OutputRefused: The page must not be written.
+        """
+        text = self._text_of(path) if self._count < PAGES else None
+        if text is None:
             return None
-        with contextlib.suppress(OSError):
-            text = explain_page.page(explain.Case(Source(os.fsdecode(path)), self._limits))
-            os.makedirs(self._folder, exist_ok=True)
-            name = f"{self._count + 1}.html"
-            with open(os.path.join(self._folder, name), "w", encoding="utf-8") as to:
-                to.write(text)
-            self._count += 1
-            return f"{quoted(os.path.basename(self._folder))}/{name}"
-        return None
+        if os.path.islink(self._folder) and not self._force:
+            raise OutputRefused(f"{self._folder}: {LINK}")
+        if not os.path.isdir(self._folder):
+            os.mkdir(self._folder)
+        self._count += 1
+        name = f"{self._count}.html"
+        with replace_file(os.path.join(self._folder, name), [*self._inputs, path], force=self._force) as to:
+            to.write(text)
+        return f"{quoted(os.path.basename(self._folder))}/{name}"
+
+    def _text_of(self, path: bytes) -> Optional[str]:
+        try:
+            # (a path that is no longer a regular file could block without end)
+            os.close(archive_rows.opened(path))
+            return explain_page.page(explain.Case(Source(os.fsdecode(path)), self._limits))
+        except OSError:
+            return None
 
 
 def quoted(name: str) -> str:
-    """A name as a part of a link."""
+    """Return a name quoted as part of a link."""
     import urllib.parse
 
     return urllib.parse.quote(os.fsencode(name))
 
 
 def picture(bars: Bars) -> Markup:
-    """The picture of some bars, as SVG."""
+    """Return a bar chart as SVG."""
     from matplotlib.figure import Figure
 
     names: List[str] = [name if len(name) <= 30 else name[:28] + ".." for name, _ in bars.rows]
@@ -111,12 +135,12 @@ def picture(bars: Bars) -> Markup:
     figure.tight_layout()
     out = io.StringIO()
     figure.savefig(out, format="svg", metadata={"Date": None, "Creator": None})
-    # (what stands before the element is for files, and tells where the form of it is described)
+    # (the prolog before the element is for files)
     drawn_as = re.sub(r"<metadata>.*?</metadata>", "", out.getvalue()[out.getvalue().index("<svg") :], flags=re.S)
     return Markup(drawn_as)
 
 
 def page(told: Told) -> str:
-    """The page of a report."""
+    """Return the page of a report."""
     template = jinja2.Environment(autoescape=True).from_string(TEMPLATE)
     return template.render(told=told, picture=picture, named=archive_report.named)

@@ -1,4 +1,4 @@
-"""The rows that archive.py's indexes have: those that are asked for, in the order of the files' names."""
+"""Query the indexes of archive.py: yield the selected rows, ordered by the files' names."""
 from __future__ import annotations
 
 import argparse
@@ -12,10 +12,10 @@ import sqlite3
 from typing import Any, Callable, Dict, Iterable, Iterator, List, Optional, Tuple
 
 import archive_rows
-from archive_index import CACHE, FORM
+from archive_index import CACHE, COUNT_OF_TABLES, FORM, HAS_TABLES, LOCK_WAIT, check_path
 from archive_rows import NoIndex
 
-# How many lines are handed on at a time.
+# The number of lines that are printed at a time.
 LINES = 1_000
 
 # The columns of CSV: those of envelopes, then those of refusals and of files.
@@ -24,7 +24,8 @@ COLUMNS = [
     "age", "copy", "repeats_file", "repeats_envelope", "layer", "dataset", "octet", "octet_in_file", "cause", "cause_name", "reason",
 ]  # fmt: skip
 
-# The repeats of all parts: a row for each envelope that has the id of one before it, in the order of the files' names.
+# The repeats in all indexes: a row for each envelope with the id of an earlier one, by the files'
+# names.
 REPEATS = """
 CREATE TEMP TABLE many AS SELECT date_sent, service, number FROM ({ids}) GROUP BY date_sent, service, number HAVING count(*) > 1;
 CREATE UNIQUE INDEX temp.by_many ON many (date_sent, service, number);
@@ -46,29 +47,35 @@ REFUSALS = """SELECT f.path, e.envelope, e.told FROM part{part}.files AS f JOIN 
 WHERE f.gone = 0 {where} ORDER BY f.path"""
 FILES = "SELECT path, state, reason, gone FROM part{part}.files WHERE {where} ORDER BY path"
 
-# What was found: of which kind it is, and the columns that the database gives of it. A row also has the place where it stands.
+# A result: its kind, and its columns in the database. A row also has its sort key: path and number.
 Found = Tuple[str, Any]
 Row = Tuple[Tuple[bytes, int], Found]
 
 
 def opened(paths: List[str]) -> sqlite3.Connection:
-    """All indexes, as part0, part1 and so on of one database, which holds nothing else in memory."""
-    database = sqlite3.connect("", isolation_level=None, timeout=60)
+    """Open all indexes as part0, part1 and so on of one database that is otherwise empty.
+
+    Raises:
+        NoIndex: A path has no index, or can't be opened.
+    """
+    database = sqlite3.connect("", isolation_level=None, timeout=LOCK_WAIT)
     database.execute(f"PRAGMA cache_size = -{CACHE >> 10}")
     for part, path in enumerate(paths):
         if not os.path.exists(path):
             raise NoIndex(f"{path}: there is no index")
+        check_path(path)
         try:
             database.execute(f"ATTACH ? AS part{part}", (path,))
-            if database.execute(f"PRAGMA part{part}.user_version").fetchone()[0] != FORM:
-                raise NoIndex(f"{path}: no index of this archive.py")
+            form = database.execute(f"PRAGMA part{part}.user_version").fetchone()[0]
+            if form != FORM or database.execute(HAS_TABLES.format(f"part{part}.")).fetchone()[0] != COUNT_OF_TABLES:
+                raise NoIndex(f"{path}: not an index of this version of archive.py")
         except sqlite3.Error as fault:
             raise NoIndex(f"{path}: {fault}") from None
     return database
 
 
 class Query:
-    """What is asked of some indexes."""
+    """A query of one or several indexes."""
 
     def __init__(self, words: argparse.Namespace) -> None:
         self._words = words
@@ -87,7 +94,7 @@ class Query:
         return " UNION ALL ".join(text.format(part=part) for part in self._parts)
 
     def _where(self) -> Tuple[str, List[Any]]:
-        """What is asked of an id."""
+        """Return the SQL condition on an id, and its values."""
         terms, values = [""], []
         if self._words.date:
             terms.append("e.date_sent BETWEEN ? AND ?")
@@ -98,12 +105,12 @@ class Query:
         return " AND ".join(terms), values
 
     def _merged(self, text: str, values: List[Any], row: Callable[[Any], Row], **more: str) -> Iterable[Row]:
-        """The rows of all parts, in the order of their places."""
+        """Return the rows of all indexes, in order."""
         parts = (map(row, self._database.execute(text.format(part=part, **more), values)) for part in self._parts)
         return heapq.merge(*parts, key=lambda found: found[0])
 
     def rows(self) -> Iterable[Row]:
-        """All rows that are asked for."""
+        """Return all selected rows, in order."""
         where, values = self._where()
         streams: List[Iterable[Row]] = []
         if "envelope" in self.kinds:
@@ -123,21 +130,21 @@ class Query:
         return heapq.merge(*streams, key=lambda found: found[0])
 
     def line(self, found: Found) -> str:
-        """The line of a row, as archive.py prints it of the file itself."""
-        kind, told = found
-        name = archive_rows.name_of(told[0])
+        """Return the line of a row, as a run without an index prints it."""
+        kind, columns = found
+        name = archive_rows.name_of(columns[0])
         if kind == "envelope":
-            first = None if told[16] is None else (archive_rows.name_of(told[16]), told[17])
-            return archive_rows.envelope_front(name, told[1:16], self._words.now, self._second) + archive_rows.repeats_end(first)
+            first = None if columns[16] is None else (archive_rows.name_of(columns[16]), columns[17])
+            return archive_rows.envelope_front(name, columns[1:16], self._words.now, self._second) + archive_rows.repeats_end(first)
         if kind == "refused":
-            return archive_rows.refusal_line(name, told[2])
-        return archive_rows.file_line(name, "gone" if told[3] else told[1], None if told[3] else told[2])
+            return archive_rows.refusal_line(name, columns[2])
+        return archive_rows.file_line(name, "gone" if columns[3] else columns[1], None if columns[3] else columns[2])
 
     def cells(self, found: Found) -> Dict[str, Any]:
-        """The row as the cells of CSV."""
+        """Return a row as the cells of CSV."""
         line = json.loads(self.line(found))
-        kind, told = found
-        kind = kind if kind != "file" else "gone" if told[3] else told[1]
+        kind, columns = found
+        kind = kind if kind != "file" else "gone" if columns[3] else columns[1]
         repeats = line.get("repeats") or {}
         refused = line.get("refused") or {}
         known = line.get("id") or {}
@@ -146,7 +153,7 @@ class Query:
 
 
 def lines(words: argparse.Namespace) -> Iterator[str]:
-    """The text of all rows, many lines at a time."""
+    """Yield the text of all selected rows, many lines at a time."""
     query = Query(words)
     rows = (found for _, found in query.rows())
     if not words.csv:
@@ -157,17 +164,17 @@ def lines(words: argparse.Namespace) -> Iterator[str]:
 
 
 def csv_line(cells: Dict[str, Any]) -> str:
-    """The line of CSV for some cells; what is absent is empty."""
+    """Return the line of CSV for some cells. A missing cell is empty."""
     line = io.StringIO()
     csv.writer(line, lineterminator="\n").writerow(told(cells.get(name)) for name in COLUMNS)
     return line.getvalue()
 
 
 def told(value: Any) -> Optional[str]:
-    """A cell: of a text what can't be written as UTF-8 is written as `\\x` and two digits."""
+    """Return a cell. Bytes of a text that can't be written as UTF-8 become `\\x` and two digits."""
     return value.encode("utf-8", "surrogateescape").decode("utf-8", "backslashreplace") if isinstance(value, str) else value
 
 
 def joined(texts: Iterator[str]) -> Iterator[str]:
-    """The lines, many at a time."""
+    """Yield the lines, many at a time."""
     return iter(lambda: "".join(itertools.islice(texts, LINES)), "")

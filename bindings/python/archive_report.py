@@ -1,17 +1,22 @@
-"""How an archive stands, by an index of archive.py: sums, what is refused, and when, how large and how old its envelopes are; as text."""
+"""Summarize an archive by an index of archive.py, as text.
+
+The report has the totals, the refusals, the times, sizes and ages of the envelopes, and the damaged
+files.
+"""
 from __future__ import annotations
 
 import argparse
+import contextlib
 import datetime
 import os
-import sqlite3
 from typing import Any, Callable, Dict, Iterator, List, NamedTuple, Optional, Tuple
 
 import archive_query
 import archive_rows
 import explain_words as words
+import safe_output
 
-# Rows of a table, and bars of a picture; damaged files.
+# The maximum number of rows of a table, of bars of a chart, and of damaged files.
 ROWS, BARS, DAMAGED = 20, 40, 1_000
 
 HERE = "e.file NOT IN (SELECT file FROM part0.files WHERE gone = 1)"
@@ -23,14 +28,25 @@ AGES = [(3_600, "under an hour"), (86_400, "under a day"), (7 * 86_400, "under a
 
 
 class Bars(NamedTuple):
-    """How many there are of each thing: a picture, or lines."""
+    """A bar chart.
+
+    Attributes:
+        title: The title.
+        rows: The label and the count of each bar.
+    """
 
     title: str
     rows: List[Tuple[str, int]]
 
 
 class Table(NamedTuple):
-    """Rows of cells under their names."""
+    """A table.
+
+    Attributes:
+        title: The title.
+        names: The names of the columns.
+        rows: The rows, each a list of cells.
+    """
 
     title: str
     names: List[str]
@@ -38,7 +54,17 @@ class Table(NamedTuple):
 
 
 class Damaged(NamedTuple):
-    """A file in which octets are refused: where, on which dataset and why, and the page that explains it, or None."""
+    """A file with a rejected envelope.
+
+    Attributes:
+        path: The path of the file.
+        envelope: The number of the envelope, from 1.
+        at: The offset of the rejected byte in the file.
+        dataset: The dataset named, such as "1:70".
+        cause: The number and the name of the cause.
+        id: The identifier of the envelope, with `?` for each part that is not known.
+        page: The link to the page that explains it, or `None`.
+    """
 
     path: bytes
     envelope: int
@@ -50,7 +76,16 @@ class Damaged(NamedTuple):
 
 
 class Told(NamedTuple):
-    """All that is told of an index."""
+    """The content of a report.
+
+    Attributes:
+        name: The name of the index.
+        now: The instant of the report.
+        sums: The name and the value of each total.
+        bars: The bar charts.
+        tables: The tables.
+        damaged: The damaged files.
+    """
 
     name: str
     now: str
@@ -61,7 +96,7 @@ class Told(NamedTuple):
 
 
 class Asking:
-    """The questions that are asked of an index at an instant."""
+    """The queries of a report on an index, as of one instant."""
 
     def __init__(self, index: str, now: datetime.datetime) -> None:
         self._database = archive_query.opened([index])
@@ -69,15 +104,28 @@ class Asking:
         self.now, self._second = now, archive_rows.seconds(now)
 
     def rows(self, text: str, *values: Any) -> List[Any]:
-        """The rows that answer a question."""
+        """Return the rows of a query."""
         return self._database.execute(text, values).fetchall()
 
     def number(self, text: str, *values: Any) -> int:
-        """The number that answers a question."""
+        """Return the single number of a query."""
         return int(self.rows(text, *values)[0][0] or 0)
 
+    def inputs(self, index: str, output: str) -> List[safe_output.Input]:
+        """Return the files that an output must not replace.
+
+        They are those of the index, and those files of the archive that may be the output's.
+        """
+        inputs: List[safe_output.Input] = [index + end for end in archive_rows.ENDS]
+        names = [os.fsencode(name) for name in (os.path.abspath(output), os.path.realpath(output))]
+        found = "SELECT path FROM part0.files WHERE path IN (?, ?)"
+        with contextlib.suppress(OSError):
+            there = os.stat(output)
+            found += f" OR size = {there.st_size} AND changed = {there.st_mtime_ns}"
+        return inputs + [path for path, in self.rows(found, *names)]
+
     def sums(self) -> Iterator[Tuple[str, int]]:
-        """The sums of what is there."""
+        """Yield the name and the value of each total."""
         files = "SELECT count(*) FROM part0.files WHERE"
         yield "files", self.number(f"{files} gone = 0 AND substr(path, -1) <> x'2F'")
         yield "octets", self.number("SELECT sum(size) FROM part0.files WHERE gone = 0")
@@ -91,13 +139,16 @@ class Asking:
         yield "gone", self.number(f"{files} gone = 1")
 
     def of_each(self, title: str, what: str, of: str, order: str = "2 DESC, 1") -> Bars:
-        """How many there are of each thing, and of all that have no bar of their own."""
+        """Return a bar chart of the counts of each value.
+
+        Values beyond the maximum of bars are one bar.
+        """
         rows = self.rows(f"SELECT {what}, count(*) {of} GROUP BY 1 ORDER BY {order}")
         more = sum(count for _, count in rows[BARS:])
         return Bars(title, [(shown(name), count) for name, count in rows[:BARS]] + [("others", more)] * (more > 0))
 
     def by_day(self) -> Bars:
-        """Envelopes by the date sent: by days, or by months or years where there are many."""
+        """Return a bar chart of the envelopes by day sent, or by month or year for many days."""
         for length, what in (8, "day"), (6, "month"), (4, "year"):
             rows = self.rows(f"SELECT substr(e.date_sent, 1, ?), count(*) {ENVELOPES} GROUP BY 1 ORDER BY 1", length)
             if len(rows) <= BARS:
@@ -105,45 +156,45 @@ class Asking:
         return Bars(f"Envelopes by {what} sent", [("-".join(filter(None, (name[:4], name[4:6], name[6:]))), count) for name, count in rows[-BARS:]])
 
     def by_hour(self) -> Bars:
-        """Envelopes by the hour of a day, at universal time."""
+        """Return a bar chart of the envelopes by hour of the day, in UTC."""
         counts = dict(self.rows(f"SELECT e.sent % 86400 / 3600, count(*) {ENVELOPES} GROUP BY 1"))
         none = [("no time", counts[None])] if None in counts else []
         return Bars("Envelopes by hour sent (UTC)", [(f"{hour:02}", counts.get(hour, 0)) for hour in range(24)] + none if counts else [])
 
     def by_size(self) -> Bars:
-        """Envelopes by the size of their objects, in powers of two."""
+        """Return a bar chart of the envelopes by the size of their objects, in powers of two."""
         rows = self.rows(f"SELECT bits(e.size), count(*) {ENVELOPES} GROUP BY 1 ORDER BY 1")
-        return Bars("Sizes of objects, up to so many octets", [(f"{1 << bits:,}", count) for bits, count in rows])
+        return Bars("Sizes of objects, at most N octets", [(f"{1 << bits:,}", count) for bits, count in rows])
 
     def by_age(self) -> Bars:
-        """Envelopes by their age."""
+        """Return a bar chart of the envelopes by age."""
         cases = " ".join(f"WHEN ? - e.sent < {most} THEN {nth}" for nth, (most, _) in enumerate(AGES))
         what = f"CASE WHEN e.sent IS NULL THEN -2 WHEN e.sent > ? THEN -1 {cases} ELSE {len(AGES)} END"
         counts = dict(self.rows(f"SELECT {what}, count(*) {ENVELOPES} GROUP BY 1", *[self._second] * (len(AGES) + 1)))
-        named = {-2: "no time is told", -1: "sent after now", **{nth: name for nth, (_, name) in enumerate(AGES)}, len(AGES): "a year or more"}
+        named = {-2: "no time sent", -1: "sent after now", **{nth: name for nth, (_, name) in enumerate(AGES)}, len(AGES): "a year or more"}
         return Bars("Ages", [(named[nth], counts[nth]) for nth in sorted(counts)])
 
     def repeats(self) -> Table:
-        """The ids that most envelopes have."""
+        """Return a table of the ids with the most repeats."""
         rows = self.rows(f"SELECT {ID}, count(*) AS n {ENVELOPES} GROUP BY 1 HAVING n > 1 ORDER BY n DESC, 1 LIMIT {ROWS}")
         return Table("Repeats", ["id", "times"], [[shown(name), f"{count:,}"] for name, count in rows])
 
     def next(self, title: str, column: str) -> Table:
-        """The envelopes whose release or expiration comes next."""
+        """Return a table of the envelopes whose release or expiration is next."""
         text = f"SELECT f.path, e.envelope, {ID}, e.{column} FROM part0.envelopes AS e JOIN part0.files AS f ON f.file = e.file AND f.gone = 0"
         rows = self.rows(f"{text} WHERE e.{column} > ? ORDER BY e.{column}, f.path, e.envelope LIMIT {ROWS}", self._second)
         return Table(title, ["file", "envelope", "id", "at"], [[named(path), str(nth), shown(name), instant(second)] for path, nth, name, second in rows])
 
     def damaged(self, page_of: Callable[[bytes], Optional[str]]) -> Iterator[Damaged]:
-        """The files in which octets are refused."""
-        told = "json_extract(e.told, '$.refused.octet_in_file'), json_extract(e.told, '$.refused.dataset')"
+        """Yield the files with a rejected envelope."""
+        rejected = "json_extract(e.told, '$.refused.octet_in_file'), json_extract(e.told, '$.refused.dataset')"
         known = "coalesce(e.service, '?') || ' ' || coalesce(e.number, '?') || ' ' || coalesce(e.date_sent, '?')"
-        text = f"SELECT f.path, e.envelope, {told}, e.cause || ' ' || e.cause_name, {known} FROM part0.refusals AS e JOIN part0.files AS f"
+        text = f"SELECT f.path, e.envelope, {rejected}, e.cause || ' ' || e.cause_name, {known} FROM part0.refusals AS e JOIN part0.files AS f"
         for path, nth, at, dataset, cause, name in self.rows(f"{text} ON f.file = e.file AND f.gone = 0 ORDER BY f.path LIMIT {DAMAGED}"):
             yield Damaged(path, nth, at, dataset, cause, shown(name), page_of(path))
 
     def all(self, name: str, page_of: Callable[[bytes], Optional[str]]) -> Iterator[Tuple[str, Any]]:
-        """All that is told, a part at a time, by its name."""
+        """Yield the name and the value of each part of the report."""
         yield "name", words.printable(name)
         yield "now", instant(self._second)
         yield "sums", list(self.sums())
@@ -155,17 +206,17 @@ class Asking:
 
 
 def shown(text: str) -> str:
-    """A text of the index, which holds octets as Latin-1: what can't be printed is escaped."""
+    """Return a text of the index, which is Latin-1, with escapes for what can't be printed."""
     return words.shown(text.encode("latin-1", "replace"), 64)
 
 
 def named(path: bytes) -> str:
-    """The name of a file, with escapes."""
+    """Return the name of a file, with escapes for what can't be printed."""
     return words.printable(os.fsdecode(path))
 
 
 def instant(second: int) -> str:
-    """An instant at universal time."""
+    """Return an instant in UTC as text."""
     return f"{archive_rows.EPOCH + datetime.timedelta(seconds=second):%Y-%m-%dT%H:%M:%SZ}"
 
 
@@ -173,7 +224,7 @@ def instant(second: int) -> str:
 
 
 def lines(told: Told) -> Iterator[str]:
-    """All that is told, as lines."""
+    """Yield the lines of a report."""
     yield f"{told.name} at {told.now}"
     yield ", ".join(f"{count:,} {name}" for name, count in told.sums)
     for bars in told.bars:
@@ -185,11 +236,11 @@ def lines(told: Told) -> Iterator[str]:
     for each in told.damaged:
         yield f"  {named(each.path)}: envelope {each.envelope}, octet {each.at:,} of the file, {each.dataset}, cause {each.cause} ({each.id})"
     if told.damaged:
-        yield "`python3 -m iim explain FILE` tells what is wrong with one of them."
+        yield "`python3 -m iim explain FILE` shows the error in one of them."
 
 
 def bar_lines(bars: Bars) -> Iterator[str]:
-    """A line for each thing, with a bar."""
+    """Yield the lines of a bar chart."""
     yield from ("", bars.title.upper(), *(["  none"] if not bars.rows else []))
     most = max((count for _, count in bars.rows), default=1) or 1
     for name, count in bars.rows:
@@ -200,20 +251,28 @@ def bar_lines(bars: Bars) -> Iterator[str]:
 
 
 def parts(asked: argparse.Namespace) -> Iterator[Tuple[str, Any]]:
-    """What is told of the index that the words name, a part at a time; pages of damaged files are written beside the report."""
+    """Yield the name and the value of each part of the report that the arguments specify.
+
+    Pages of damaged files are written beside the report.
+
+    Raises:
+        NoIndex: The path has no index.
+        OutputRefused: The report must not be written to its path.
+    """
+    asking = Asking(asked.index, asked.now)
     pages: Callable[[bytes], Optional[str]] = lambda path: None
+    if asked.html is not None:
+        asked.inputs = asking.inputs(asked.index, asked.html)
+        safe_output.check_output(asked.html, asked.inputs, force=asked.force)
     if asked.html is not None and can_draw():
         import archive_page
 
-        pages = archive_page.Pages(asked.html, asked.limits).page_of
-    try:
-        yield from Asking(asked.index, asked.now).all(asked.index, pages)
-    except sqlite3.Error as fault:
-        raise archive_rows.NoIndex(f"{asked.index}: {fault}") from None
+        pages = archive_page.Pages(asked.html, asked.limits, asked.inputs, asked.force).page_of
+    yield from asking.all(asked.index, pages)
 
 
 def can_draw() -> bool:
-    """Whether what pages are made by is there."""
+    """Check whether the modules that generate pages are installed."""
     try:
         import jinja2
         import matplotlib
@@ -223,5 +282,5 @@ def can_draw() -> bool:
 
 
 def told_of(found: Dict[str, Any]) -> Told:
-    """What is told, of its parts."""
+    """Return a report of its parts."""
     return Told(**found)

@@ -1,42 +1,95 @@
-"""What archive.py tells of a file of envelopes: its rows, as the index keeps them, and the lines that are printed of them."""
+"""Read a file of envelopes for archive.py: its rows in the index, and their lines of JSON."""
 from __future__ import annotations
 
+import contextlib
 import datetime
 import functools
 import json
+import marshal
 import os
-from typing import Callable, Iterator, List, NamedTuple, Optional, Tuple, Union, cast
+import signal
+import stat
+import threading
+import time
+from typing import Callable, Generator, Iterator, List, NamedTuple, Optional, Tuple, Union, cast
 
 import iim
 
 EPOCH = datetime.datetime(1970, 1, 1, tzinfo=datetime.timezone.utc)
 
 
-# A text as JSON has it.
+# Return a text as a string of JSON.
 quoted: Callable[[str], str] = json.JSONEncoder().encode
 
-# The rows of the tables `files` (but for whether a file is gone), `envelopes` and `refusals` of the index, each with its columns in order.
+# The rows of the tables `files` (without `gone`), `envelopes` and `refusals` of the index, by
+# columns.
 FileRow = Tuple[int, bytes, int, int, int, str, Optional[str]]
 EnvelopeRow = Tuple[int, int, int, int, str, str, str, Optional[str], int, int, int, int, Optional[int], Optional[int], Optional[int]]
 RefusalRow = Tuple[int, int, int, int, str, Optional[str], Optional[str], Optional[str], str]
 
-# The rows of envelopes as one list: the columns of the first, then those of the second. So they come and go quickest.
+# The rows of envelopes as one flat list, the columns of one row after those of another: the fastest
+# form.
 Cells = List[Union[int, str, None]]
 COLUMNS = 15
 
 
 def rows_in(cells: Cells) -> List[EnvelopeRow]:
-    """The rows."""
+    """Return the rows of a flat list."""
     return cast("List[EnvelopeRow]", [*zip(*[iter(cells)] * COLUMNS)])
 
 
-class NoIndex(Exception):
-    """Why a file can't be used as an index."""
+class Failure(Exception):
+    """Raised if a run can't continue. Its text is `what: reason`."""
+
+
+class NoIndex(Failure):
+    """Raised if a file can't be used as an index."""
+
+
+# The suffixes of an index's files: the database, SQLite's files beside it, and the lock of a run.
+ENDS = "", "-wal", "-shm", "-journal", ".lock"
+
+# The reason why a device or a pipe is not read.
+NOT_REGULAR = "not a regular file"
+
+# The default of the maximum time for a file, in seconds.
+LONGEST_TIME = 300
+
+# The length, in bytes, above which a path is resolved in parts: the system accepts at most 4,095.
+LONGEST = 4_000
+
+
+@contextlib.contextmanager
+def reached(path: bytes) -> Iterator[Tuple[Optional[int], bytes]]:
+    """Open the directory from which the rest of a path is short enough for the system.
+
+    Yields:
+        The descriptor of the directory, or `None` for the current one, and the rest of the path.
+    """
+    folder: Optional[int] = None
+    try:
+        while len(path) > LONGEST:
+            end = path.rindex(b"/", 1, LONGEST)
+            below = os.open(path[:end], os.O_PATH | os.O_DIRECTORY | os.O_CLOEXEC, dir_fd=folder)
+            if folder is not None:
+                os.close(folder)
+            folder, path = below, path[end + 1 :]
+        yield folder, path
+    finally:
+        if folder is not None:
+            os.close(folder)
 
 
 class Asked(NamedTuple):
-    """A file that is to be read: its number in the run or in the index, its name, its size and the time of its change; or why it can't
-    be read."""
+    """A file to read.
+
+    Attributes:
+        file: Its number in the run or in the index.
+        path: Its path.
+        size: Its size, in bytes.
+        changed: The time of its last change, in nanoseconds since 1970.
+        reason: Why it can't be read, or `None`.
+    """
 
     file: int
     path: bytes
@@ -45,22 +98,36 @@ class Asked(NamedTuple):
     reason: Optional[str]
 
 
-# What reads a batch of files, and gives a block: the files' rows, by marshal. And what runs that for many batches.
+# A function that reads a batch of files and returns a block: the files' rows, encoded by marshal.
 Reader = Callable[[List[Asked]], bytes]
 Blocks = Iterator[bytes]
 
-# How many batches are handed out for each worker before the oldest of them has been taken.
+# The version of marshal's encoding, which Python has from 3.4 on.
+FORM = 4
+
+# The number of batches per worker that are submitted before the oldest one is finished.
 AHEAD = 4
 
 
-def lost(file: Asked, reader: Reader) -> bytes:
-    """The block of a file whose worker died each time."""
-    return reader([file._replace(reason="its worker was lost")])
+def lost(file: Asked, reader: Reader, reason: str = "its worker was lost") -> bytes:
+    """Return the block of a file that can't be read because its worker died each time."""
+    return reader([file._replace(reason=reason)])
 
 
 class FileRows(NamedTuple):
-    """What was read of a file: the octets of its envelopes; its state, 'accepted', 'refused', 'empty' or 'failed'; why it failed; the
-    rows of its envelopes; and the row of its refusal, or None."""
+    """The result of reading a file.
+
+    Attributes:
+        file: Its number in the run or in the index.
+        path: Its path.
+        size: Its size, in bytes.
+        changed: The time of its last change, in nanoseconds since 1970.
+        read: The size of its envelopes together, in bytes.
+        state: 'accepted', 'refused', 'empty' or 'failed'.
+        reason: Why it failed, or `None`.
+        envelopes: The rows of its envelopes, as a flat list.
+        refusal: The row of its refusal, or `None`.
+    """
 
     file: int
     path: bytes
@@ -73,14 +140,20 @@ class FileRows(NamedTuple):
     refusal: Optional[RefusalRow]
 
 
+# The function that returns a file's part of a block at an instant: `lines_of` or `kept_rows`.
+Form = Callable[[FileRows, datetime.datetime], Tuple[object, ...]]
+Lines = Tuple[str, List[Tuple[str, str]], Optional[str], str, int, int]
+KeptRows = Tuple[int, bytes, int, int, int, str, Optional[str], Cells, Optional[RefusalRow]]
+
+
 @functools.lru_cache(maxsize=1)
 def seconds(now: datetime.datetime) -> int:
-    """The seconds from 1970 on, rounded down."""
+    """Return an instant in seconds since 1970, rounded down."""
     return (now - EPOCH) // datetime.timedelta(seconds=1)
 
 
 def copy_of(release: Optional[int], expires: Optional[int], now: datetime.datetime) -> str:
-    """Whether copy is held, expired or free."""
+    """Return whether copy is "held", "expired" or "free"."""
     second = seconds(now)
     if release is not None and release > second:
         return "held"
@@ -89,23 +162,121 @@ def copy_of(release: Optional[int], expires: Optional[int], now: datetime.dateti
     return "free"
 
 
-@functools.lru_cache(maxsize=1)
-def auditor_of(limits: iim.Limits, now: datetime.datetime) -> iim.Auditor:
-    """What audits the files of a run, one after another."""
-    return iim.Auditor(limits, now=now)
+class TooSlow(OSError):
+    """Raised if a file takes longer than its time limit."""
 
 
-def blocks_of(path: bytes, limits: iim.Limits, now: datetime.datetime) -> Iterator[List[iim.RawRow]]:
-    """The rows of a file, many at a time."""
-    file = os.open(path, os.O_RDONLY | os.O_CLOEXEC)
+class Timer:
+    """The time limit of one file.
+
+    It is checked before each read. In a process that has called `interrupt_reads` it also ends a
+    read that blocks.
+    """
+
+    _running: Optional[Timer] = None
+
+    def __init__(self, most: float) -> None:
+        self._most, self._end = most, time.monotonic() + most
+
+    def check(self) -> None:
+        """Raise `TooSlow` if the time limit is exceeded."""
+        if time.monotonic() > self._end:
+            raise TooSlow(too_slow(self._most))
+
+    @classmethod
+    def interrupt(cls, *_: object) -> None:
+        """Raise `TooSlow` if a file is being read. This is the handler of SIGALRM."""
+        if cls._running is not None:
+            raise TooSlow(too_slow(cls._running._most))
+
+    def __enter__(self) -> Timer:
+        if interrupts:
+            Timer._running = self
+            signal.setitimer(signal.ITIMER_REAL, self._most)
+        return self
+
+    def __exit__(self, *_: object) -> None:
+        if interrupts:
+            Timer._running = None
+            signal.setitimer(signal.ITIMER_REAL, 0)
+
+
+def too_slow(most: float) -> str:
+    """Return the reason of a file that took longer than `most` seconds."""
+    return f"not read within {most:g} seconds"
+
+
+# Whether SIGALRM ends a read in this process.
+interrupts = False
+
+
+def interrupt_reads() -> None:
+    """Make SIGALRM end reads that take too long.
+
+    The main thread must read all files of this process.
+    """
+    global interrupts
+    interrupts = True
+    signal.signal(signal.SIGALRM, Timer.interrupt)
+
+
+class OfThread(threading.local):
+    """The auditor of a thread, and the run that it is for.
+
+    A worker of Dask runs tasks on several threads at once, and an auditor reads one file at a time.
+    """
+
+    run: Optional[Tuple[iim.Limits, datetime.datetime]] = None
+    auditor: iim.Auditor
+
+    def auditor_of(self, limits: iim.Limits, now: datetime.datetime) -> iim.Auditor:
+        """Return the auditor that this thread uses for the files of a run, one after another."""
+        if self.run != (limits, now):
+            self.auditor = iim.Auditor(limits, now=now)
+            self.run = limits, now
+        return self.auditor
+
+
+of_thread = OfThread()
+
+
+class NotRegular(OSError):
+    """Raised if a path no longer names a regular file."""
+
+
+def opened(path: bytes) -> int:
+    """Open a regular file for reading.
+
+    If its path has named something else since it was listed, that is neither waited for nor read.
+
+    Raises:
+        NotRegular: The path does not name a regular file.
+        OSError: The file can't be opened.
+    """
+    with reached(path) as (folder, rest):
+        file = os.open(rest, os.O_RDONLY | os.O_NONBLOCK | os.O_NOCTTY | os.O_CLOEXEC, dir_fd=folder)
+    if not stat.S_ISREG(os.fstat(file).st_mode):
+        os.close(file)
+        raise NotRegular(NOT_REGULAR)
+    return file
+
+
+def blocks_of(path: bytes, limits: iim.Limits, now: datetime.datetime, timer: Timer) -> Generator[List[iim.RawRow], None, None]:
+    """Yield the rows of a file, many at a time."""
+    file = opened(path)
+
+    def fill(buffer: memoryview) -> int:
+        timer.check()
+        return os.readv(file, [buffer])
+
     try:
-        yield from auditor_of(limits, now).raw_blocks(lambda room: os.readv(file, [room]))
+        yield from of_thread.auditor_of(limits, now).raw_blocks(fill)
     finally:
         os.close(file)
 
 
 def envelope_row(file: int, nth: int, second: int, raw: iim.RawRow) -> EnvelopeRow:
-    """The row of an envelope of a file, at a second."""
+    """Return the index's row of an envelope, from its row of an audit at `second`."""
     at, length, size, subfiles, announced, counted, age, release, expires, has_age, has_release, has_expires, _, priority, count, service, number, date = raw
     return (
         file, nth, at, length, service[:count].decode("latin-1"), number.decode("ascii"), date.decode("ascii"), chr(priority) if priority else None, size,
@@ -113,8 +284,30 @@ def envelope_row(file: int, nth: int, second: int, raw: iim.RawRow) -> EnvelopeR
     )  # fmt: skip
 
 
-def read_file(asked: Asked, limits: iim.Limits, now: datetime.datetime) -> FileRows:
-    """Reads a file."""
+def do_nothing() -> None:
+    """Do nothing."""
+
+
+# The function that is called before each file is read.
+before_file: Callable[[], object] = do_nothing
+
+
+def watch_reads(before: Callable[[], object]) -> None:
+    """End reads that take too long, and call a function before each file.
+
+    A worker process calls this.
+    """
+    global before_file
+    before_file = before
+    interrupt_reads()
+
+
+def read_file(asked: Asked, limits: iim.Limits, now: datetime.datetime, most: float = LONGEST_TIME) -> FileRows:
+    """Read a file, for at most `most` seconds.
+
+    An exception becomes the reason why the file failed.
+    """
+    before_file()
     file, path, size, changed, fault_before = asked
     if fault_before is not None:
         return FileRows(file, path, size, changed, 0, "failed", fault_before, [], None)
@@ -124,10 +317,11 @@ def read_file(asked: Asked, limits: iim.Limits, now: datetime.datetime) -> FileR
     read = 0
     state, reason, refusal = "accepted", None, None
     try:
-        for block in blocks_of(path, limits, now):
-            for nth, raw in enumerate(block, nth + 1):
-                rows += envelope_row(file, nth, second, raw)
-            read = block[-1][0] + block[-1][1]
+        with Timer(most) as timer, contextlib.closing(blocks_of(path, limits, now, timer)) as blocks:
+            for block in blocks:
+                for nth, raw in enumerate(block, nth + 1):
+                    rows += envelope_row(file, nth, second, raw)
+                read = block[-1][0] + block[-1][1]
     except iim.Refused as refused:
         state, refusal = "refused", refusal_row(file, refused)
     except OSError as fault:
@@ -135,7 +329,7 @@ def read_file(asked: Asked, limits: iim.Limits, now: datetime.datetime) -> FileR
     except MemoryError:
         state, reason = "failed", "out of memory"
     except Exception as fault:
-        # (a mistake of ours, say: it is told, and the other files go on)
+        # (such as a bug: it is reported, and the run continues with the other files)
         state, reason = "failed", f"{type(fault).__name__}: {fault}"
     if state == "accepted" and not rows:
         state = "empty"
@@ -143,12 +337,12 @@ def read_file(asked: Asked, limits: iim.Limits, now: datetime.datetime) -> FileR
 
 
 def refusal_row(file: int, refused: iim.Refused) -> RefusalRow:
-    """The row of a refusal."""
-    told = refused.as_json()
-    known = told["id"]
+    """Return the index's row of a refusal."""
+    value = refused.as_json()
+    known = value["id"]
     return (
         file, refused.nth, refused.at, refused.cause, refused.cause_name, known["service"], known["number"], known["date_sent"],
-        json.dumps(told),
+        json.dumps(value),
     )  # fmt: skip
 
 
@@ -156,24 +350,24 @@ def refusal_row(file: int, refused: iim.Refused) -> RefusalRow:
 
 
 def name_of(path: bytes) -> str:
-    """The name of a file as a text of JSON."""
+    """Return the name of a file as a string of JSON."""
     return quoted(os.fsdecode(path))
 
 
 def file_line(name: str, state: str, reason: Optional[str]) -> str:
-    """The line of a file that has no octets, or is gone, or could not be read, for a reason."""
+    """Return the line of a file that is empty or gone, or that can't be read for a reason."""
     if reason is not None:
         return f'{{"file": {name}, "failed": {quoted(reason)}}}\n'
     return f'{{"file": {name}, "{state}": true}}\n'
 
 
 def refusal_line(name: str, told: str) -> str:
-    """The line of a refusal."""
+    """Return the line of a refusal."""
     return f'{{"file": {name}, {told[1:]}\n'
 
 
 def envelope_front(name: str, row: EnvelopeRow, now: datetime.datetime, second: int) -> str:
-    """The line of an envelope up to what it repeats."""
+    """Return the line of an envelope up to the envelope that it repeats."""
     _, nth, at, length, service, number, date, priority, size, subfiles, announced, counted, sent, release, expires = row
     copy = "free" if release is None and expires is None else copy_of(release, expires, now)
     return (
@@ -184,5 +378,43 @@ def envelope_front(name: str, row: EnvelopeRow, now: datetime.datetime, second: 
 
 
 def repeats_end(first: Optional[Tuple[str, int]]) -> str:
-    """The end of the line of an envelope: which earlier one it repeats, by its file's name and its number."""
+    """Return the end of an envelope's line: file and number of the envelope that it repeats."""
     return "null}\n" if first is None else f'{{"file": {first[0]}, "envelope": {first[1]}}}}}\n'
+
+
+def lines_of(rows: FileRows, now: datetime.datetime) -> Lines:
+    """Return the lines of a file without the envelopes that its envelopes repeat.
+
+    Returns:
+        The file's name; the id of each envelope and its line up to what it repeats; the line after
+        these, or `None`; the file's state; its size, in bytes; and the number of held envelopes.
+    """
+    name = name_of(rows.path)
+    second = seconds(now)
+    envelopes = rows_in(rows.envelopes)
+    fronts = [(row[5] + row[6] + row[4], envelope_front(name, row, now, second)) for row in envelopes]
+    held = sum(row[13] is not None and row[13] > second for row in envelopes)
+    last = None
+    if rows.refusal is not None:
+        last = refusal_line(name, rows.refusal[-1])
+    elif rows.state != "accepted":
+        last = file_line(name, rows.state, rows.reason)
+    return name, fronts, last, rows.state, rows.size, held
+
+
+# --- Batches ---
+
+
+def kept_rows(rows: FileRows, now: datetime.datetime) -> KeptRows:
+    """Return the rows of a file that the index stores."""
+    return (*rows,)
+
+
+def read_files(files: List[Asked], limits: iim.Limits, now: datetime.datetime, form: Form, most: float) -> List[Tuple[object, ...]]:
+    """Read some files, each for at most `most` seconds."""
+    return [form(read_file(file, limits, now, most), now) for file in files]
+
+
+def read_batch(files: List[Asked], limits: iim.Limits, now: datetime.datetime, form: Form, most: float) -> bytes:
+    """Read some files, and return their rows as a block. A worker runs this."""
+    return marshal.dumps(read_files(files, limits, now, form, most), FORM)

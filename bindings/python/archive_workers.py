@@ -1,7 +1,8 @@
-"""Processes of this machine that read the batches of an archive.
+"""Read the batches of an archive with processes on this machine.
 
-Each has a pipe of its own. `concurrent.futures` gives all processes one queue: where one is killed while it hands back a long block, that
-process of ours which reads it waits for the rest for ever (seen with Python 3.11, where blocks had 3 MB: each time).
+Each process has its own pipe. `concurrent.futures` has one queue for all processes: if one is killed
+while it returns a long block, the reading process waits forever for the rest (reproducible with
+Python 3.11 and blocks of 3 MB).
 """
 from __future__ import annotations
 
@@ -9,82 +10,137 @@ import collections
 import concurrent.futures
 import contextlib
 import ctypes
+import functools
 import multiprocessing
 import queue
 import signal
 import threading
+import time
 from multiprocessing.connection import Connection
-from typing import TYPE_CHECKING, Deque, Iterable, List, Optional
+from typing import TYPE_CHECKING, Any, Callable, Deque, Iterable, List, Optional
 
-from archive_rows import AHEAD, Asked, Blocks, Reader, lost
+import archive_rows
+from archive_rows import AHEAD, LONGEST_TIME, Asked, Blocks, Failure, Reader, lost, too_slow
 
 if TYPE_CHECKING:
     from concurrent.futures import Future
 
+# A number in memory that two processes share.
+Counter = Any
 
-def serve(pipe: Connection, other: Connection, reader: Reader) -> None:
-    """Reads batches, one after another. It ends where Ctrl-C is pressed, and where the process that began it ends, which has the other
-    end of the pipe."""
-    signal.signal(signal.SIGINT, signal.SIG_DFL)
+# The seconds that a process has in addition to the time limit of a file.
+GRACE = 5
+
+
+def serve(pipe: Connection, other: Connection, reader: Reader, begun: Counter, watch: Callable[[Callable[[], object]], None]) -> None:
+    """Read batches until Ctrl-C, or until the parent process ends.
+
+    Args:
+        pipe: This process's end of the pipe.
+        other: The parent's end of the pipe, which is closed here.
+        reader: The function that reads a batch.
+        begun: The number of files started, for the parent.
+        watch: `archive_rows.watch_reads` of the module whose functions read the files.
+    """
+    for each in signal.SIGINT, signal.SIGTERM:
+        signal.signal(each, signal.SIG_DFL)
     with contextlib.suppress(OSError, AttributeError):
-        # PR_SET_PDEATHSIG, on Linux: at once, whatever it reads
+        # PR_SET_PDEATHSIG, on Linux: end with the parent at once, even in a read
         ctypes.CDLL(None).prctl(1, signal.SIGKILL)
-    # (where that had ended before, the pipe tells it, if nobody else holds its other end: those that were begun later go first)
+    # (if the parent ended before that, the pipe is at its end once no process has its other end; a
+    # worker started later, which has a copy of that end, ends first)
     other.close()
+    # (`watch` is passed, since the installed module has another name)
+    watch(functools.partial(note_file, begun))
     with contextlib.suppress(EOFError, OSError):
         while True:
             pipe.send_bytes(reader(pipe.recv()))
 
 
+def note_file(begun: Counter) -> None:
+    """Count one more file, for the parent process."""
+    begun.value += 1
+
+
+class Stuck(OSError):
+    """Raised if a worker exceeds the time limit of a file and can't end the read itself."""
+
+
 class Worker:
     """A process that reads a batch at a time."""
 
-    def __init__(self, reader: Reader) -> None:
+    def __init__(self, reader: Reader, most: float = LONGEST_TIME) -> None:
         self._pipe, its = multiprocessing.Pipe()
-        self._process = multiprocessing.Process(target=serve, args=(its, self._pipe, reader), daemon=True)
+        self._most, self._killed = most, False
+        # (the number of files that it has tried to open)
+        self._begun: Counter = multiprocessing.RawValue(ctypes.c_uint64, 0)
+        self._process = multiprocessing.Process(target=serve, args=(its, self._pipe, reader, self._begun, archive_rows.watch_reads), daemon=True)
         self._process.start()
         its.close()
 
     def read(self, batch: List[Asked]) -> bytes:
-        """The block of a batch. Raises `EOFError` or `OSError` where the process dies first."""
+        """Return the block of a batch.
+
+        Raises:
+            EOFError: The process died.
+            OSError: The process died.
+            Stuck: The process is stuck in a read, and must be killed.
+        """
         self._pipe.send(batch)
+        begun, since = -1, time.monotonic()
+        # (the process can't end a read that blocks in the kernel, such as of a lost file server)
+        while not self._pipe.poll(1):
+            if self._killed:
+                raise EOFError
+            if begun != self._begun.value:
+                begun, since = self._begun.value, time.monotonic()
+            elif time.monotonic() - since > self._most + GRACE:
+                raise Stuck
         return self._pipe.recv_bytes()
 
     def kill(self) -> None:
-        """Ends the process, whatever it does."""
+        """Kill the process."""
+        self._killed = True
         self._process.kill()
 
     def end(self) -> None:
-        """Ends the process, and waits for that."""
+        """Kill the process, and wait until it has ended."""
         self.kill()
-        self._process.join()
+        self._process.join(GRACE)
         self._pipe.close()
 
 
 class Stopped(Exception):
-    """Nobody waits for a block any more."""
+    """Raised if the pool was stopped, so that no block is needed."""
 
 
 class Pool:
-    """So many processes, each with a thread that waits for it."""
+    """A pool of processes, each with a thread that waits for it. `begin` starts them."""
 
-    def __init__(self, count: int, reader: Reader) -> None:
-        self._reader = reader
+    def __init__(self, count: int, reader: Reader, most: float) -> None:
+        self._reader, self._most = reader, most
         self._workers: List[Worker] = []
         self._stopped = False
-        # (one process is begun at a time: none has a copy of the end of a pipe that is another one's)
+        # (one process is started at a time, so that none inherits the end of another one's pipe)
         self._lock = threading.Lock()
-        # (None: one that has yet to be begun)
+        # (None stands for a process that is not started yet)
         self._idle: queue.SimpleQueue[Optional[Worker]] = queue.SimpleQueue()
-        for _ in range(count):
-            self._idle.put(self._begin())
+        self._count = count
         self._threads = concurrent.futures.ThreadPoolExecutor(count)
+
+    def begin(self) -> None:
+        """Start the processes. Raise `Failure` if the system does not allow so many."""
+        try:
+            for _ in range(self._count):
+                self._idle.put(self._begin())
+        except OSError as fault:
+            raise Failure(f"--workers {self._count}: {fault.strerror or fault}") from None
 
     def _begin(self) -> Worker:
         with self._lock:
             if self._stopped:
                 raise Stopped
-            worker = Worker(self._reader)
+            worker = Worker(self._reader, self._most)
             self._workers.append(worker)
             return worker
 
@@ -94,7 +150,10 @@ class Pool:
         worker.end()
 
     def _once(self, batch: List[Asked]) -> bytes:
-        """The block of a batch. Raises `EOFError` or `OSError` where there is no process for it, or it dies first."""
+        """Return the block of a batch.
+
+        Raise `EOFError` or `OSError` if no process can start, or if it dies.
+        """
         worker = self._idle.get()
         try:
             worker = worker or self._begin()
@@ -108,21 +167,34 @@ class Pool:
             self._idle.put(worker)
 
     def _read(self, batch: List[Asked]) -> List[bytes]:
-        """The blocks of a batch. Where the process dies the batch is read once more, and where that one dies too each of its files alone:
-        so only the file at fault is lost."""
+        """Return the blocks of a batch.
+
+        If the process dies, the batch is retried once; if it dies again, each file is retried
+        separately, so that only the file that caused it is lost.
+        """
+        reason = "its worker was lost"
         for _ in range(2):
-            with contextlib.suppress(EOFError, OSError):
+            try:
                 return [self._once(batch)]
+            except Stuck:
+                reason = too_slow(self._most)
+                break
+            except (EOFError, OSError):
+                pass
         if len(batch) == 1:
-            return [lost(batch[0], self._reader)]
+            return [lost(batch[0], self._reader, reason)]
         return [block for file in batch for block in self._read([file])]
 
     def start(self, batch: List[Asked]) -> Future[List[bytes]]:
-        """Reads a batch in the background."""
-        return self._threads.submit(self._read, batch)
+        """Start to read a batch in the background. Raise `Failure` if no thread can be started."""
+        try:
+            return self._threads.submit(self._read, batch)
+        except RuntimeError as fault:
+            # (a thread can't be started)
+            raise Failure(f"--workers {self._count}: {fault}") from None
 
     def stop(self) -> None:
-        """Ends all processes, whatever they do."""
+        """Kill all processes."""
         with self._lock:
             self._stopped = True
             for worker in self._workers:
@@ -132,11 +204,21 @@ class Pool:
             worker.end()
 
 
-def by_processes(batches: Iterable[List[Asked]], reader: Reader, count: int) -> Blocks:
-    """Runs the batches on processes of this machine, and gives their blocks in order. Where a process dies, what it had is run again."""
-    pool = Pool(count, reader)
+def by_processes(batches: Iterable[List[Asked]], reader: Reader, count: int, most: float = LONGEST_TIME) -> Blocks:
+    """Run the batches on processes of this machine, and yield their blocks in order.
+
+    The batch of a process that died is retried.
+
+    Args:
+        batches: The batches.
+        reader: The function that reads a batch.
+        count: The number of processes.
+        most: The time limit of a file, in seconds.
+    """
+    pool = Pool(count, reader, most)
     waiting: Deque[Future[List[bytes]]] = collections.deque()
     try:
+        pool.begin()
         for batch in batches:
             waiting.append(pool.start(batch))
             if len(waiting) >= AHEAD * count:

@@ -1,4 +1,7 @@
-"""The page of explain.py: octets on the left, what they are on the right. It has no script, and asks for nothing from anywhere."""
+"""Generate the HTML page of explain.py: bytes on the left, their meaning on the right.
+
+The page has no script and loads nothing.
+"""
 from __future__ import annotations
 
 import html
@@ -9,12 +12,15 @@ import explain
 import iim
 from explain_walk import Item
 from explain_words import counted, plain, printable
+from safe_output import PAGE_HEAD
 
-# Items that are shown at each end of all envelopes together, lines of their stories, and octets; and octets of a dataset.
+# The number of items, story lines and bytes shown at each end of all envelopes; and of bytes of a
+# dataset.
 ITEMS, LINES, OCTETS, DATA = 1_500, 1_000, 115_000, 1_024
-# Items that stand together, octets beside what they are: only within these a browser looks for what lights up.
+# The number of items in one part of the page. A browser highlights only within the part, which is
+# fast.
 TOGETHER = 64
-# Octets that are shown before the refused one and after it.
+# The number of bytes shown before the rejected one and after it.
 BEFORE, AFTER = 64, 48
 
 STYLE = """
@@ -43,8 +49,15 @@ LIGHT = "{ background: var(--lit) }"
 
 
 class Span(NamedTuple):
-    """Octets of an envelope that are shown: the class of the item that they belong to, whether they are of a tag, and with which others they
-    stand together."""
+    """A span of bytes of an envelope that is shown.
+
+    Attributes:
+        begin: The offset of its first byte.
+        end: The offset after its last byte.
+        key: The CSS class of the item that it belongs to.
+        tag: Whether it belongs to a tag.
+        part: The number of the part of the page.
+    """
 
     begin: int
     end: int
@@ -54,23 +67,28 @@ class Span(NamedTuple):
 
 
 class Group(NamedTuple):
-    """Spans of one part that follow one another without a gap, and the end of those that are shown before them."""
+    """Contiguous spans of one part of the page.
+
+    Attributes:
+        before: The end of the spans shown before them.
+        spans: The spans.
+    """
 
     before: int
     spans: List[Span]
 
 
 def page(case: explain.Case) -> str:
-    """The page of a file."""
+    """Return the page of a file."""
     say = html.escape
     name = printable(case.source.name)
     told = "".join(card(section) for section in explain.sections(case))
-    near = f"<section><h2>The octets around it</h2><pre>{around(case)}</pre></section>" if case.refusal else ""
+    near = f"<section><h2>Bytes around the error</h2><pre>{around(case)}</pre></section>" if case.refusal else ""
     wholes = "".join(article(case, whole) for whole in case.wholes)
     lit = ",".join(f".part:has(.{key}:hover) .{key}" for key in map(key_of, range(TOGETHER)))
     policy = "default-src 'none'; style-src 'unsafe-inline'"
     return (
-        f'<!doctype html>\n<html lang="en"><head><meta charset="utf-8"><title>{say(name)}</title>'
+        f"{PAGE_HEAD}<title>{say(name)}</title>"
         f'<meta http-equiv="Content-Security-Policy" content="{policy}"><meta name="viewport" content="width=device-width">'
         f"<style>{STYLE}{lit}{LIGHT}</style></head>\n<body><header><h1>{say(name)}</h1><p>{say(case.verdict())}</p></header>\n<main>"
         f"{near}{f'<section class=told>{told}</section>' if told else ''}{listing(case)}{wholes}</main></body></html>\n"
@@ -78,12 +96,12 @@ def page(case: explain.Case) -> str:
 
 
 def key_of(nth: int) -> str:
-    """The class that joins the octets of an item to what they are, within their part."""
+    """Return the CSS class that joins the bytes of an item to their meaning, within a part."""
     return f"k{nth % TOGETHER}"
 
 
 def card(section: explain.Section) -> str:
-    """A section of what is told of a refusal."""
+    """Return a section of the explanation of a refusal."""
     parts: List[str] = []
     for line in section.lines:
         text = html.escape(line[2:] if line[:2] == "* " else line)
@@ -95,13 +113,13 @@ def card(section: explain.Section) -> str:
 
 
 def listing(case: explain.Case) -> str:
-    """The envelopes of a file that has several."""
+    """Return the list of the envelopes, or nothing if the file has one."""
     rows = list(explain.listing(case))
     return f"<section><h2>Envelopes</h2><pre>{html.escape(chr(10).join(rows))}</pre></section>" if rows else ""
 
 
 def around(case: explain.Case) -> str:
-    """The octets around the refused one."""
+    """Return the bytes around the rejected one."""
     refusal = case.refusal
     if refusal is None:
         return ""
@@ -114,7 +132,7 @@ def around(case: explain.Case) -> str:
 
 
 def article(case: explain.Case, whole: explain.Whole) -> str:
-    """An envelope: its octets, and what they are."""
+    """Return an envelope: its bytes and their meaning."""
     of_all = max(1, len(case.wholes))
     items = list(whole.items(ITEMS // of_all, LINES // of_all))
     groups = list(joined(within(list(spans(whole, items)), OCTETS // of_all)))
@@ -128,17 +146,17 @@ def article(case: explain.Case, whole: explain.Whole) -> str:
 
 
 def part_of(case: explain.Case, whole: explain.Whole, items: List[Optional[Item]], groups: List[Group], part: int) -> str:
-    """Some items of an envelope: their octets, and what they are."""
+    """Return one part of an envelope: the bytes of some items and their meaning."""
     prefix, together = f"e{whole.found.nth}", items[part * TOGETHER : (part + 1) * TOGETHER]
     octets = "".join(rows(case, whole.found.at, (group for group in groups if group.spans[0].part == part), prefix))
     return (
-        f'<div class=part><pre tabindex=0 aria-label="Octets; the list after them tells what they are">{octets}</pre>'
-        f'<ol aria-label="What the octets are">{"".join(meaning(whole, together, prefix))}</ol></div>'
+        f'<div class=part><pre tabindex=0 aria-label="Bytes; the list after them has their meaning">{octets}</pre>'
+        f'<ol aria-label="Meaning of the bytes">{"".join(meaning(whole, together, prefix))}</ol></div>'
     )
 
 
 def spans(whole: explain.Whole, items: List[Optional[Item]]) -> Iterator[Span]:
-    """The octets that are shown, in order."""
+    """Yield the spans of bytes that are shown, in order."""
     for nth, item in enumerate(items):
         if item is None:
             continue
@@ -153,19 +171,22 @@ def spans(whole: explain.Whole, items: List[Optional[Item]]) -> Iterator[Span]:
 
 
 def within(parts: List[Span], most: int) -> List[Span]:
-    """The spans with no more than so many octets: those at both ends."""
+    """Return the spans at both ends that have at most `most` bytes together."""
     sizes = [part.end - part.begin for part in parts]
     if sum(sizes) <= most:
         return parts
     front = [part for part, come in zip(parts, itertools.accumulate(sizes)) if come <= most // 2]
     back = [part for part, come in zip(reversed(parts), itertools.accumulate(reversed(sizes))) if come <= most // 2]
-    # (one alone may be longer)
+    # (a single span may be longer)
     front = front or [parts[0]._replace(end=min(parts[0].end, parts[0].begin + most // 2))]
     return [*front, *reversed(back or [parts[-1]._replace(begin=max(parts[-1].begin, parts[-1].end - most // 2))])]
 
 
 def joined(spans: List[Span]) -> Iterator[Group]:
-    """The spans that follow one another without a gap; none has an octet of those before it."""
+    """Yield the groups of contiguous spans.
+
+    Bytes that an earlier span has are removed from a span.
+    """
     last = 0
     group = Group(0, [])
     for span in spans:
@@ -182,7 +203,7 @@ def joined(spans: List[Span]) -> Iterator[Group]:
 
 
 def rows(case: explain.Case, at: int, groups: Iterable[Group], prefix: str) -> Iterator[str]:
-    """The rows of sixteen octets, and what is said of those that are left out."""
+    """Yield the rows of sixteen bytes, and a note for bytes that are left out."""
     mark = case.refusal.octet_in_file - at if case.refusal else -1
     for before, spans in groups:
         begin, end = spans[0].begin, min(spans[-1].end, case.source.size - at)
@@ -198,7 +219,7 @@ def rows(case: explain.Case, at: int, groups: Iterable[Group], prefix: str) -> I
 
 
 def row_of(row: int, at: int, begin: int, owned: List[Tuple[int, Span]], mark: int, prefix: str) -> str:
-    """A row from an octet on: its address, its octets, each run of which has the class of what it is, and the same as text."""
+    """Return the row at an offset: its address, its bytes in spans of their items, and its text."""
     cells: List[str] = []
     texts: List[str] = []
     last = ""
@@ -221,7 +242,10 @@ def row_of(row: int, at: int, begin: int, owned: List[Tuple[int, Span]], mark: i
 
 
 def meaning(whole: explain.Whole, items: List[Optional[Item]], prefix: str) -> Iterator[str]:
-    """What the octets are, as items of a list; those of a message are one in the midst."""
+    """Yield the meaning of the bytes as items of a list.
+
+    The parts of a message are a nested list.
+    """
     inside = False
     for nth, item in enumerate(items):
         if item is None:

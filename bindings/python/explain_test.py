@@ -1,16 +1,20 @@
 #!/usr/bin/env python3
-"""Holds explain.py to what the library answers, to the second reading of the rules in tests/rules.py, and to docs/CAUSES.md; opens its pages
-in a browser.
+"""Check explain.py against the library, a test oracle and docs/CAUSES.md, and open its pages.
+
+The test oracle is tests/rules.py.
 
   bindings/python/explain_test.py [--picture OUT]
 
-It needs the library, which bindings/build makes, and Chromium (Debian: chromium). With --picture it writes the picture of README.md, and tests
-nothing. With TIMES in the environment it tells the seconds of each test.
+The tests need the library, which bindings/build builds, and Chromium (Debian: chromium). With
+--picture only the picture of README.md is written. With TIMES in the environment the seconds of
+each test are printed.
 
-Prints each failure, and then 'N passed, M failed', and ', K skipped' where tests were not run. The status is 1 where something failed.
+Prints each failure, then 'N passed, M failed', and ', K skipped' if tests were not run. The exit
+status is 1 if a test failed.
 """
 import concurrent.futures
 import contextlib
+import fcntl
 import functools
 import html
 import html.parser
@@ -24,9 +28,11 @@ import select
 import shutil
 import signal
 import socket
+import struct
 import subprocess
 import sys
 import tempfile
+import termios
 import threading
 import time
 
@@ -48,19 +54,21 @@ import iim
 import rules
 import tickets
 from envelopes import SMALLEST, STORY, VARIED
+from pages import causes
 
-# How many changes of one octet are tried, and the seconds that they may take; and of how many all that is printed is read.
+# The number of single-byte changes tried, their maximum seconds, and the number whose output is
+# checked.
 SAMPLE, MOST_SECONDS, PRINTED = 3_000, 60, 456
-# The seconds in which a long page is there, at one of so many openings at most, since others run beside it.
+# The maximum seconds until a long page is complete, in the best of at most this many attempts.
 AT_ONCE, OPENINGS = 2.0, 30
-# The colour of the marked octet, which nothing else on a page has.
+# The colour of the marked byte, which nothing else on a page has.
 MARK = (0xC6, 0x28, 0x28)
 
 TESTS = []
 
 
 class NotHere(Exception):
-    """Why a test can't be run on this machine."""
+    """Raised if a test can't be run on this machine. Its text is the reason."""
 
 
 def test(function):
@@ -96,7 +104,7 @@ def run(*words, octets=b"", **env):
 
 
 class Held:
-    """Octets in memory, read as a file is."""
+    """Bytes in memory with the interface of a `Source`."""
 
     def __init__(self, octets, name="held.iim"):
         self._octets, self.name, self.size = octets, name, len(octets)
@@ -119,7 +127,7 @@ def unwrapped(text):
 
 @functools.lru_cache(maxsize=None)
 def samples():
-    """The octets of each sample, by its path below samples/, and the lines that `check` prints of it."""
+    """Return the bytes of each sample by its path below samples/, and its lines of `check`."""
     found = {}
     for name, lines in re.findall(r"^\| `([\w/.]+\.iim)` \|.*\| (`\d.*`) \|$", text_of(f"{SAMPLES}/README.md"), re.M):
         with open(f"{SAMPLES}/{name}", "rb") as octets:
@@ -128,34 +136,35 @@ def samples():
     return found
 
 
-# --- What it names, and what could stand there
+# --- The position named, and the bytes accepted there
 
 
-# (an answer for all: a receiver and a refusal for each would cost more than what is asked)
+# (one answer for all calls, since a receiver and a refusal for each would take longer than the
+# call)
 ANSWER, LIMITS = iim._Answer(), iim._Limits(*iim.WIRE)
 
 
 def by_check(octets):
-    """What the library says of an envelope at one go: how far it goes, and whether it is whole."""
+    """Return the number of valid bytes by `iim_check`, and whether they are an envelope."""
     iim._library.iim_check(LIMITS, octets, len(octets), ANSWER)
     status = ANSWER.status
-    holds(status in (iim._DONE, iim._REFUSED, iim._TRUNCATED), f"iim_check answers {status}")
+    holds(status in (iim._DONE, iim._REFUSED, iim._TRUNCATED), f"iim_check returned the status {status}")
     return ANSWER.octet, status == iim._DONE
 
 
 def by_rules(octets):
-    """What the second reading says of an envelope."""
+    """Return the verdict of the test oracle on an envelope."""
     want = rules.read(octets)
     return want.answer() if want.answer() != "more" else want.end()
 
 
 def refused_by_rules(many):
-    """How many of some octets the second reading refuses."""
+    """Return how many inputs the test oracle rejects."""
     return sum(by_rules(octets).startswith("refused ") for octets in many)
 
 
 def names_the_place(octets, case, text):
-    """That the explained refusal is that of `check`, and its part that of the second reading."""
+    """Check the refusal against `check`, and the part of the message against the test oracle."""
     at = case.refusal.at
     refused = case.refusal
     same(str(refused).partition(" ")[2], by_rules(octets[at:]))
@@ -173,14 +182,14 @@ def names_the_place(octets, case, text):
 
 
 def ticket_part(ticket):
-    """The part of the message that a ticket tells, by docs/FORMAT.md: it stands before the texts, which end it."""
+    """Return the part of the message that a ticket encodes."""
     message = iim._Message()
     iim._library.iim_header(ticket, len(ticket), message, iim._Answer())
     return message.part
 
 
 def could_stand(octets, case):
-    """That what could stand at the refused octet is what the library takes there, by trying each from the beginning on."""
+    """Check the bytes accepted in place of the rejected one by trying each byte."""
     at, octet, tries = case.refusal.at, case.refusal.octet, case.wholes[-1].tries
     front = octets[at : at + octet]
     taken = {value for value in range(256) if (reach := by_check(front + bytes([value])))[0] > octet or reach[1]}
@@ -189,13 +198,15 @@ def could_stand(octets, case):
 
 @functools.lru_cache(maxsize=None)
 def part_after(front):
-    """The part of the message in which the first octets of an envelope end, by the second reading."""
+    """Return the part of the message in which a prefix of an envelope ends, by the test oracle."""
     return ticket_part(tickets.ticket(rules.read(front)))
 
 
 def named(many):
-    """How many of some octets are refused, each with its octet, dataset, cause and part held to `check` and to the second reading, but
-    nothing tried and no word printed."""
+    """Check each refusal against `check` and the test oracle, and return how many there are.
+
+    The bytes accepted and the text are not checked.
+    """
     count = 0
     for octets in many:
         refusal = case_of(octets).refusal
@@ -211,7 +222,7 @@ def named(many):
 
 
 def explained(octets):
-    """What octets come to, tested; or None where they are accepted."""
+    """Check the explanation of an input, and return it, or `None` if the input is accepted."""
     case = case_of(octets)
     text = text_told(case)
     holds(all(len(line) <= 80 for line in text.splitlines()), max(text.splitlines(), key=len))
@@ -223,12 +234,12 @@ def explained(octets):
 
 
 def all_explained(many):
-    """How many of some octets are refused."""
+    """Check the explanations of inputs, and return how many are rejected."""
     return sum(explained(octets) is not None for octets in many)
 
 
 def side_by_side(function, things, *more):
-    """What a function gives of parts of some things, by as many processes as there are processors."""
+    """Return a function's results for parts of a list, computed in one process per processor."""
     parts = [things[at :: 4 * (os.cpu_count() or 1)] for at in range(4 * (os.cpu_count() or 1))]
     with concurrent.futures.ProcessPoolExecutor() as pool:
         return list(pool.map(function, [part for part in parts if part]))
@@ -258,13 +269,13 @@ def names_the_octet_of_each_change(folder):
     same(len(changes), 114 * 255)
     refused = sum(side_by_side(named, changes))
     same(refused, sum(not envelope.is_done for _, envelope in rules.read_changes(SMALLEST)))
-    # (and all that is tried and printed of some)
+    # (and the whole explanation of some)
     some = random.Random(11).sample(changes, PRINTED)
     same(sum(side_by_side(all_explained, some)), refused_by_rules(some))
 
 
 def change_explained(changes):
-    """Of changes of one octet those whose octet is not among those told; and how many are refused, and how many told are false."""
+    """Return the changes whose fix is not reported, and the numbers of refusals and wrong fixes."""
     lost, refused, false = [], 0, 0
     for whole, at, value in changes:
         octets = whole[:at] + bytes([value]) + whole[at + 1 :]
@@ -285,7 +296,7 @@ def change_explained(changes):
 
 
 def processor_seconds():
-    """The seconds of a processor that the processes started here have taken so far: others run beside them."""
+    """Return the processor time of the child processes so far, in seconds."""
     used = resource.getrusage(resource.RUSAGE_CHILDREN)
     return used.ru_utime + used.ru_stime
 
@@ -311,8 +322,10 @@ def tells_the_octet_that_was_there(folder):
 UNSIGNED = rules.packed(
     [*envelopes.SMALLEST_FIELDS, (2, 201, b"\1" * 8), (2, 200, b"abc"), (2, 35, b"120000x0000")], rules.object_of(envelopes.SMALLEST_HEAD, [b""], b""), 1024
 )
-# What alone mends it, in the order in which it is told: one bit of the count before it, by which the time is data of that dataset; the octet
-# that is no sign; one octet of the count before that; and the number of the dataset.
+# The offsets of its single-byte fixes, the likeliest first: one bit of the count before it, by
+# which
+# the time is data of that dataset; the byte that is no sign; one byte of the count before that; and
+# the number of the dataset.
 MENDING = [79, 94, 66, 85]
 
 
@@ -329,9 +342,10 @@ def tells_the_likeliest_mend_first(folder):
     same((whole[79], whole[94], whole[66]), ({UNSIGNED[79] ^ 0x10}, set(b"+-"), {0x20}))
     told = case.wholes[-1].tries.told_mends()
     same([(each.first, each.last, each.octets, each.whole) for each in told], [(at, at, whole[at], True) for at in MENDING])
-    printed = text_told(case).partition("WHAT ALONE MENDS IT\n")[2].partition("\n\n")[0]
+    printed = text_told(case).partition("SINGLE-BYTE FIXES\n")[2].partition("\n\n")[0]
     same(re.findall(r"\* Octet (\d+) ", printed), [str(at) for at in MENDING])
-    # (where none leads to the end, those that lead further have the same order)
+    # (if no fix makes the envelope complete, the fixes that make more of it valid have the same
+    # order)
     further = case_of(UNSIGNED[:-1] + bytes([UNSIGNED[-1] ^ 1])).wholes[-1].tries.told_mends()
     bits = [min(bin(UNSIGNED[each.first] ^ octet).count("1") for octet in each.octets) for each in further]
     kinds = [2 if each.first == 85 else int(least > 1) for each, least in zip(further, bits)]
@@ -345,25 +359,41 @@ def tells_the_likeliest_mend_first(folder):
 BLOCK_OF_PICTURE = b"\x1c\x02\x00\x00\x02\x00\x04" + rules.dataset_of(2, 105, b"Rates held") + rules.dataset_of(2, 25, b"bank")
 LATIN = rules.packed([*envelopes.SMALLEST_FIELDS, (2, 105, b"Caf\xe9 \xfcber"), (2, 90, b"Gen\xe8ve")], envelopes.STORY_OBJECT, 1024)
 BAD_DATE = STORY.replace(b"20240301", b"20230229")
+# The size of record 1 of the worked envelopes, in bytes.
+RECORD_1 = STORY.index(b"\x1c\x02")
 
-# Each hint by words of it: octets that ask for it, and octets that must not.
+
+def long_story():
+    """Return an envelope with a story longer than a block."""
+    return rules.packed(envelopes.STORY_FIELDS, rules.object_of(envelopes.STORY_HEAD, [b"a word " * 20_000], b""), 30_000)
+
+# Text of each hint: inputs for which it must be printed, and inputs for which it must not.
 HINTS = {
-    "With each CR LF made LF: the envelope is accepted": ([STORY.replace(b"\n", b"\r\n"), SMALLEST.replace(b"\n", b"\r\n")], [BAD_DATE]),
-    "With each LF of the object that stands alone made CR LF: the": ([STORY.replace(b"\r\n", b"\n")], [STORY.replace(b"\r\n", b"\r")]),
-    "and then each LF of the object CR LF: the envelope is accepted": ([re.sub(rb"(?<!\r)\n", b"\r\n", STORY)], [STORY.replace(b"\n", b"\r\n")]),
-    "With UTF-8 made Latin-1: the envelope is accepted": (
+    "With each CR LF changed to LF: the envelope is accepted": ([STORY.replace(b"\n", b"\r\n"), SMALLEST.replace(b"\n", b"\r\n")], [BAD_DATE]),
+    "With each lone LF of the object changed to CR LF: the": ([STORY.replace(b"\r\n", b"\n")], [STORY.replace(b"\r\n", b"\r")]),
+    "and then each LF of the object to CR LF: the envelope is accepted": ([re.sub(rb"(?<!\r)\n", b"\r\n", STORY)], [STORY.replace(b"\n", b"\r\n")]),
+    "With UTF-8 converted to Latin-1: the envelope is accepted": (
         [LATIN.decode("latin-1").encode("utf-8"), STORY.decode("latin-1").encode("utf-8")],
         [LATIN.replace(b"20240301", b"20230229"), LATIN[:70].decode("latin-1").encode("utf-8")[:60] + b"\xff" * 9],
     ),
-    "whole: without the last": ([SMALLEST + b"\n", STORY + SMALLEST + b"\0" * 400, SMALLEST + b"junk"], [b"\n" + SMALLEST, SMALLEST + SMALLEST[:50]]),
+    "complete: without the last": ([SMALLEST + b"\n", STORY + SMALLEST + b"\0" * 400, SMALLEST + b"junk"], [b"\n" + SMALLEST, SMALLEST + SMALLEST[:50]]),
     "this is a block of record 2 alone": (
         [BLOCK_OF_PICTURE, b"\xff\xed\0\x60Photoshop 3.0\x008BIM\x04\x04\0\0\0\0\0\x24" + BLOCK_OF_PICTURE],
-        [b"\x1d" + SMALLEST[1:], SMALLEST[:46] + b"\x1d" + SMALLEST[47:], b"\x1c\x02", b"no wire copy"],
+        [b"\x1d" + SMALLEST[1:], SMALLEST[:46] + b"\x1d" + SMALLEST[47:], b"\x1c\x02", b"no wire copy", STORY[RECORD_1:], STORY[RECORD_1:-1]],
     ),
+    "record 1 is lost. With a record 1 inserted there, everything after it is accepted.": (
+        [STORY[RECORD_1:], STORY[RECORD_1:] + SMALLEST, SMALLEST + STORY[RECORD_1:], b"junk" + STORY[RECORD_1:], long_story()[RECORD_1:]],
+        [BLOCK_OF_PICTURE, STORY[RECORD_1:] + b"\n", STORY[RECORD_1:-1], STORY[RECORD_1 + 7 :]],
+    ),
+    "With a record 1 inserted there, the envelope is accepted, and ends before octet 191.": (
+        [STORY[RECORD_1:] + b"\n", STORY[RECORD_1:] + STORY[:100]],
+        [STORY[RECORD_1:]],
+    ),
+    "With a record 1 inserted there, it is valid up to octet 190.": ([STORY[RECORD_1:-1], STORY[RECORD_1:-1] + b"\0"], [STORY[RECORD_1:]]),
     "The file has no octets": ([b""], [b"\x1c", SMALLEST, b"\0"]),
     "which is more than the file has": ([SMALLEST[:100], STORY[:230], SMALLEST[:50]], [SMALLEST[:105], SMALLEST[:44], STORY[:62]]),
     "Without this dataset 2:105 Headline: the envelope is accepted": ([STORY[:62] + STORY[62:77] * 2 + STORY[77:]], [BAD_DATE]),
-    "1:70 Date Sent put in before it": ([SMALLEST[:42] + SMALLEST[55:]], [SMALLEST[:21] + SMALLEST[29:]]),
+    "1:70 Date Sent inserted before it": ([SMALLEST[:42] + SMALLEST[55:]], [SMALLEST[:21] + SMALLEST[29:]]),
     "one octet may be lost": ([SMALLEST[:92] + SMALLEST[93:]], [BAD_DATE]),
 }
 
@@ -373,17 +403,43 @@ def gives_each_hint_where_it_serves(folder):
     for words, (asking, others) in HINTS.items():
         for octets in asking:
             text = unwrapped(text_told(case_of(octets)))
-            holds(words in text, f"{words!r} is not told of {octets!r}: {text}")
+            holds(words in text, f"{words!r} is not printed for {octets!r}: {text}")
         for octets in others:
-            holds(words not in unwrapped(text_told(case_of(octets))), f"{words!r} is told of {octets!r}")
+            holds(words not in unwrapped(text_told(case_of(octets))), f"{words!r} is printed for {octets!r}")
+
+
+@test
+def accepts_what_lost_its_record_1(folder):
+    # (the hint's statement, by the test oracle)
+    front = SMALLEST[:RECORD_1]
+    for octets, ends in (STORY, 191), (long_story(), len(long_story()) - RECORD_1):
+        rest = octets[RECORD_1:]
+        same((by_rules(rest)[:18], by_rules(front + rest)), ("refused at octet 4", f"done {RECORD_1 + ends}"))
+    same(by_rules(front + STORY[RECORD_1:-1])[:20], f"refused at octet {RECORD_1 + 190}")
+    # (there is no hint under limits that are too small for a record 1)
+    holds("record 1" not in text_told(case_of(STORY[RECORD_1:], iim.Limits(20, 5))), "a record 1 was inserted")
 
 
 @test
 def gives_no_hint_of_a_transfer_to_other_samples(folder):
     for name, (octets, _) in samples().items():
         text = unwrapped(text_told(case_of(octets)))
-        for words in ("made LF", "made CR LF", "made Latin-1", "block of record 2", "without the last", "no octets"):
-            holds(words not in text, f"{words!r} is told of {name}")
+        for words in ("changed to LF", "changed to CR LF", "converted to Latin-1", "block of record 2", "record 1 is lost", "without the last", "no octets"):
+            holds(words not in text, f"{words!r} is printed for {name}")
+
+
+def titles(octets):
+    return [section.title for section in explain.sections(case_of(octets))]
+
+
+@test
+def names_its_sections(folder):
+    same(titles(BAD_DATE), ["Where", "Why", "Bytes accepted there", "Single-byte fixes", "Note"])
+    same(titles(SMALLEST[:100])[:3], ["Where", "Why", "Bytes accepted next"])
+    same(titles(SMALLEST + b"\n")[-2:], ["Other findings", "Note"])
+    same((titles(b""), titles(SMALLEST)), (["Empty file"], []))
+    text = text_told(case_of(BAD_DATE))
+    same([each in text for each in ("  Likely reason: letters in a number", "  What to do: look up", "  It must be a date CCYYMMDD.")], [True] * 3)
 
 
 @test
@@ -399,17 +455,17 @@ def says_that_nothing_was_repaired(folder):
 
 @test
 def has_the_sentences_of_the_page_of_causes(folder):
-    table = text_of(f"{TOP}/docs/CAUSES.md").split("## Causes of an envelope")[1].split("\n## ")[0]
-    rows = [[cell.strip() for cell in line.strip().strip("|").split(" | ")] for line in table.splitlines() if re.match(r"\| \d", line)]
-    same({int(row[0].split()[0]): (row[4], row[5]) for row in rows}, {number: tuple(cause) for number, cause in explain_causes.CAUSES.items()})
-    same({int(row[0].split()[0]): row[2] for row in rows}, {number: iim.cause_text(number) for number in explain_causes.CAUSES})
+    known = {cause.number: cause.entries for cause in causes.causes() if cause.section == causes.OF_ENVELOPES}
+    written = {number: (entries["Likely reason"], entries["What to do"]) for number, entries in known.items()}
+    same(written, {number: tuple(cause) for number, cause in explain_causes.CAUSES.items()})
+    same({number: entries["Meaning"] for number, entries in known.items()}, {number: iim.cause_text(number) for number in explain_causes.CAUSES})
     same(sorted(explain_causes.CAUSES), [number for number in sorted(rules.CAUSES) if number < 60])
 
 
 @test
 def tells_values_in_words(folder):
     words = explain_words
-    same(words.value_in_words(2, 55, b"20240012", 8), "day 12 of a month that isn't told, 2024")
+    same(words.value_in_words(2, 55, b"20240012", 8), "day 12 of an unknown month, 2024")
     same(words.value_in_words(2, 55, b"20240300", 8), "March 2024")
     same(words.value_in_words(1, 70, b"20240301", 8), "1 March 2024")
     same(words.value_in_words(1, 80, b"235959-2359", 11), "23:59:59, 23:59 behind universal time")
@@ -420,7 +476,7 @@ def tells_values_in_words(folder):
     same(words.instant_in_words(b"99991231", b"235959-0100"), None)
     same(words.names(b"0123456789 "), "a digit or SP")
     same(words.names(b"0123456789abcdefghijklmnopqrstuvwxyzABCDEFGHIJKLMNOPQRSTUVWXYZ"), "a digit or a letter")
-    same(words.names(set(range(256)) - {3}), "any octet but ETX")
+    same(words.names(set(range(256)) - {3}), "any octet except ETX")
     same(words.names([]), "no octet")
     release = samples()["release.iim"][0]
     holds("Held until 2024-03-01T13:00:00Z." in text_told(case_of(release)), "the release")
@@ -463,6 +519,99 @@ def tells_the_place_and_what_comes_next(folder):
     same(again.next, frozenset(b"012345678"))
 
 
+# --- Rows
+
+
+# Values that do not fit in 80 columns: a service of ten letters, one of ten other bytes, and a
+# caption.
+SERVICES = b"REUTERSUK1", b"\xc3\xa6" * 5
+CAPTION = b"Oslo (NTB): Regjeringen legger fram statsr\xe5dets forslag i dag, heter det. " * 5
+
+
+def of_service(service, date=b"20241007"):
+    """Return an envelope of a service, with a caption."""
+    fields = [*envelopes.SMALLEST_FIELDS[:3], (1, 30, service), (1, 40, b"00000002"), (1, 70, date), (2, 0, b"\0\4"), (2, 120, CAPTION), (2, 40, CAPTION[41:251])]
+    return rules.packed(fields, rules.object_of(envelopes.STORY_HEAD, [CAPTION, b"\xff" * 40], b""), 1024)
+
+
+@test
+def lists_ids_as_a_whole(folder):
+    for service in SERVICES:
+        whole = of_service(service)
+        known = f"{rules.shown(service)} 00000002 20241007"
+        for octets, kind in [(whole[:-1], "a file that ends early"), (whole.replace(b"\3\4", b"\2\4"), "an octet")]:
+            text = text_told(case_of(SMALLEST + octets))
+            rows = [line for line in text.splitlines() if line.endswith("  REFUSED")]
+            same((kind, [row.split(" octets  ")[1] for row in rows]), (kind, [f"{known}  REFUSED"]))
+            page = explain_page.page(case_of(SMALLEST + octets))
+            holds(f"{html.escape(known)}  REFUSED" in page, page)
+        # (and in the lines of the datasets)
+        for columns in range(60, 130):
+            row = next(line for line in explain.lines(case_of(whole), explain.Paint(False), columns) if "1:30 " in line)
+            holds(row.endswith(f" {rules.shown(service)}"), row)
+
+
+@test
+def cuts_values_behind_a_character(folder):
+    whole = of_service(b"NTB")
+    # (the row of the rejected dataset has a mark after its value)
+    for octets, numbers in (whole[:-1], [120, 40]), (whole.replace(b"det. Oslo", b"det\1 Oslo", 1), [120]):
+        same(cut_values(case_of(octets)), {explain_words.titled(2, number) for number in numbers})
+
+
+def cut_values(case):
+    """Check each row at many widths, and return the datasets whose values were cut."""
+    uncut = {line[:47]: line for line in explain.lines(case, explain.Paint(False), 400)}
+    cut = set()
+    for columns in range(60, 130):
+        for line in explain.lines(case, explain.Paint(False), columns):
+            holds(len(line) <= max(columns, 80), f"{columns}: {line}")
+            if line.startswith("        ") and line != uncut[line[:47]]:
+                cut.add(line[14:].partition(",")[0])
+                mark = "  <-- here" * line.endswith("  <-- here")
+                front = line[: len(line) - len(mark)]
+                holds(front.endswith("...") and uncut[line[:47]].startswith(front[:-3]), line)
+                # (no escape is split, and the row is as long as possible)
+                holds(re.fullmatch(r"([^\\]|\\x[0-9A-F]{2})*", front[:-3]), line)
+                holds(len(line) > columns - 4, line)
+    return {each for each in cut if each.startswith("2:")}
+
+
+@test
+def fits_texts_behind_escapes(folder):
+    text = r"a\xE5b\u202Ec\U0001F600d"
+    ends = {len(text[: found.end()]) for found in re.finditer(r"\\x..|\\u....|\\U........|[^\\]", text)} | {0}
+    for most in range(3, len(text) + 2):
+        got = explain_words.fitted(text, most)
+        same((most, got), (most, text if len(text) <= most else text[: max(end for end in ends if end <= most - 3)] + "..."))
+
+
+@test
+def keeps_the_name_of_a_file(folder):
+    for name in "a" * 250 + ".iim", "\u202e" * 80, "big.iim":
+        octets = SMALLEST * 1_000 + b"\n" * 11_500_001
+        told = list(explain.lines(explain.Case(Held(octets, name), iim.WIRE), explain.Paint(False)))
+        same(told[0].startswith(explain_words.printable(name) + ":"), True)
+        verdict = "11,614,001 octets, 1,000 envelopes accepted, envelope 1,001 refused"
+        holds(verdict in unwrapped(" ".join(told[:3])) and all(len(line) <= 80 for line in told[1:3]), told[:3])
+
+
+@test
+def prints_rows_as_wide_as_the_terminal(folder):
+    path = file(folder, "wide.iim", of_service(b"NTB")[:-1])
+    longest = {}
+    for columns in 40, 70, 100, 140:
+        told = on_a_terminal(["explain", path], columns, NO_COLOR="1").decode().replace("\r\n", "\n")
+        # (the hexadecimal dump has 78 columns)
+        longest[columns] = max(len(line) for line in told.splitlines() if not re.match("  [0-9A-F]{8} ", line))
+        holds("..." in told, told)
+    # (rows have at least 70 columns)
+    same({columns: 60 <= most <= max(70, columns) for columns, most in longest.items()}, dict.fromkeys(longest, True))
+    status, out, _ = run("explain", path)
+    most = max(out.splitlines(), key=len)
+    same((status, 112 < len(most) <= 120), (1, True))
+
+
 # --- The command
 
 
@@ -477,27 +626,29 @@ def prints_and_writes_what_is_asked(folder):
         same(run("explain", "-", octets=octets.read())[0], 1)
     status, out, _ = run("explain", f"{SAMPLES}/stream.iim", "--envelope", "2")
     same((status, "ENVELOPE 2" in out, "ENVELOPE 1" in out), (0, True, False))
-    same(run("explain", f"{SAMPLES}/stream.iim", "--envelope", "3")[::2], (2, "there is no envelope 3: the file has 2\n"))
-    same(run("explain", f"{folder}/none")[::2], (3, "cannot read: No such file or directory\n"))
-    same(run("explain", damaged, "--html", f"{folder}/none/page.html")[::2], (3, "cannot write\n"))
+    there_is = f"python3 -m iim explain: {SAMPLES}/stream.iim: there is no envelope 3: the file has 2\n"
+    same(run("explain", f"{SAMPLES}/stream.iim", "--envelope", "3")[::2], (2, there_is))
     same([run("explain", *words)[0] for words in ([], [damaged, "--envelope", "0"], [damaged, "--limits", "0", "1"])], [2, 2, 2])
     same(run("explain", f"{SAMPLES}/damaged/too_many_fields.iim", "--limits", "65536", "600")[0], 0)
 
 
 @test
 def prints_what_the_pages_show(folder):
-    use, readme = text_of(f"{TOP}/docs/USE.md"), text_of(f"{TOP}/README.md")
-    words = next(block for block in re.findall(r"^```sh\n(.*?)^```$", use, re.M | re.S) if "iim explain" in block)
+    guide, archive, readme = (text_of(f"{TOP}/{page}") for page in ("docs/guide/explain.md", "docs/guide/archive.md", "README.md"))
+    words = next(block for block in re.findall(r"^```sh\n(.*?)^```$", guide, re.M | re.S) if "iim explain" in block)
     ran = subprocess.run(["sh", "-e", "-c", words.replace("page.html", f"{folder}/page.html")], cwd=TOP, capture_output=True, text=True, timeout=SECONDS)
-    begins = use.partition(words)[2].partition("\n```\n")[2].partition("```")[0]
+    begins = guide.partition(words)[2].partition("\n```\n")[2].partition("```")[0]
     same((ran.returncode, ran.stdout[: len(begins)], ran.stderr), (1, begins, ""))
     holds(os.path.getsize(f"{folder}/page.html") > 1_000, "no page")
-    holds(words.partition("python3")[2] in readme.replace("$ ", ""), "README.md has other words")
-    program = next(block for block in re.findall(r"^```python\n(.*?)^```$", use, re.M | re.S) if "before.next" in block)
+    printed = ran.stdout + run("explain", f"{SAMPLES}/damaged/count_range.iim")[1]
+    titles = re.findall(r"^- `([A-Z][A-Z -]+)`", guide, re.M)
+    same((len(titles), [title for title in titles if f"\n{title}\n" not in printed]), (4, []))
+    holds("\n$ iim-explain" + words.partition("iim explain")[2] in readme, "README.md has another command")
+    program = next(block for block in re.findall(r"^```python\n(.*?)^```$", guide, re.M | re.S) if "before.next" in block)
     file(folder, "next.py", program.encode())
     ran = subprocess.run([sys.executable, f"{folder}/next.py", f"{SAMPLES}/damaged/bad_value.iim"], capture_output=True, text=True, env=MODULES, timeout=SECONDS)
     same((ran.returncode, ran.stdout, ran.stderr), (0, "54 data b'012345678'\n", ""))
-    words = next(block for block in re.findall(r"^```sh\n(.*?)^```$", use, re.M | re.S) if "archive.py report" in block)
+    words = next(block for block in re.findall(r"^```sh\n(.*?)^```$", archive, re.M | re.S) if "archive.py report" in block)
     index = indexed(folder)
     words = words.replace("samples.index", index).replace("report.html", f"{folder}/report.html")
     ran = subprocess.run(["sh", "-e", "-c", words], cwd=TOP, capture_output=True, text=True, timeout=SECONDS)
@@ -507,9 +658,10 @@ def prints_what_the_pages_show(folder):
         same(octets.read(8), b"\x89PNG\r\n\x1a\n")
 
 
-def on_a_terminal(words, **env):
-    """What the command prints on a terminal."""
+def on_a_terminal(words, columns=80, **env):
+    """Return what the command prints on a terminal with `columns` columns."""
     ours, theirs = pty.openpty()
+    fcntl.ioctl(theirs, termios.TIOCSWINSZ, struct.pack("4H", 24, columns, 0, 0))
     with subprocess.Popen([sys.executable, "-m", "iim", *words], stdout=theirs, stderr=theirs, stdin=subprocess.DEVNULL, env={**MODULES, **env}) as ran:
         os.close(theirs)
         parts = []
@@ -552,7 +704,7 @@ KNOWN_TAGS = set("html head meta title style body header h1 h2 p main section di
 
 
 class Tags(html.parser.HTMLParser):
-    """The elements of a page, each with its attributes."""
+    """Collect the elements of a page, each with its attributes."""
 
     def __init__(self):
         super().__init__()
@@ -579,11 +731,11 @@ LINE = b"A line of the story that has some eighty octets, as those of the wire m
 
 
 def of_lines(count, subfile=32_000):
-    """An envelope with a story of so many lines."""
+    """Return an envelope with a story of `count` lines."""
     return rules.packed(envelopes.STORY_FIELDS, rules.object_of(envelopes.STORY_HEAD, [LINE] * count, b""), subfile)
 
 
-# The longest of which a page leaves nothing out.
+# The longest envelope that a page shows completely.
 LONG = of_lines(1_150)
 
 
@@ -621,7 +773,7 @@ def explains_a_long_file_by_blocks(folder):
             for _ in range(count):
                 to.write(octets)
             to.write(end)
-        # (in a process of its own, since a process begins with what the one that starts it has)
+        # (measured in a separate process, since a process starts with the memory of its parent)
         ran = subprocess.run([sys.executable, "-c", MEASURED, path, f"{folder}/page.html"], capture_output=True, text=True, env=MODULES, timeout=SECONDS)
         told, _, used = ran.stdout.rpartition("used ")
         same((ran.returncode, ran.stderr, "Cause 25" in unwrapped(told)), (1, "", True))
@@ -634,20 +786,23 @@ def explains_a_long_file_by_blocks(folder):
 
 
 def room():
-    """A folder for a test, removed after it. A process of a browser that has ended may still write in its profile for a moment: what can't be
-    removed for that is left to the machine, and is no failure of the test."""
+    """Return a directory for a test, which is removed after it.
+
+    A process of a browser may write in its profile for a moment after the browser has ended. Files
+    that can't be removed because of that remain, and are no failure of the test.
+    """
     return tempfile.TemporaryDirectory(ignore_cleanup_errors=True)
 
 
 def browser():
     found = shutil.which("chromium")
     if not found:
-        raise NotHere("no chromium is there")
+        raise NotHere("chromium is not installed")
     return found
 
 
 class Listener:
-    """A proxy that answers nothing, and keeps what it is asked for."""
+    """A proxy that does not reply, and stores the first line of each request."""
 
     def __enter__(self):
         self._socket = socket.create_server(("127.0.0.1", 0))
@@ -667,12 +822,12 @@ class Listener:
         self._socket.close()
 
 
-# What the browser itself may ask for, whatever page it shows.
+# The hosts that the browser itself may connect to, for any page.
 ITS_OWN = re.compile(r"(google|googleapis|gvt1|gstatic|chromium)\.(com|org)\b")
 
 
 def browsing(folder, size=(1400, 1000)):
-    """The words that start a browser in which nothing was done before."""
+    """Return the arguments that start a browser with a new profile."""
     return [
         browser(), "--headless", "--disable-gpu", "--disable-dev-shm-usage", "--no-first-run", "--disable-extensions", "--disable-sync",
         "--disable-background-networking", "--disable-component-update", "--disable-default-apps", f"--user-data-dir={folder}/profile",
@@ -681,8 +836,10 @@ def browsing(folder, size=(1400, 1000)):
 
 
 def opened(folder, page, size=(1400, 1000), picture=None, more=()):
-    """Opens a page in a browser: what its console says, what it asks for from anywhere, and its picture. Where the browser has ended with a
-    connection on which nothing was asked yet, it isn't known for what that was, and the page is opened again."""
+    """Open a page in a browser, and return its console's lines, its requests and a screenshot.
+
+    The page is opened again if the browser ended with a connection that had no request yet.
+    """
     for _ in range(3):
         console, asked, shown = opened_once(folder, page, size, picture, more)
         if "" not in asked:
@@ -715,17 +872,17 @@ for colour in sys.argv[2:]:
 
 
 def pixels(picture, *colours):
-    """Of each colour how many points of a picture have it, and where the first and the last column of these are."""
+    """Return the number of pixels of each colour in a picture, and their first and last column."""
     python = next((path for path in ("/usr/bin/python3", sys.executable) if subprocess.run([path, "-c", "import PIL"], stderr=subprocess.DEVNULL).returncode == 0), None)
     if python is None:
-        raise NotHere("no python3-pil is there")
+        raise NotHere("python3-pil is not installed")
     ran = subprocess.run([python, "-c", COUNT, picture, *(bytes(colour).hex() for colour in colours)], capture_output=True, text=True, timeout=SECONDS)
     same((ran.returncode, ran.stderr), (0, ""))
     return [tuple(map(int, line.split())) for line in ran.stdout.splitlines()]
 
 
 class Asked:
-    """A browser that is asked by messages, and tells by messages what happens in it."""
+    """A browser that is controlled by messages, and reports events by messages."""
 
     def __init__(self, folder):
         (theirs, to), (came, ours) = os.pipe(), os.pipe()
@@ -755,13 +912,13 @@ class Asked:
             ready = select.select([self._from], [], [], SECONDS)[0]
             part = self._from.read(1 << 16) if ready else b""
             if not part:
-                raise OSError("the browser tells no more")
+                raise OSError("the browser sends no more messages")
             self._come += part
         message, _, self._come = self._come.partition(b"\0")
         return json.loads(message)
 
     def ask(self, method, **words):
-        """What it answers; what happens before that is kept."""
+        """Send a request, and return the reply. Events that arrive before it are stored."""
         self._count += 1
         message = {"id": self._count, "method": method, "params": words, **({"sessionId": self._session} if self._session else {})}
         self._to.write(json.dumps(message).encode() + b"\0")
@@ -770,7 +927,7 @@ class Asked:
         return answer["result"]
 
     def seconds(self, path):
-        """The seconds until a page shows something, and until all of it is there."""
+        """Return the seconds until a page shows something, and until it is complete."""
         self._events.clear()
         begun, seen = time.monotonic(), {}
         self.ask("Page.navigate", url=f"file://{path}")
@@ -789,11 +946,12 @@ def opens_at_once(folder):
     with Asked(folder) as asked:
         for _ in range(OPENINGS):
             shown, whole = asked.seconds(path)
-            if whole <= AT_ONCE:
+            if max(shown, whole) <= AT_ONCE:
                 break
     if os.environ.get("TIMES"):
         print(f"       a page of {len(page):,} octets is shown in {shown:.2f} s, and whole in {whole:.2f} s")
-    holds(shown <= whole <= AT_ONCE, f"it is shown in {shown:.2f} seconds, and whole in {whole:.2f}")
+    # Nothing says which of the two events comes first: the browser may report the load before it has painted.
+    holds(max(shown, whole) <= AT_ONCE, f"it is shown in {shown:.2f} seconds, and whole in {whole:.2f}")
 
 
 @test
@@ -814,7 +972,7 @@ def is_read_in_the_dark_on_paper_and_without_colours(folder):
     _, _, picture = opened(folder, page, more=["--blink-settings=preferredColorScheme=0"])
     (mark, _, _), (dark, _, _), (light, _, _) = pixels(picture, MARK, (0x14, 0x18, 0x1D), (0xF1, 0xF3, 0xF5))
     holds(mark > 60 and dark > 10_000 and light == 0, f"{mark}, {dark} and {light} points")
-    # (what holds for paper, on a screen)
+    # (the rules for print, on a screen)
     _, _, picture = opened(folder, page.replace("@media print", "@media screen"))
     holds(pixels(picture, MARK)[0][0] > 60, "no mark on paper")
     plain = re.sub("<style>.*?</style>", "", page, flags=re.S)
@@ -854,7 +1012,7 @@ def lights_up_both_sides(folder):
         holds(f".part:has(.{key}:hover) .{key}" in page, key)
     anchors = {attributes.get("id") for _, attributes in found}
     same([attributes["href"] for tag, attributes in found if "href" in attributes and attributes["href"][1:] not in anchors], [])
-    # (what the pointer does is done by a class here, which a browser can be told)
+    # (a class stands in for the pointer, which the browser can't be made to move)
     key = re.search(r'<li class="(k\d+)"><a[^>]*><small>62</small>', page).group(1)
     for marked in f'<li class="{key}', f'<span class="{key} t':
         lit = page.replace(f"{key}:hover", f"{key}.lit").replace(marked, marked + " lit", 1)
@@ -871,11 +1029,11 @@ NOW = "2024-03-01T12:00:00Z"
 
 
 def drawing():
-    """A Python that has what pictures are made by."""
+    """Return a Python that has the modules that generate pages."""
     for path in "/usr/bin/python3", sys.executable:
         if subprocess.run([path, "-c", "import jinja2, matplotlib"], stderr=subprocess.DEVNULL).returncode == 0:
             return path
-    raise NotHere("no python3-matplotlib and python3-jinja2 are there")
+    raise NotHere("python3-matplotlib and python3-jinja2 are not installed")
 
 
 def archive(*words, python=sys.executable, **env):
@@ -884,7 +1042,7 @@ def archive(*words, python=sys.executable, **env):
 
 
 def indexed(folder, tree=SAMPLES):
-    """The index of a tree."""
+    """Return the index of a tree."""
     index = f"{folder}/tree.index"
     status, _, errors = archive("--into", index, "--now", NOW, "--name", "*.iim", tree)
     same((status in (0, 1), errors), (True, ""))
@@ -906,10 +1064,10 @@ def reports_an_archive_as_text(folder):
         holds(line in out, f"{line!r} is not in {out}")
     holds(re.search(r"release.iim  1  TST 00000001 20240301  2024-03-01T13:00:00Z", out), out)
     holds("bad_value.iim: envelope 1, octet 54 of the file, 1:70, cause 15 BadValue (TST 00000001 ?)" in out, out)
-    # (once released, nothing is held)
+    # (after the release no copy is held)
     later = archive("report", indexed(folder), "--now", "2024-03-01T13:00:00Z")[1]
     same("0 held" in later and "13:00:00Z\n" not in later.partition("HELD, AND")[2], True)
-    same(archive("report", f"{folder}/none")[::2], (3, f"{folder}/none: there is no index\n"))
+    same(archive("report", f"{folder}/none")[::2], (3, f"iim-archive: {folder}/none: there is no index\n"))
 
 
 @test
@@ -919,7 +1077,7 @@ def reports_as_text_where_nothing_can_be_drawn(folder):
     for module in "matplotlib", "jinja2":
         file(folder, f"without/{module}.py", b"raise ImportError\n")
         told = archive("report", index, "--now", NOW, "--html", f"{folder}/out.html", PYTHONPATH=f"{folder}/without")
-        same(told[::2], (0, "no page is made: python3-matplotlib or python3-jinja2 is not here\n"))
+        same(told[::2], (0, "no page is written: python3-matplotlib or python3-jinja2 is not installed\n"))
         same(told[1], archive("report", index, "--now", NOW)[1])
         same(os.path.exists(f"{folder}/out.html"), False)
 
@@ -947,7 +1105,7 @@ def reports_an_archive_as_a_page(folder):
     same((console, asked), ([], []))
     ((count, _, _),) = pixels(picture, (0x2F, 0x6F, 0x9F))
     holds(count > 1_000, f"{count} points of the bars")
-    # (a page that it leads to, and what the report would ask for if it were let)
+    # (a page that it links to, and a request that its policy prevents)
     console, asked, picture = opened(folder, text_of(f"{folder}/{links[0]}"))
     same((console, asked), ([], []))
     holds(pixels(picture, MARK)[0][0] > 60, "no mark on the page of a damaged file")
@@ -975,7 +1133,7 @@ for each in told, told._replace(bars=[bars._replace(rows=[])]):
 
 
 def make_picture(path):
-    """Writes the picture of README.md: the page of a damaged sample."""
+    """Write the picture of README.md: the page of a damaged sample."""
     with open(f"{SAMPLES}/damaged/bad_value.iim", "rb") as octets:
         page = explain_page.page(explain.Case(Held(octets.read(), "bad_value.iim"), iim.WIRE))
     with room() as folder:

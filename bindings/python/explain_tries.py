@@ -1,5 +1,7 @@
-"""What could stand at a refused octet, what alone mends the envelope, and hints. All that is told here was tried: the octets, changed, were
-handed to the library from the place before the change on."""
+"""Find the bytes accepted at a rejected byte, the single-byte fixes, and other likely changes.
+
+Each result was tried: the changed bytes were passed to the library in the state before the change.
+"""
 from __future__ import annotations
 
 import functools
@@ -11,32 +13,43 @@ import iim
 from explain_walk import BLOCK, Item, Source, Walk
 from explain_words import counted, name, names, shown, titled
 
-# Octets before the refused one that are changed, too: of all datasets, and of a message. A trailer ends within 65 octets.
+# The number of bytes before the rejected one that are changed, too: in any dataset, and in a
+# message.
+# (a trailer ends within 65 bytes)
 NEAR, NEAR_OF_MESSAGE = 16, 100
-# As far as octets behind a change are looked at. Where that is all from the beginning on, no place is needed.
+# The number of bytes after a change that are tried; an envelope of at most SHORT bytes is tried
+# from
+# its beginning, so that no saved state is needed.
 REST, SHORT = BLOCK, 4_096
-# A change tells something where it leads so many octets further.
+# A change is reported if it makes more than this many further bytes valid.
 FURTHER = 8
-# The heads before the refused octet that are changed where a dataset is missing, or is one too many.
+# The number of tags before the rejected byte that are changed if a dataset is missing or redundant.
 HEADS = 40
 
 RECORD, OBJECT, MESSAGE, STORY = "record", "object", "message", "story"
 REPEATED, MISSING = 12, 14
-# The causes by which a dataset may have another's number, or another's octets in it.
+# The causes by which a dataset may have the number of another one, or include its bytes.
 OF_NUMBERS = 10, 11, REPEATED, MISSING
 
 
-# All octets, none of which stands for another.
+# All bytes, each tried separately.
 SINGLY = [bytes([value]) for value in range(256)]
-# Those that can serve in a head, by their place in it: the tag marker, a record that is read, any number, and counts of each form.
+# The bytes that can be valid in a tag, by their offset in it: the tag marker, a supported record,
+# any
+# number, and counts of each form.
 IN_HEAD = [[b"\x1c"], [b"\1", b"\2", b"\7", b"\x08", b"\x09"], SINGLY, SINGLY[:129], SINGLY]
-# And in dates and times.
+# The bytes that can be valid in dates and times.
 IN_VALUE = {words.DATE: SINGLY[48:58], words.PART_DATE: SINGLY[48:58], words.TIME: [*SINGLY[48:58], b"+", b"-"]}
 
 
 class Mend(NamedTuple):
-    """What could stand at an octet, all others as they are: with `taken` the refused octet is, too, with `whole` the envelope goes on to its
-    end, and with the best of the others to the octet `far`."""
+    """The results of changing one byte.
+
+    Attributes:
+        taken: The values with which the byte rejected before is accepted.
+        whole: The values with which the envelope is accepted.
+        far: The offset up to which the best value makes the envelope valid.
+    """
 
     taken: FrozenSet[int]
     whole: FrozenSet[int]
@@ -44,7 +57,16 @@ class Mend(NamedTuple):
 
 
 class Told(NamedTuple):
-    """A change of some octets that are next to one another: any of them as any of some octets. `order` puts the likeliest first."""
+    """A change that is reported: any one of some adjacent bytes to any one of some values.
+
+    Attributes:
+        order: The sort key, by which the likeliest change is first.
+        first: The offset of the first of the bytes.
+        last: The offset of the last of the bytes.
+        octets: The values.
+        whole: Whether the envelope is accepted with the change.
+        far: The offset up to which the change makes the envelope valid.
+    """
 
     order: Tuple[int, ...]
     first: int
@@ -55,7 +77,7 @@ class Told(NamedTuple):
 
 
 class Tries:
-    """What can be said of a refused envelope by trying."""
+    """The changes that are tried on a rejected envelope."""
 
     def __init__(self, source: Source, refusal: iim.Refused, walk: Walk, limits: iim.Limits) -> None:
         self._source, self.refusal, self.walk, self._limits = source, refusal, walk, limits
@@ -71,11 +93,11 @@ class Tries:
         self.begin = self._token()
 
     def take(self, octet: int, count: int) -> bytes:
-        """Octets of the envelope."""
+        """Return bytes of the envelope."""
         return self._source.take(self.at + octet, count)
 
     def before(self, octet: int) -> iim.Receiver:
-        """A receiver at the place before an octet, which is none after the refused one."""
+        """Return a receiver in the state before a byte that is not after the rejected one."""
         near = self._near
         if near.octets > octet or near is self._start:
             at, ticket = max((place for place in self.walk.places if place[0] <= octet), key=lambda place: place[0])
@@ -86,7 +108,12 @@ class Tries:
         return near
 
     def edited(self, octet: int, cut: int, put: bytes) -> Tuple[int, bool]:
-        """How far the envelope goes where `cut` octets are replaced, counted as its octets are now; and whether it ends."""
+        """Replace `cut` bytes at an offset by others, and try the result.
+
+        Returns:
+            The offset, in the unchanged envelope, up to which the result is valid; and whether it
+            is a complete envelope.
+        """
         if self._short is not None:
             reach, whole = self._start.tries(self._short[:octet] + put + self._short[octet + cut :])
         else:
@@ -95,25 +122,28 @@ class Tries:
         return (reach + cut - len(put) if reach >= octet + len(put) else octet), whole
 
     def _rest(self, octet: int) -> bytes:
-        """The octets from there on, which are asked for many times in turn."""
+        """Return the bytes from an offset on.
+
+        The last result is cached, since it is used many times in turn.
+        """
         if self._kept[0] != octet:
             self._kept = octet, self.take(octet, REST)
         return self._kept[1]
 
     def of_whole(self, octets: bytes) -> Tuple[int, bool]:
-        """How far other octets go, and whether they are an envelope."""
+        """Return the size of the valid prefix of these bytes, and whether it is an envelope."""
         return self._start.tries(octets)
 
-    # --- What alone mends it
+    # --- Single-byte fixes
 
     def _token(self) -> int:
-        """The first octet of what is refused."""
+        """Return the offset of the first byte of the rejected token."""
         if self.here is None or self.refusal.layer in (MESSAGE, STORY) and self.place.begun == "data":
             return self.octet
         return self.place.first
 
     def _candidates(self) -> Set[int]:
-        """The octets that are changed."""
+        """Return the offsets of the bytes that are changed."""
         at, found = self.octet, set(range(self.begin, self.octet + 1))
         found |= set(range(max(0, at - (NEAR_OF_MESSAGE if self._is_of_message() else NEAR)), at + 1))
         for item in self.datasets[-3:]:
@@ -131,7 +161,7 @@ class Tries:
 
     @functools.cached_property
     def mends(self) -> Dict[int, Mend]:
-        """What could stand at each octet that is changed, where something could."""
+        """The results of changing each byte, without those bytes for which no value helps."""
         if self.ends:
             found = range(self.here.at, min(self.here.at + self.here.head, self.octet)) if self.here and self.here.number is not None else range(0)
         else:
@@ -139,7 +169,11 @@ class Tries:
         return {octet: mend for octet in found if (mend := self._mend(octet, SINGLY)).whole}
 
     def _groups(self, octet: int) -> List[bytes]:
-        """The octets that are tried at an offset: of each group one first, and the others where that one serves. No other could serve."""
+        """Return the groups of values that are tried at an offset.
+
+        The first value of a group is tried first, and the others only if it is accepted. A value in
+        no group can't be accepted.
+        """
         if octet == self.octet:
             return [bytes([value]) for value in sorted(self.could)]
         item = next((item for item in reversed(self.datasets) if item.at <= octet < item.at + item.length), None)
@@ -155,8 +189,11 @@ class Tries:
         return SINGLY if item is self.here or item.record == 7 else [bytes(range(256))]
 
     def _groups_of_head(self, item: Item, nth: int) -> List[bytes]:
-        """The octets that are tried in a head. Numbers without a name stand in for one another; of a head further back only those counts are
-        tried after which a tag can begin."""
+        """Return the groups of values that are tried in a tag.
+
+        Numbers without a name are one group. In a tag further back only those counts are tried
+        after which a tag can begin.
+        """
         if nth == 2:
             named = [value for value in range(256) if iim.dataset_name(item.record, value)]
             return [*(bytes([value]) for value in named), bytes(value for value in range(256) if value not in named)]
@@ -186,24 +223,31 @@ class Tries:
         return Mend(frozenset(taken), frozenset(whole), far)
 
     def told_mends(self) -> List[Told]:
-        """The changes of one octet that are told, the likeliest first: those with which the envelope goes on to its end, or else those that
-        lead further."""
+        """Return the changes of one byte to report, the likeliest first.
+
+        They are those with which the envelope is accepted, or, if there are none, those that make
+        more of it valid.
+        """
         some = any(mend.whole for mend in self.mends.values())
-        told: List[Told] = []
+        reported: List[Told] = []
         for octet, mend in sorted(self.mends.items()):
             octets = mend.whole if some else mend.taken
             if not octets or not some and mend.far <= self.octet + FURTHER and octet != self.octet:
                 continue
-            last = told[-1] if told else None
+            last = reported[-1] if reported else None
             order = self._order(octet, octets)
             if last and last[2:] == (octet - 1, octets, some, mend.far if not some else last.far) and last.order == order:
-                told[-1] = last._replace(last=octet)
+                reported[-1] = last._replace(last=octet)
             else:
-                told.append(Told(order, octet, octet, octets, some, mend.far))
-        return sorted(told, key=lambda each: (*each.order, -each.first))
+                reported.append(Told(order, octet, octet, octets, some, mend.far))
+        return sorted(reported, key=lambda each: (*each.order, -each.first))
 
     def _order(self, octet: int, octets: FrozenSet[int]) -> Tuple[int, ...]:
-        """One changed bit comes before one octet, and that before the number of a dataset; and the octets of what is refused before others."""
+        """Return the sort key of a change.
+
+        A changed bit is likelier than a changed byte, and that is likelier than a changed dataset
+        number. A byte of the rejected token is likelier than one before it.
+        """
         now = self.take(octet, 1)[0]
         of_number = any(octet == item.at + 2 for item in self.datasets)
         bits = min(bin(now ^ value).count("1") for value in octets)
@@ -213,22 +257,22 @@ class Tries:
     # --- Hints
 
     def hints(self) -> Iterator[str]:
-        """What operators meet often, where it was tried and leads further."""
-        for each in self._transfers(), self._datasets(), self._lost_octets(), self._counts(), self._after_the_last(), self._of_a_picture():
+        """Yield the frequent faults whose fix makes more of the envelope valid."""
+        for each in self._transfers(), self._datasets(), self._lost_octets(), self._counts(), self._after_the_last(), self._without_record_1():
             yield from each
 
     def _goes(self, what: str, reach: int, whole: bool, least: int = 0) -> Iterator[str]:
         if whole or reach > max(self.octet + FURTHER, least):
-            yield f"{what}: {'the envelope is accepted' if whole else f'it goes on to octet {reach:,}'}."
+            yield f"{what}: {'the envelope is accepted' if whole else f'it is valid up to octet {reach:,}'}."
 
     def _transfers(self) -> Iterator[str]:
-        """A transfer as text, and a conversion to UTF-8."""
+        """Try to undo a transfer as text, and a conversion to UTF-8."""
         data = self.take(0, self.octet + REST) if self.octet < 1 << 20 else b""
         for what, change in (
-            ("With each CR LF made LF", lines_as_lf),
-            ("With each LF of the object that stands alone made CR LF", lines_as_crlf),
-            ("With each CR LF made LF, and then each LF of the object CR LF", lambda octets: lines_as_crlf(lines_as_lf(octets))),
-            ("With UTF-8 made Latin-1", from_utf8),
+            ("With each CR LF changed to LF", lines_as_lf),
+            ("With each lone LF of the object changed to CR LF", lines_as_crlf),
+            ("With each CR LF changed to LF, and then each LF of the object to CR LF", lambda octets: lines_as_crlf(lines_as_lf(octets))),
+            ("With UTF-8 converted to Latin-1", from_utf8),
         ):
             made = change(data)
             if made == data or change is from_utf8 and not is_utf8(data, made):
@@ -243,7 +287,7 @@ class Tries:
                 return
 
     def _datasets(self) -> Iterator[str]:
-        """A dataset that is one too many, and one that is missing."""
+        """Try without a redundant dataset, and with a missing one."""
         here, refusal = self.here, self.refusal
         if self.ends or here is None or here.size is None:
             return
@@ -252,11 +296,11 @@ class Tries:
             yield from self._goes(f"Without this dataset {titled(here.record, here.number)}", *self.edited(here.at, end - here.at, b""), end + 4)
         if refusal.cause == MISSING:
             put = placeholder(refusal.record, refusal.number)
-            what = f"With {titled(refusal.record, refusal.number)} put in before it, as '{shown(put[5:])}'"
+            what = f"With {titled(refusal.record, refusal.number)} inserted before it, as '{shown(put[5:])}'"
             yield from self._goes(what, *self.edited(here.at, 0, put))
 
     def _lost_octets(self) -> Iterator[str]:
-        """An octet that is one too many, or was lost, where no change of one mends it."""
+        """Try to remove or insert one byte, if changing one byte does not fix the envelope."""
         if self.ends or any(mend.whole for mend in self.mends.values()):
             return
         for octet in range(max(0, self.octet - NEAR), self.octet + 1):
@@ -264,53 +308,92 @@ class Tries:
                 yield f"Without octet {octet:,} ({name(self.take(octet, 1)[0])}) the envelope is accepted."
             fits = [value for value in b"0A\n\r \0\x1c" if self.edited(octet, 0, bytes([value]))[1]]
             if fits:
-                yield f"With {names(fits)} put in before octet {octet:,} the envelope is accepted: one octet may be lost."
+                yield f"With {names(fits)} inserted before octet {octet:,} the envelope is accepted: one octet may be lost."
 
     def _counts(self) -> Iterator[str]:
-        """A file that ends inside a dataset whose count is longer than the file."""
+        """Yield a note if the count of the last dataset exceeds the rest of the file."""
         here = self.here
         if self.ends and here and here.size is not None and here.at + here.head + here.size > self.octet:
             missing = here.at + here.head + here.size - self.octet
             yield (
-                f"{titled(here.record, here.number)} at {here.at:,} counts {counted(here.size, 'octet')}, which is more than the file has: "
+                f"The count of {titled(here.record, here.number)} at {here.at:,} is {counted(here.size, 'octet')}, which is more than the file has: "
                 f"{missing:,} are missing, or the count is damaged."
             )
 
     def _after_the_last(self) -> Iterator[str]:
-        """Octets after the last envelope."""
+        """Yield a note if the rejected bytes follow a complete envelope."""
         nth, rest = self.refusal.nth, self._source.size - self.at
         if self.octet or nth == 1 or self.ends:
             return
         octets = self.take(0, BLOCK)
         what = f", all {name(octets[0])}" if len(set(octets)) == 1 and rest == len(octets) else ""
-        before = "The envelope before is" if nth == 2 else f"All {nth - 1:,} envelopes before are"
-        yield f"{before} whole: without the last {counted(rest, 'octet')} of the file{what} it is accepted."
+        before = "The envelope before it is" if nth == 2 else f"All {nth - 1:,} envelopes before it are"
+        yield f"{before} complete: without the last {counted(rest, 'octet')}{what}, the file is accepted."
 
-    def _of_a_picture(self) -> Iterator[str]:
-        """A block of record 2 alone, as pictures carry it."""
+    def _without_record_1(self) -> Iterator[str]:
+        """Yield a note on a record 2 without a record 1.
+
+        Either record 1 was lost, or this is a block of record 2 alone, as pictures carry it.
+        """
         octets = self.take(0, BLOCK)
         begin = re.search(rb"\x1c\x02", octets)
-        if self.octet >= 64 or begin is None or b"\x1c\x01" in octets[: begin.start()] or self.refusal.nth > 1:
+        if self.octet >= 64 or begin is None or b"\x1c\x01" in octets[: begin.start()]:
             return
-        front = b"".join(placeholder(1, number) for number in (0, 20, 22, 30, 40, 70))
-        reach = self.of_whole(front + octets[begin.start() :])[0] - len(front)
-        if reach >= 5:
+        at = begin.start()
+        reach, is_envelope, is_all, record = self._after_record_1(at)
+        found = f"At octet {at:,} a record 2 begins, and there is no record 1 before it"
+        if is_envelope:
+            so = "everything after it is accepted" if is_all else f"the envelope is accepted, and ends before octet {reach:,}"
+            yield f"{found}: record 1 is lost. With a record 1 inserted there, {so}."
+        elif record > 2:
+            yield f"{found}: record 1 is lost. With a record 1 inserted there, it is valid up to octet {reach:,}."
+        elif reach >= at + 5 and self.refusal.nth == 1:
             yield (
-                f"At octet {begin.start():,} a record 2 begins, and there is no record 1 before it. With one put there it goes on to octet "
-                f"{begin.start() + reach:,}: this is a block of record 2 alone, as pictures carry it, and no wire copy."
+                f"{found}. With one inserted there, it is valid up to octet {reach:,}: this is a block of record 2 alone, as pictures carry it, and "
+                "no wire copy."
             )
 
+    def _after_record_1(self, at: int) -> Tuple[int, bool, bool, int]:
+        """Try the bytes from an offset on after a record 1.
 
-# --- Changes of many octets
+        Returns:
+            The offset up to which they are valid, or of the end of the envelope, if they are one;
+            whether they are an envelope; whether all bytes after it are accepted, too; and the last
+            record that they reach.
+        """
+        receiver = iim.Receiver(self._limits)
+        record_1 = b"".join(placeholder(1, number) for number in (0, 20, 22, 30, 40, 70))
+        if receiver.tries(record_1)[0] < len(record_1):
+            # (the limits are too small for a record 1)
+            return at, False, False, 0
+        receiver.feed(record_1)
+        ended: Optional[int] = None
+        while piece := self.take(at, BLOCK):
+            start = 0
+            while start < len(piece):
+                before = receiver.octets
+                try:
+                    fed = receiver.feed(piece, start)
+                except iim.Refused as refusal:
+                    record = iim.Receiver.resume(refusal.ticket, refusal.octet, self._limits).place.record
+                    return (at + start + refusal.octet - before, False, False, record) if ended is None else (ended, True, False, record)
+                start += fed.used
+                ended = at + start if fed.envelope and ended is None else ended
+            at += len(piece)
+        record = receiver.place.record
+        return (at, False, False, record) if ended is None else (ended, True, not receiver.octets, record)
+
+
+# --- Changes of many bytes
 
 
 def lines_as_lf(octets: bytes) -> bytes:
-    """The octets with LF for CR LF."""
+    """Return the bytes with CR LF replaced by LF."""
     return octets.replace(b"\r\n", b"\n")
 
 
 def lines_as_crlf(octets: bytes) -> bytes:
-    """The octets with CR LF for each LF of the message that has no CR before it: from SOH up to EOT."""
+    """Return the bytes with each lone LF of the message, from SOH up to EOT, replaced by CR LF."""
     low = octets.find(b"\x1c\x08\x0a")
     high = octets.rfind(b"\x1c\x09")
     high = len(octets) if high < low else high
@@ -318,17 +401,20 @@ def lines_as_crlf(octets: bytes) -> bytes:
 
 
 def from_utf8(octets: bytes) -> bytes:
-    """The octets as Latin-1 where they are taken as UTF-8."""
+    """Return the bytes converted from UTF-8 to Latin-1."""
     return octets.decode("utf-8", "ignore").encode("latin-1", "ignore")
 
 
 def is_utf8(octets: bytes, latin: bytes) -> bool:
-    """Whether the octets are UTF-8 of those, but for a character that may be cut at the end."""
+    """Check whether bytes are Latin-1 bytes in UTF-8, except for a truncated last character."""
     return octets.startswith(latin.decode("latin-1").encode("utf-8")[:-4])
 
 
 def placeholder(record: int, number: int) -> bytes:
-    """A dataset that may stand there. Of a number the least is put that is taken there in record 1."""
+    """Return a dataset with a valid value.
+
+    A binary number gets the least value that is accepted in record 1.
+    """
     rule = iim.row(record, number)
     least, kind = (rule.least, rule.kind) if rule else (0, words.OCTETS)
     value = {words.DATE: b"20240101", words.TIME: b"120000+0000", words.DIGITS: b"0" * least, words.BINARY: b"\0" * least}.get(kind, b"\1" * least)

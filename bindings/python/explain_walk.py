@@ -1,50 +1,101 @@
-"""Goes through an envelope and tells what its octets are: its datasets, and the parts of its message, as far as it is taken."""
+"""Split the valid part of an envelope into items: its datasets and the parts of its message."""
 from __future__ import annotations
 
+import errno
+import io
 import os
-import shutil
+import stat
 import sys
 import tempfile
-from typing import BinaryIO, Iterator, List, NamedTuple, Optional
+from typing import BinaryIO, Iterator, List, NamedTuple, Optional, cast
 
 import iim
 from explain_words import counted, shown, titled, value_in_words
 
-# Octets that are read at a time; at the beginning of an envelope and at its end those that are told one by one.
+# The size of a block; the number of bytes at the beginning and the end of an envelope that become
+# items.
 BLOCK = 65_536
 HEAD, TAIL = 98_304, 16_384
 
-# The part of the message that is its text, and what the octet is that leads to each part.
+# The part of the message that is its text; the name of the byte that enters each part, and of a
+# byte
+# after which the part is the same.
 TEXT = 9
 STEPS = {1: "SOH", 2: "number", 3: "SP", 4: "priority", 5: "SP", 6: "SP", 7: "SP", 8: "gap", 9: "STX", 10: "ETX", 11: "EOT"}
 STAYS = {0: "filler", 1: "source", 2: "number", 5: "category", 6: "words", 7: "info", 8: "gap", 10: "trailer", 11: "filler"}
 
 
 class Source:
-    """The octets of a file, at any place. What can't be read twice goes into a file without a name first."""
+    """A file that can be read at any offset.
+
+    Standard input begins at its current position. A file that can't be read twice, such as a pipe,
+    is copied to a temporary file without a name.
+
+    Attributes:
+        name: The path, or `-` for standard input.
+        given: The descriptor of the file, since its path may name another file later.
+        size: The size, in bytes.
+    """
 
     def __init__(self, path: str) -> None:
-        opened: BinaryIO = sys.stdin.buffer if path == "-" else open(path, "rb", buffering=0)
-        if not opened.seekable():
-            spool = tempfile.TemporaryFile()
-            shutil.copyfileobj(opened, spool)
-            spool.flush()
-            opened = spool  # type: ignore[assignment]
-        self._file, self.name = opened, path
-        self.size = os.fstat(opened.fileno()).st_size
+        self.name = path
+        if path == "-" and sys.stdin is None:
+            raise OSError(errno.EBADF, os.strerror(errno.EBADF))
+        opened = open(0 if path == "-" else path, "rb", buffering=0, closefd=path != "-")
+        self.given = opened.fileno()
+        self._input, self._file, self._begin = opened, opened.fileno(), 0
+        there = os.fstat(self._file)
+        if stat.S_ISREG(there.st_mode) and there.st_size:
+            self._begin = os.lseek(self._file, 0, os.SEEK_CUR)
+            self.size = max(0, there.st_size - self._begin)
+            return
+        if stat.S_ISBLK(there.st_mode) or stat.S_ISCHR(there.st_mode) and not opened.isatty() and opened.read(1):
+            raise OSError(errno.EINVAL, "not a regular file")
+        self._spool = spooled(opened)
+        self._file = self._spool.fileno()
+        self.size = os.fstat(self._file).st_size
 
     def take(self, at: int, count: int) -> bytes:
-        """So many octets, or fewer at the end."""
+        """Return `count` bytes from an offset on, or fewer at the end of the file."""
         parts: List[bytes] = []
-        while count > 0 and (part := os.pread(self._file.fileno(), min(count, BLOCK), at)):
+        count = min(count, self.size - at)
+        while count > 0:
+            part = os.pread(self._file, min(count, BLOCK), self._begin + at)
+            if not part:
+                raise OSError(errno.EIO, "the file became shorter while it was read")
             parts.append(part)
             at, count = at + len(part), count - len(part)
         return b"".join(parts)
 
 
+def spooled(opened: io.FileIO) -> BinaryIO:
+    """Return a temporary file with the remaining bytes of a pipe or of a file of unknown size."""
+    spool = cast(BinaryIO, tempfile.TemporaryFile())
+    while (piece := opened.read(BLOCK)) != b"":
+        if piece is None:
+            raise OSError(errno.EAGAIN, os.strerror(errno.EAGAIN))
+        try:
+            spool.write(piece)
+        except OSError as fault:
+            raise OSError(fault.errno, f"a copy in {tempfile.gettempdir()}: {fault.strerror}") from None
+    spool.flush()
+    return spool
+
+
 class Item(NamedTuple):
-    """Some octets of an envelope, and what they are. `kind` is "dataset", "part", or "line". A dataset has its numbers, how many octets
-    its head has, and how many its data should have, where that is known."""
+    """Some bytes of an envelope and their meaning.
+
+    Attributes:
+        at: The offset of the first byte in the envelope.
+        length: The number of bytes.
+        kind: "dataset", "part" or "line".
+        label: The name of the dataset or part.
+        value: The value, as text.
+        record: The record number of a dataset.
+        number: The dataset number, or `None` if it was not received.
+        head: The size of a dataset's tag, in bytes.
+        size: The size of a dataset's data by its count, or `None` if it was not received.
+    """
 
     at: int
     length: int
@@ -58,7 +109,7 @@ class Item(NamedTuple):
 
 
 def count_of(tag: bytes) -> Optional[int]:
-    """The count that a whole tag tells, or None."""
+    """Return the count in a tag, or `None` if the tag is incomplete."""
     if len(tag) < 5:
         return None
     standard = int.from_bytes(tag[3:5], "big")
@@ -68,17 +119,26 @@ def count_of(tag: bytes) -> Optional[int]:
 
 
 class Walk:
-    """The items of an envelope that begins at an octet of a source, up to `end`: its length, or the octet that is refused."""
+    """The items of an envelope.
+
+    `at` is the offset of the envelope in the source, and `end` its length, or the offset of the
+    rejected byte in it.
+
+    Attributes:
+        octets: The number of bytes consumed.
+        items: The items.
+        envelope: The envelope, once it is complete.
+        places: Saved states: each as the number of bytes consumed, and the ticket.
+        gap: The offsets between which there are no items.
+    """
 
     def __init__(self, source: Source, at: int, end: int, limits: iim.Limits) -> None:
         self._source, self._at, self._end = source, at, end
         self._receiver = iim.Receiver(limits)
         self.octets = 0
         self.items: List[Item] = []
-        # The whole envelope, once it has ended; and places on the way: how many octets came before, and the ticket.
         self.envelope: Optional[iim.Envelope] = None
         self.places = [(0, b"")]
-        # Between which octets nothing is told.
         self.gap = end, end
         self._tell(min(end, HEAD))
         if self.octets < end:
@@ -86,17 +146,17 @@ class Walk:
             self._tell(end)
 
     def take(self, at: int, count: int) -> bytes:
-        """Octets of the envelope."""
+        """Return bytes of the envelope."""
         return self._source.take(self._at + at, count)
 
     def _go(self, count: int) -> None:
-        """Goes on by so many octets, which are taken."""
+        """Consume `count` bytes, which are valid."""
         fed = self._receiver.feed(self.take(self.octets, count))
         self.octets += fed.used
         self.envelope = fed.envelope
 
     def _skip(self, to: int) -> None:
-        """Goes on to an octet by blocks."""
+        """Consume the bytes up to an offset in blocks, without items."""
         begin = self.octets
         while self.octets < to:
             self._go(min(BLOCK, to - self.octets))
@@ -104,7 +164,7 @@ class Walk:
         self.gap = begin, to
 
     def _tell(self, to: int) -> None:
-        """Tells the datasets up to an octet."""
+        """Add the items of the datasets up to an offset."""
         while self.octets < to and self.envelope is None:
             place = self._receiver.place
             if place.begun == "data":
@@ -113,7 +173,7 @@ class Walk:
                 self._dataset(to, self.octets - place.came)
 
     def _dataset(self, to: int, at: int) -> None:
-        """Tells a dataset, which has begun at an octet."""
+        """Add the items of the dataset that begins at an offset."""
         self._go(min(max(at + 5 - self.octets, 1), to - self.octets))
         while (place := self._receiver.place).begun == "tag" and self.octets < to:
             self._go(1)
@@ -127,19 +187,19 @@ class Walk:
         self._data(record, number, to, Item(at, head + count, "dataset", titled(record, number), value, record, number, head, count))
 
     def _cut_tag(self, at: int) -> None:
-        """Tells a tag of which no more is told: the refused octet, where there is one, is its last."""
+        """Add the item of an incomplete tag. If a byte is rejected, it is the last of the tag."""
         tag = self.take(at, 13)[: self._end + 1 - at]
         record, number = (tag[1] if len(tag) > 1 else 0), (tag[2] if len(tag) > 2 else None)
         label = titled(record, number) if len(tag) > 1 else "a tag"
         self.items.append(Item(at, len(tag), "dataset", label, "", record, number, len(tag), count_of(tag)))
 
     def _data(self, record: int, number: Optional[int], to: int, item: Item) -> None:
-        """Tells the dataset, and goes through its data."""
+        """Add the item of a dataset, and consume its data."""
         end = min(to, item.at + item.length)
         if not item.label:
-            # (begun before what is told)
+            # (the dataset begins in the gap)
             end = min(to, self.octets + (self._receiver.place.to_come or 0))
-            item = Item(self.octets, end - self.octets, "dataset", f"{titled(record, number)}, which began before", "", record, number)
+            item = Item(self.octets, end - self.octets, "dataset", f"{titled(record, number)}, continued", "", record, number)
         self.items.append(item)
         if record == 8:
             self._message(end)
@@ -147,7 +207,7 @@ class Walk:
             self._go(min(BLOCK, end - self.octets))
 
     def _message(self, to: int) -> None:
-        """Tells the parts of the message up to an octet."""
+        """Add the items of the parts of the message up to an offset."""
         part = self._receiver.place.part
         while self.octets < to:
             if part == TEXT and self._line(to):
@@ -158,7 +218,7 @@ class Walk:
             self._part(at, (STAYS if part == before else STEPS)[part])
 
     def _part(self, at: int, label: str) -> None:
-        """Tells an octet of a part, with those before it of the same one."""
+        """Add a byte of a part to the item of that part, or as a new item."""
         last = self.items[-1]
         if last.kind == "part" and last.label == label and last.at + last.length == at and label != "SP":
             at = self.items.pop().at
@@ -167,7 +227,10 @@ class Walk:
         self.items.append(Item(at, self.octets - at, "part", label, value))
 
     def _line(self, to: int) -> bool:
-        """Tells the next line of the text, and its end: False where the octet is none of a line."""
+        """Add the item of the next line of the text.
+
+        Return `False` if the next byte is not part of a line.
+        """
         octets = self.take(self.octets, min(BLOCK, to - self.octets))
         end = next((at for at in sorted((octets.find(b"\n") + 1 or len(octets) + 1, octets.find(b"\3") + 1 or len(octets) + 1))), 0)
         line = octets[:end] if octets[end - 1 : end] == b"\n" else octets[: max(0, end - 1)]
@@ -182,7 +245,7 @@ class Walk:
 
 
 def cut(items: List[Item], most: int, lines: int) -> Iterator[Optional[Item]]:
-    """The items, with None in the place of those in the midst of a long story, and of many."""
+    """Yield the items, with `None` in place of the middle of a long story or of a long list."""
     kept: List[Optional[Item]] = []
     story = [at for at, item in enumerate(items) if item.kind == "line"]
     hidden = set(story[lines:-lines]) if len(story) > 2 * lines else set()
@@ -195,6 +258,6 @@ def cut(items: List[Item], most: int, lines: int) -> Iterator[Optional[Item]]:
 
 
 def hidden_words(before: Item, after: Item) -> str:
-    """What is said of items that are left out."""
+    """Return the note on the bytes left out between two items."""
     begin, end = before.at + before.length, after.at
-    return f"... {counted(end - begin, 'octet')} from {begin:,} on are not told"
+    return f"... {counted(end - begin, 'octet')} from {begin:,} on are left out"

@@ -1,4 +1,4 @@
-"""The words of explain.py: octets, places, datasets and their values."""
+"""Write bytes, datasets and their values as text, for explain.py."""
 from __future__ import annotations
 
 import datetime
@@ -9,7 +9,8 @@ import iim
 
 NAMED = {0: "NUL", 1: "SOH", 2: "STX", 3: "ETX", 4: "EOT", 10: "LF", 13: "CR", 22: "SYN (16)", 27: "ESC (1B)", 32: "SP"}
 
-# The parts of a message, as iim.h numbers them, and what is named of them in a row.
+# The parts of a message, as iim.h numbers them; the names in the row of parts; and each part's
+# index there.
 PARTS = [
     "the filler before SOH", "the source", "the number", "the priority", "the SP after the priority", "the category", "the words",
     "the info", "the gap", "the text", "the trailer", "the filler after EOT",
@@ -17,7 +18,7 @@ PARTS = [
 ROW = ["filler", "SOH", "source", "number", "priority", "category", "words", "info", "gap", "STX", "text", "ETX", "trailer", "EOT", "filler"]
 OF_ROW = [0, 2, 3, 4, 4, 5, 6, 7, 8, 10, 12, 14]
 
-# What a dataset may have, by the number of its kind.
+# The valid values of a dataset, by the number of its kind.
 KINDS = [
     "", "graphic octets (21 to 7E, 80 to FF)", "graphic octets and spaces", "graphic octets, spaces and line ends", "letters", "digits",
     "a date CCYYMMDD", "a date CCYYMMDD, whose month or day may be 00", "a time HHMMSS, + or -, HHMM", "a binary number", "any octets",
@@ -32,7 +33,7 @@ PRIORITIES = {1: "most urgent", 5: "normal", 8: "least urgent"}
 FORMATS = {2: "IPTC 7901 message"}
 MODES = {0: "the size is not announced", 1: "the size is announced"}
 
-# Octets that stand in for one another where a message has them: each class, but no octet of two of them.
+# Classes of bytes that are equivalent in a message. No byte is in two classes.
 CLASSES = [bytes(range(48, 58)), bytes([*range(65, 91), *range(97, 123)]), b"\x1c", b"\0\x16", b"\n", b"\r", b" ", b"\1", b"\2", b"\3", b"\4"]
 _NAMED = {octet for each in CLASSES for octet in each}
 CLASSES += [
@@ -42,23 +43,37 @@ CLASSES += [
 
 
 def shown(octets: bytes, most: int = 40) -> str:
-    """Octets as the command shows them, and no more than so many."""
-    told = "".join(chr(octet) if 32 <= octet < 127 and octet != 92 else f"\\x{octet:02X}" for octet in octets[:most])
-    return told + ("..." if len(octets) > most else "")
+    """Return at most `most` bytes as text, escaped as the command escapes them."""
+    text = "".join(chr(octet) if 32 <= octet < 127 and octet != 92 else f"\\x{octet:02X}" for octet in octets[:most])
+    return text + ("..." if len(octets) > most else "")
+
+
+# An incomplete escape at the end of a text.
+PART_OF_ESCAPE = re.compile(r"\\(x[0-9A-F]?|u[0-9A-F]{0,3}|U[0-9A-F]{0,7})?\Z")
+
+
+def fitted(text: str, most: int) -> str:
+    """Return a text in at most `most` columns.
+
+    A longer one ends in `...` after a complete character or escape.
+    """
+    if len(text) <= most:
+        return text
+    return PART_OF_ESCAPE.sub("", text[: max(0, most - 3)]) + "..."
 
 
 def plain(octets: bytes) -> str:
-    """Octets as text of one column each: points for what can't be printed."""
+    """Return bytes as text of one column each, with a full stop for each that can't be printed."""
     return "".join(chr(octet) if 32 <= octet < 127 else "." for octet in octets)
 
 
 def printable(name: str) -> str:
-    """The name of a file, with escapes for what would move, hide or turn what stands beside it."""
+    """Return a file name with escapes for characters that would hide or reorder other text."""
     return "".join(each if each.isprintable() and each != "\\" else escaped(each) for each in name)
 
 
 def escaped(character: str) -> str:
-    """A character by its number: of a name that is no UTF-8 by that of its octet."""
+    """Return the escape of a character, or of the byte that it represents in a non-UTF-8 name."""
     number = ord(character)
     if 0xDC80 <= number <= 0xDCFF:
         return f"\\x{number - 0xDC00:02X}"
@@ -66,38 +81,41 @@ def escaped(character: str) -> str:
 
 
 def name(octet: int, raw: bool = False) -> str:
-    """One octet in words; raw is one of a tag or of a number."""
+    """Return the name of a byte.
+
+    A raw byte, of a tag or a binary number, is written in hexadecimal.
+    """
     if raw:
         return f"{octet:02X}"
     return NAMED.get(octet) or (f"'{chr(octet)}'" if 32 < octet < 127 else f"{octet:02X}")
 
 
 def runs(octets: AbstractSet[int]) -> List[Tuple[int, int]]:
-    """The octets as runs of numbers, each by its first and its last."""
-    told = "".join("01"[octet in octets] for octet in range(256))
-    return [(found.start(), found.end() - 1) for found in re.finditer("1+", told)]
+    """Return the ranges of consecutive values in a set of bytes, by first and last value."""
+    bits = "".join("01"[octet in octets] for octet in range(256))
+    return [(found.start(), found.end() - 1) for found in re.finditer("1+", bits)]
 
 
 def names(octets: Iterable[int], raw: bool = False) -> str:
-    """A set of octets in words."""
+    """Return the names of a set of bytes."""
     octets = frozenset(octets)
     if not octets:
         return "no octet"
     if len(octets) > 240:
-        return "any octet" + (f" but {names(frozenset(range(256)) - octets, raw)}" if len(octets) < 256 else "")
+        return "any octet" + (f" except {names(frozenset(range(256)) - octets, raw)}" if len(octets) < 256 else "")
     spans = runs(octets)
-    told: List[str] = []
+    parts: List[str] = []
     letters = (65, 90) in spans and (97, 122) in spans
     for what, low, high in ("a digit", 48, 57), ("a capital letter", 65, 90), ("a small letter", 97, 122):
         if (low, high) in spans and not raw:
             spans.remove((low, high))
-            told.append("a letter" if letters and low > 57 else what)
-    told = list(dict.fromkeys(told)) + [part for low, high in spans for part in span(low, high, raw)]
-    return " or ".join([", ".join(told[:-1])] * (len(told) > 1) + told[-1:])
+            parts.append("a letter" if letters and low > 57 else what)
+    parts = list(dict.fromkeys(parts)) + [part for low, high in spans for part in span(low, high, raw)]
+    return " or ".join([", ".join(parts[:-1])] * (len(parts) > 1) + parts[-1:])
 
 
 def span(low: int, high: int, raw: bool) -> List[str]:
-    """A run of octets in words."""
+    """Return the names of a range of bytes."""
     if high - low < 3:
         return [name(octet, raw) for octet in range(low, high + 1)]
     if 48 <= low and high <= 57 and not raw:
@@ -106,14 +124,14 @@ def span(low: int, high: int, raw: bool) -> List[str]:
 
 
 def titled(record: int, number: Optional[int]) -> str:
-    """A dataset by its numbers and its name."""
+    """Return the numbers and the name of a dataset."""
     if number is None:
         return f"{record}:?"
-    return f"{record}:{number:02} {iim.dataset_name(record, number) or '(kept unread)' * (record in (1, 2))}".strip()
+    return f"{record}:{number:02} {iim.dataset_name(record, number) or '(not interpreted)' * (record in (1, 2))}".strip()
 
 
 def counted(number: int, what: str) -> str:
-    """So many of something."""
+    """Return a number and a noun, in the plural if needed."""
     return f"{number:,} {what}{'s' * (number != 1)}"
 
 
@@ -121,22 +139,22 @@ def counted(number: int, what: str) -> str:
 
 
 def date_in_words(octets: bytes) -> str:
-    """A date that the library admits, in words; what is missing of it is left out."""
+    """Return a valid date as text, without the parts that are 0."""
     year, month, day = int(octets[:4]), int(octets[4:6]), int(octets[6:])
     if day and not month:
-        return f"day {day} of a month that isn't told, {year}"
+        return f"day {day} of an unknown month, {year}"
     return " ".join([str(day)] * (day > 0) + [MONTHS[month - 1]] * (month > 0) + [str(year)])
 
 
 def time_in_words(octets: bytes) -> str:
-    """A time that the library admits, in words."""
-    told = octets.decode("ascii")
-    offset = "universal time" if told[7:] == "0000" else f"{told[7:9]}:{told[9:]} {'ahead of' if told[6] == '+' else 'behind'} universal time"
-    return f"{told[:2]}:{told[2:4]}:{told[4:6]}, {offset}"
+    """Return a valid time as text."""
+    text = octets.decode("ascii")
+    offset = "universal time" if text[7:] == "0000" else f"{text[7:9]}:{text[9:]} {'ahead of' if text[6] == '+' else 'behind'} universal time"
+    return f"{text[:2]}:{text[2:4]}:{text[4:6]}, {offset}"
 
 
 def instant_in_words(date: Optional[bytes], time: Optional[bytes]) -> Optional[str]:
-    """The instant of a date and a time that the library admits, at universal time, or None where there is none."""
+    """Return the UTC instant of a valid date and time, or `None` if missing or out of range."""
     if date is None or time is None:
         return None
     clock = datetime.datetime.strptime((date + time[:6]).decode("ascii"), "%Y%m%d%H%M%S").replace(tzinfo=datetime.timezone.utc)
@@ -149,7 +167,14 @@ def instant_in_words(date: Optional[bytes], time: Optional[bytes]) -> Optional[s
 
 
 def value_in_words(record: int, number: int, octets: bytes, count: int) -> str:
-    """The value of a dataset, of which these are the first octets."""
+    """Return the value of a dataset as text.
+
+    Args:
+        record: The record number.
+        number: The dataset number.
+        octets: The first bytes of the value.
+        count: The size of the value, in bytes.
+    """
     rule = iim.row(record, number)
     kind = rule.kind if rule and iim.dataset_name(record, number) else OCTETS
     admitted = count == len(octets) and iim.admits(record, number, octets)

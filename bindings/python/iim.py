@@ -1,32 +1,51 @@
-"""Envelopes of the Information Interchange Model, version 4, with wire copy: read, checked and packed by the library libiim.so.
+"""Read, check, audit and pack IIM envelopes that carry wire copy.
+
+IIM is the Information Interchange Model, version 4. The work is done by the C library libiim.so.
 
     import iim
 
     for envelope in iim.read("copy.iim"):
         print(envelope.id.service, envelope.headline, envelope.bylines, envelope.lines)
 
-    $ python3 -m iim FILE..           prints a line of JSON for each envelope
-    $ python3 -m iim explain FILE     tells what a file is, and what is wrong with it
+    $ python3 -m iim FILE..           prints one line of JSON per envelope
+    $ python3 -m iim explain FILE     shows what a file contains and why it was rejected
 
-What is read is handed to the library block by block, and never held as a whole. Octets are `Octets`, which are `bytes`: no character
-set is known here, so their `text(encoding)` has to be told one. Octets that are refused raise `Refused`, which names the layer, the
-dataset, the octet and the cause; where the input ends too early that is `Truncated`.
+Memory: `read` and `audit` read a file in blocks and never hold all of it.
 
-The library is the one that IIM_LIBRARY names, or else that beside this file, or where bindings/build puts it, or where the system
-looks; it is loaded at the first call. docs/CAUSES.md has the causes, docs/FORMAT.md the format, docs/USE.md a whole program.
+Text: values are `Octets`, a subclass of `bytes`. IIM does not state the character set, so you pass
+an encoding to `text(encoding)`.
+
+Errors: invalid input raises `Refused`, which has the layer, the dataset, the offset of the byte and
+the cause. Input that ends inside an envelope raises its subclass `Truncated`. docs/CAUSES.md lists
+all causes, docs/FORMAT.md describes the format, docs/guide/python.md has complete programs; the
+package python3-iim has all three in /usr/share/doc/python3-iim.
+
+Threads: any number of threads may call the functions of this module and read the same `Envelope` or
+`Refused` at the same time. Give each thread its own `Receiver` and `Auditor`: a call on one that
+another thread is using raises `RuntimeError` and changes nothing.
+
+Library: at the first call libiim.so is loaded from the path in the environment variable
+IIM_LIBRARY; otherwise from the directory of this module; otherwise, in a clone, from bindings/out,
+where bindings/build writes it; otherwise from the system's library path.
 """
 from __future__ import annotations
 
 import argparse
+import contextlib
 import ctypes
 import datetime
+import errno
 import functools
 import json
 import os
 import re
+import signal
 import struct
 import sys
-from typing import Any, BinaryIO, Callable, Dict, FrozenSet, Iterable, Iterator, List, NamedTuple, Optional, Tuple, Type, Union, cast
+import threading
+from typing import (
+    Any, BinaryIO, Callable, Dict, FrozenSet, Iterable, Iterator, List, NamedTuple, NoReturn, Optional, Tuple, Type, TypeVar, Union, cast,
+)  # fmt: skip
 
 __all__ = [
     "AuditRow", "Auditor", "Envelope", "Fed", "Field", "Header", "Id", "Limits", "Octets", "PartId", "Place", "Receiver", "Refused", "Rule",
@@ -34,15 +53,15 @@ __all__ = [
     "dataset_name", "layer_name", "pack", "read", "row", "script",
 ]  # fmt: skip
 
-# How many octets of an input are read at a time.
+# The size of a block of input, in bytes.
 BLOCK = 65_536
 
-# The greatest size of an object, and the greatest limit.
+# The maximum size of an object, and the maximum of a limit.
 GREATEST = 2**63 - 1
 GREATEST_LIMIT = 2**32 - 1
 
 
-# --- The library: iim.h in Python ---
+# --- The C library: iim.h as ctypes ---
 
 
 class _Limits(ctypes.Structure):
@@ -124,16 +143,17 @@ _DONE, _MORE, _REFUSED, _TRUNCATED, _NONE, _SHORT, _NO_MEMORY, _BAD_TICKET, _BAD
 
 _VERSION = 1
 
-# What iim_place tells of begun data.
+# The kind that iim_place returns if a dataset's data are partial.
 _DATA = 2
 
-# Each function of iim.h: what it answers, and what it takes. Octets come as a pointer and a length.
+# Each function of iim.h: its result type and its argument types. Bytes are a pointer and a length.
 _OCTETS = [ctypes.c_void_p, ctypes.c_size_t]
 _TO_ANSWER = ctypes.POINTER(_Answer)
 _FUNCTIONS: Dict[str, Tuple[Any, List[Any]]] = {
     "iim_check": (None, [_Limits, *_OCTETS, _TO_ANSWER]),
     "iim_feed": (None, [_Limits, *_OCTETS, ctypes.c_uint64, *_OCTETS, *_OCTETS, *_OCTETS, _TO_ANSWER]),
     "iim_end": (None, [_Limits, *_OCTETS, ctypes.c_uint64, _TO_ANSWER]),
+    "iim_fields": (None, [*_OCTETS, ctypes.c_size_t, *_OCTETS, _TO_ANSWER]),
     "iim_field": (None, [*_OCTETS, ctypes.c_size_t, ctypes.POINTER(_Dataset), _TO_ANSWER]),
     "iim_header": (None, [*_OCTETS, ctypes.POINTER(_Message), _TO_ANSWER]),
     "iim_sizes": (None, [*_OCTETS, ctypes.POINTER(_Object), _TO_ANSWER]),
@@ -155,17 +175,33 @@ _FUNCTIONS: Dict[str, Tuple[Any, List[Any]]] = {
 }
 
 
-def _load() -> ctypes.CDLL:
-    """The library, from the first place that has it."""
+def _paths() -> List[str]:
+    """Return the candidate paths of a library that belongs to this module.
+
+    They are its own directory and, in a clone, the output directory of bindings/build. Outside a
+    clone a directory `out` may belong to another program, so it is not searched.
+    """
     here = os.path.dirname(os.path.realpath(__file__))
-    built = [f"{here}/libiim.so", f"{os.path.dirname(here)}/out/libiim.so"]
-    place = os.environ.get("IIM_LIBRARY") or next((path for path in built if os.path.exists(path)), "libiim.so.1")
+    bindings = os.path.dirname(here)
+    is_clone = os.path.basename(here) == "python" and os.path.isfile(f"{bindings}/build") and os.path.isfile(f"{bindings}/c/iim.h")
+    return [f"{here}/libiim.so", *([f"{bindings}/out/libiim.so"] if is_clone else [])]
+
+
+def _load() -> ctypes.CDLL:
+    """Load the library from the first path that has it.
+
+    Raises:
+        ImportError: No library was found, or its version differs from this module's.
+    """
+    place = os.environ.get("IIM_LIBRARY") or next((path for path in _paths() if os.path.exists(path)), "libiim.so.1")
     try:
         library = ctypes.CDLL(place)
         for name, (answers, takes) in _FUNCTIONS.items():
             function = getattr(library, name)
             function.restype, function.argtypes = answers, takes
     except (OSError, AttributeError) as fault:
+        if isinstance(fault, AttributeError) and hasattr(library, "iim_version"):
+            raise ImportError(f"{place} is older than this module: install both from one release ({fault})") from None
         raise ImportError(f"no libiim.so: bindings/build makes it, and IIM_LIBRARY may name it ({fault})") from None
     if library.iim_version() != _VERSION:
         raise ImportError(f"{place} is of version {library.iim_version()}, and this module is for version {_VERSION}")
@@ -173,7 +209,7 @@ def _load() -> ctypes.CDLL:
 
 
 class _Library:
-    """The library. It is loaded at the first call, so that this module can be imported, and can tell how it is used, without it."""
+    """The C library. It is loaded at the first call, so the module can be imported without it."""
 
     def __getattr__(self, name: str) -> Any:
         library = _load()
@@ -186,37 +222,48 @@ _library = _Library()
 
 
 def _name(function: Callable[..., int], *numbers: int) -> Optional[str]:
-    """A name that the library tells of some numbers, or None."""
+    """Return the name that a C function writes for some numbers, or `None`."""
     out = ctypes.create_string_buffer(128)
     return out.value.decode("ascii") if function(*numbers, out, len(out)) else None
 
 
 @functools.lru_cache(maxsize=None)
 def dataset_name(record: int, number: int) -> Optional[str]:
-    """The name of a dataset that stands in the tables, as "Headline" for 2:105, else None."""
+    """Return the standard's name of a dataset, such as "Headline" for 2:105, or `None`.
+
+    Args:
+        record: The record number, 0 to 255.
+        number: The dataset number, 0 to 255.
+
+    Raises:
+        ValueError: A number is out of range.
+    """
     return _name(_library.iim_dataset_name, *_numbers_of(record, number))
 
 
 @functools.lru_cache(maxsize=None)
 def cause_name(cause: int) -> Optional[str]:
-    """The name of a cause, as "CountRange" for 13, or None."""
+    """Return the name of a cause, such as "CountRange" for 13, or `None` if it does not exist."""
     return _name(_library.iim_cause_name, *_numbers_of(cause))
 
 
 @functools.lru_cache(maxsize=None)
 def cause_text(cause: int) -> Optional[str]:
-    """What a cause means, as docs/CAUSES.md has it: "9:10 is not the total" for 25. Or None."""
+    """Return the meaning of a cause, or `None` if there is no such cause.
+
+    The text is that of docs/CAUSES.md, such as "9:10 is not the total" for 25.
+    """
     return _name(_library.iim_cause_text, *_numbers_of(cause))
 
 
 @functools.lru_cache(maxsize=None)
 def layer_name(layer: int) -> Optional[str]:
-    """The name of a layer, as "dataset" for 1, or None."""
+    """Return the name of a layer, such as "dataset" for 1, or `None` if there is no such layer."""
     return _name(_library.iim_layer_name, *_numbers_of(layer))
 
 
 def _numbers_of(*numbers: int) -> Tuple[int, ...]:
-    """The numbers, each of which has to be one of an octet."""
+    """Return the numbers. Raise `ValueError` if one does not fit in a byte."""
     for number in numbers:
         if not 0 <= number <= 255:
             raise ValueError(f"{number} is not from 0 to 255")
@@ -227,27 +274,38 @@ def _numbers_of(*numbers: int) -> Tuple[int, ...]:
 
 
 class Octets(bytes):
-    """Octets as they were sent: `bytes`, which can be told as text."""
+    """Bytes as they were sent: `bytes` with a method that decodes them."""
 
     def text(self, encoding: str, errors: str = "strict") -> str:
-        """The octets as text of an encoding. The format doesn't tell which: the sender has to."""
+        """Return the bytes decoded as text. IIM does not state the encoding: ask the sender.
+
+        Args:
+            encoding: The encoding, such as "latin-1" or "utf-8".
+            errors: How to handle bytes that cannot be decoded, as for `bytes.decode`.
+        """
         return self.decode(encoding, errors)
 
 
-# What octets are taken as. Text is none of these, since its encoding would have to be guessed.
+# The types accepted as bytes. `str` is not among them, since its encoding is unknown.
 AnyOctets = Union[bytes, bytearray, memoryview]
 
-# What a file is taken as: its path, or anything that has `read` and gives octets.
+# The types accepted as a file: a path, or any object whose `read` returns bytes.
 AnyFile = Union[str, bytes, "os.PathLike[str]", BinaryIO]
 
 
 def _bytes(octets: AnyOctets) -> bytes:
-    """The octets as `bytes`. Raises `TypeError` for all that holds no octets: for text, and for a number, too."""
-    return octets if isinstance(octets, bytes) else bytes(memoryview(octets))
+    """Return the bytes as `bytes`. Raise `TypeError` for text, numbers and other types."""
+    # (a caller's subclass of `bytes` may return a wrong length)
+    return cast(bytes, octets) if type(octets) in (bytes, Octets) else bytes(memoryview(octets))
 
 
 class Limits(NamedTuple):
-    """The most that records 1 and 2 of an envelope may have together."""
+    """Limits on records 1 and 2 of an envelope, which protect the receiver's memory.
+
+    Attributes:
+        octets: The maximum number of bytes of data in both records together.
+        fields: The maximum number of datasets in both records together.
+    """
 
     octets: int = 65_536
     fields: int = 512
@@ -258,8 +316,15 @@ WIRE = Limits()
 
 
 class Rule(NamedTuple):
-    """What the tables say of a dataset: the least and the greatest number of octets, and whether it may occur more than once. `kind`
-    and `duty` are the numbers of iim.h."""
+    """The rule of the standard's tables for one dataset.
+
+    Attributes:
+        least: The minimum size, in bytes.
+        greatest: The maximum size, in bytes.
+        kind: The kind of value, as iim.h numbers it.
+        duty: Whether the dataset is mandatory, as iim.h numbers it.
+        repeats: Whether the dataset may occur more than once.
+    """
 
     least: int
     greatest: int
@@ -269,7 +334,13 @@ class Rule(NamedTuple):
 
 
 class Field(NamedTuple):
-    """A dataset of record 1 or 2."""
+    """One dataset of record 1 or 2.
+
+    Attributes:
+        record: The record number.
+        number: The dataset number.
+        octets: The value, as bytes.
+    """
 
     record: int
     number: int
@@ -277,21 +348,27 @@ class Field(NamedTuple):
 
     @property
     def dataset(self) -> str:
-        """Both numbers, as "2:105"."""
+        """The record and dataset number, such as "2:105"."""
         return f"{self.record}:{self.number:02}"
 
     @property
     def name(self) -> Optional[str]:
-        """Its name in the standard, as "Headline", or None."""
+        """The standard's name of the dataset, such as "Headline", or `None`."""
         return dataset_name(self.record, self.number)
 
     def as_json(self) -> Dict[str, Any]:
-        """What is told of it as a value of JSON."""
+        """Return the dataset as a value of JSON, with its bytes as Latin-1."""
         return {"dataset": self.dataset, "name": self.name, "octets": _latin(self.octets)}
 
 
 class Id(NamedTuple):
-    """What an envelope is known by. Two of the same id are the same envelope, sent again."""
+    """The identifier of an envelope. Envelopes with equal ids are one envelope, sent repeatedly.
+
+    Attributes:
+        service: The service identifier, 1:30.
+        number: The envelope number, 1:40.
+        date_sent: The date sent, 1:70.
+    """
 
     service: Octets
     number: Octets
@@ -299,7 +376,13 @@ class Id(NamedTuple):
 
 
 class PartId(NamedTuple):
-    """What a refused envelope is known by, as far as that had come: what had not is None."""
+    """The identifier of a rejected envelope. A part that was not received is `None`.
+
+    Attributes:
+        service: The service identifier, 1:30.
+        number: The envelope number, 1:40.
+        date_sent: The date sent, 1:70.
+    """
 
     service: Optional[Octets]
     number: Optional[Octets]
@@ -307,7 +390,16 @@ class PartId(NamedTuple):
 
 
 class Header(NamedTuple):
-    """The header of a message."""
+    """The header of an IPTC 7901 message.
+
+    Attributes:
+        source: The identifier of the source.
+        number: The message number.
+        priority: The priority, one digit.
+        category: The category of the subject.
+        words: The announced number of words.
+        info: The free text at the end of the header.
+    """
 
     source: Octets
     number: Octets
@@ -318,8 +410,16 @@ class Header(NamedTuple):
 
 
 class Sizes(NamedTuple):
-    """What records 7 to 9 say of the object: the mode (7:10), the largest size of a subfile (7:20), the announced size (7:90) and the
-    maximum (7:95), or None; and how many subfiles and octets the object has."""
+    """The sizes of an object, from records 7 to 9.
+
+    Attributes:
+        mode: The size mode, 7:10: 1 if the size is announced, and 0 otherwise.
+        subfile: The maximum size of a subfile, 7:20, in bytes.
+        announced: The announced size, 7:90, or `None`.
+        maximum: The maximum size, 7:95, or `None`.
+        subfiles: The number of subfiles received.
+        total: The number of bytes received in all subfiles.
+    """
 
     mode: int
     subfile: int
@@ -330,7 +430,15 @@ class Sizes(NamedTuple):
 
 
 def row(record: int, number: int) -> Optional[Rule]:
-    """What the tables say of a dataset, or None where it has no row."""
+    """Return the rule of the standard's tables for a dataset, or `None` if it has no row.
+
+    Args:
+        record: The record number, 0 to 255.
+        number: The dataset number, 0 to 255.
+
+    Raises:
+        ValueError: A number is out of range.
+    """
     rule = _Rule()
     if not _library.iim_row(*_numbers_of(record, number), rule):
         return None
@@ -338,17 +446,28 @@ def row(record: int, number: int) -> Optional[Rule]:
 
 
 def admits(record: int, number: int, octets: AnyOctets) -> bool:
-    """Whether the dataset has a row, and the octets are as it says."""
+    """Check whether a dataset has a row in the tables and accepts these bytes as its value.
+
+    Args:
+        record: The record number, 0 to 255.
+        number: The dataset number, 0 to 255.
+        octets: The value.
+
+    Raises:
+        ValueError: A number is out of range.
+    """
     octets = _bytes(octets)
     return bool(_library.iim_admits(*_numbers_of(record, number), octets, len(octets)))
 
 
 @functools.lru_cache(maxsize=None)
 def _plain_names() -> Dict[str, Tuple[int, int, bool]]:
-    """Each dataset of records 1 and 2 that has a name, by its plain one: its record, its number, and whether it repeats.
+    """Return the attribute names of the datasets of records 1 and 2.
 
-    The plain name is the standard's in small letters, without hyphens and points, with `_` for all else that is no letter. Where the
-    dataset repeats it is in the plural: `headline`, `date_sent`, `bylines`, `byline_titles`, `supplemental_categories`.
+    Each is mapped to the record number, the dataset number and whether the dataset repeats.
+    The attribute name is the standard's name in lower case, without hyphens and full stops, and with
+    `_` for all other characters that are no letters. It is in the plural if the dataset repeats:
+    `headline`, `date_sent`, `bylines`, `byline_titles`, `supplemental_categories`.
     """
     names = {}
     for record in (1, 2):
@@ -361,43 +480,58 @@ def _plain_names() -> Dict[str, Tuple[int, int, bool]]:
 
 
 def _plural(name: str) -> str:
-    """The plural of a name."""
+    """Return the plural of a name."""
     if name.endswith("s"):
         return name
     return name[:-1] + "ies" if name.endswith("y") else name + "s"
 
 
-# --- What is refused ---
+# --- Errors ---
 
 
 class Refused(Exception):
-    """Octets are refused: by which layer, on which dataset, at which octet, and why."""
+    """Raised if input is invalid. `str()` is the line that `iimwire check` prints.
+
+    Attributes:
+        nth: The number of the envelope in the input, from 1.
+        at: The offset of its first byte in the input.
+        layer: The layer that rejected it, such as "dataset" or "message".
+        record: The record number of the dataset named.
+        number: The dataset number of the dataset named.
+        octet: The offset of the rejected byte from the envelope's first byte.
+        cause: The number of the cause; `cause_name` and `cause_text` describe it.
+        story: The story that was received before the error: from `Receiver.feed`, the part in the
+            last chunk; from `read` without `on_text`, all of it.
+    """
 
     def __init__(self, nth: int, at: int, layer: str, record: int, number: int, octet: int, cause: int, story: bytes = b"") -> None:
         super().__init__(nth, at, layer, record, number, octet, cause, story)
-        # Which envelope of the input it is, from 1, and where its first octet stands there.
         self.nth, self.at = nth, at
         self.layer, self.record, self.number = layer, record, number
-        # The offset from the envelope's first octet of the one that completes what is refused.
         self.octet, self.cause = octet, cause
-        # What came of the story before it: of `Receiver.feed` in the last piece, else of the whole envelope.
         self.story = Octets(story)
-        # The ticket of the place before it, where it is known.
+        # The ticket of the state before the rejected byte, if it is known.
         self._ticket = b""
 
     @property
     def ticket(self) -> bytes:
-        """The ticket of the place before the refused octet, from which `Receiver.resume` goes on with others. (`check` tells none.)"""
+        """The saved state before the rejected byte; `Receiver.resume` continues from it.
+
+        It is empty if `check` raised the error.
+        """
         return self._ticket
 
     @functools.cached_property
     def fields(self) -> List[Field]:
-        """The datasets of records 1 and 2 that came before the refusal, in the order in which they were sent. (`check` tells none.)"""
+        """The datasets of records 1 and 2 received before the error, in the order sent.
+
+        The list is empty if `check` raised the error.
+        """
         return _fields_of(self._ticket)
 
     @property
     def id(self) -> PartId:
-        """What the envelope is known by, as far as that had come."""
+        """The identifier of the envelope; parts that were not received are `None`."""
         first: Dict[Tuple[int, int], Octets] = {}
         for record, number, octets in self.fields:
             first.setdefault((record, number), octets)
@@ -405,41 +539,45 @@ class Refused(Exception):
 
     @property
     def dataset(self) -> str:
-        """The numbers of the dataset that is named, as "8:10"."""
+        """The record and dataset number of the dataset named, such as "8:10"."""
         return f"{self.record}:{self.number:02}"
 
     @property
     def octet_in_file(self) -> int:
-        """The offset of that octet from the first one of the input."""
+        """The offset of the rejected byte from the first byte of the input."""
         return self.at + self.octet
 
     @property
     def cause_name(self) -> str:
-        """The name of the cause."""
+        """The name of the cause, such as "BadValue"."""
         return cause_name(self.cause) or ""
 
     def __str__(self) -> str:
-        """The line of `iimwire check`."""
+        """Return the line that `iimwire check` prints."""
         return f"{self.nth} refused at octet {self.octet} by layer {self.layer} on {self.dataset}, cause {self.cause} {self.cause_name}"
 
     def as_json(self) -> Dict[str, Any]:
-        """What is told of it as a value of JSON."""
-        told = {name: getattr(self, name) for name in ("layer", "dataset", "octet", "octet_in_file", "cause", "cause_name")}
+        """Return the error as a value of JSON, with bytes as Latin-1."""
+        refused = {name: getattr(self, name) for name in ("layer", "dataset", "octet", "octet_in_file", "cause", "cause_name")}
         return {
             "envelope": self.nth,
             "at": self.at,
-            "refused": {**told, "name": dataset_name(self.record, self.number)},
+            "refused": {**refused, "name": dataset_name(self.record, self.number)},
             "id": {name: None if octets is None else _latin(octets) for name, octets in self.id._asdict().items()},
             "fields": [field.as_json() for field in self.fields],
         }
 
 
 class Truncated(Refused):
-    """The input ends inside an envelope. More octets may complete it."""
+    """Raised if the input ends inside an envelope. More bytes may complete it."""
 
 
 class TicketRefused(Exception):
-    """Octets are no ticket from which a receiver can go on."""
+    """Raised if bytes are not a valid ticket, so that no receiver can resume from them.
+
+    Attributes:
+        cause: The number of the cause.
+    """
 
     def __init__(self, cause: int) -> None:
         super().__init__(cause)
@@ -450,46 +588,69 @@ class TicketRefused(Exception):
 
 
 class ScriptRefused(Exception):
-    """A script can't be packed: which line of it, from 1, is at fault, and why."""
+    """Raised if a script is invalid. `str()` is the line that `iimwire pack` prints.
+
+    Attributes:
+        line: The number of the invalid line, from 1.
+        cause: The number of the cause.
+    """
 
     def __init__(self, line: int, cause: int) -> None:
         super().__init__(line, cause)
         self.line, self.cause = line, cause
 
     def __str__(self) -> str:
-        """The line of `iimwire pack`."""
+        """Return the line that `iimwire pack` prints."""
         return f"refused: script line {self.line} cause {self.cause} {cause_name(self.cause)}"
 
 
 # --- Envelopes ---
 
 
+# A dataset as the library writes it: record, number, and its value's offset and size in the ticket.
+_DATASET = struct.Struct("BBNN")
+
+# The initial capacity of the array of datasets: more than most envelopes have.
+_FIELDS = 64
+
+
 def _fields_of(ticket: bytes) -> List[Field]:
-    """The datasets that a ticket tells. (No octets are no ticket, and tell none.)"""
-    fields: List[Field] = []
-    dataset, answer = _Dataset(), _Answer()
+    """Return the datasets of a ticket, in the order sent. An empty ticket has none."""
+    answer, capacity = _Answer(), _FIELDS
     while True:
-        _library.iim_field(ticket, len(ticket), len(fields), dataset, answer)
-        if answer.status != _DONE:
-            return fields
-        begin, count = dataset.data.offset, dataset.data.count
-        fields.append(Field(dataset.rec, dataset.set, Octets(ticket[begin : begin + count])))
+        array = ctypes.create_string_buffer(capacity * _DATASET.size)
+        _library.iim_fields(ticket, len(ticket), 0, array, capacity, answer)
+        if answer.status != _SHORT:
+            break
+        capacity = answer.written
+    if answer.status != _DONE:
+        return []
+    # (the same as calling the class, in less than half the time)
+    made, new = array.raw[: answer.written * _DATASET.size], tuple.__new__
+    return [new(Field, (record, number, Octets(ticket[at : at + count]))) for record, number, at, count in _DATASET.iter_unpack(made)]
 
 
 class Envelope:
-    """An envelope that is whole.
+    """A complete envelope.
 
-    Each dataset of records 1 and 2 that has a name in the standard is an attribute: `headline`, `date_sent`, `urgency` are its octets,
-    or None where there is none; those that may repeat are in the plural, as `bylines`, `keywords` and `supplemental_categories`, and
-    are lists. `dir(envelope)` has all of them. `all` and `first` take numbers.
+    Each dataset of records 1 and 2 that the standard names is an attribute. A dataset that may occur
+    once, such as `headline`, `date_sent` or `urgency`, is its value, or `None` if the envelope does
+    not have it. A dataset that may repeat has a plural name, such as `bylines`, `keywords` or
+    `supplemental_categories`, and is a list. `dir(envelope)` lists all names. `first` and `all`
+    look a dataset up by its numbers.
+
+    Attributes:
+        nth: The number of the envelope in the input, from 1.
+        at: The offset of its first byte in the input.
+        length: Its size, in bytes.
+        story: The lines of the story joined by LF, or `None` if `read` passed them to `on_text` or
+            a `Receiver` returned them chunk by chunk.
     """
 
     def __init__(self, ticket: bytes, nth: int, at: int, length: int, story: Optional[bytes]) -> None:
-        # The ticket of the ended envelope, which has all of it but the story.
-        self._ticket = ticket
-        # Which envelope of the input it is, from 1; where its first octet stands there; how many octets it has.
+        # The ticket of the complete envelope, which has all of it but the story.
+        self._ticket = _bytes(ticket)
         self.nth, self.at, self.length = nth, at, length
-        # The lines joined by LF; or None where they were handed on as they came.
         self.story: Optional[Octets] = None if story is None else Octets(story)
 
     def _octets(self, span: _Span) -> Octets:
@@ -508,11 +669,11 @@ class Envelope:
         return found
 
     def all(self, record: int, number: int) -> List[Octets]:
-        """The octets of each such dataset, in order."""
+        """Return the values of all datasets with these numbers, in the order sent."""
         return list(self._by_number.get((record, number), ()))
 
     def first(self, record: int, number: int) -> Optional[Octets]:
-        """The octets of the first such dataset, or None."""
+        """Return the value of the first dataset with these numbers, or `None` if there is none."""
         return next(iter(self._by_number.get((record, number), ())), None)
 
     def __getattr__(self, name: str) -> Any:
@@ -529,7 +690,7 @@ class Envelope:
 
     @property
     def id(self) -> Id:
-        """What it is known by: the service, the number and the date sent."""
+        """The identifier: the service, the envelope number and the date sent."""
         return Id(self.service_identifier, self.envelope_number, self.date_sent)
 
     @functools.cached_property
@@ -545,31 +706,39 @@ class Envelope:
 
     @property
     def trailer(self) -> Octets:
-        """What stands after the story in the message."""
+        """The trailer of the message: the bytes after the story."""
         return self._octets(self._message.trailer)
 
     @functools.cached_property
     def sizes(self) -> Sizes:
-        """What records 7 to 9 say of the object."""
-        told = _Object()
-        _library.iim_sizes(self._ticket, len(self._ticket), told, _Answer())
-        announced = told.announced if told.has_announced else None
-        maximum = told.maximum if told.has_maximum else None
-        return Sizes(told.mode, told.subfile, announced, maximum, told.subfiles, told.octets)
+        """The sizes of the object, from records 7 to 9."""
+        found = _Object()
+        _library.iim_sizes(self._ticket, len(self._ticket), found, _Answer())
+        announced = found.announced if found.has_announced else None
+        maximum = found.maximum if found.has_maximum else None
+        return Sizes(found.mode, found.subfile, announced, maximum, found.subfiles, found.octets)
 
     @property
     def lines(self) -> List[Octets]:
-        """The lines of the story."""
+        """The lines of the story. Raises `ValueError` if the envelope has no `story`."""
         if self.story is None:
-            raise ValueError("the story was handed on as it came")
+            raise ValueError("the envelope has no story: it was passed on while it was received")
         return [Octets(line) for line in self.story.split(b"\n")]
 
     def text(self, encoding: str, errors: str = "strict") -> str:
-        """The story as text of an encoding, with a line feed between two lines."""
+        """Return the story decoded as text, with a line feed between two lines.
+
+        Args:
+            encoding: The encoding, such as "latin-1" or "utf-8".
+            errors: How to handle bytes that cannot be decoded, as for `bytes.decode`.
+
+        Raises:
+            ValueError: The envelope has no `story`.
+        """
         return "\n".join(line.text(encoding, errors) for line in self.lines)
 
     def as_json(self) -> Dict[str, Any]:
-        """All of it as a value of JSON; octets are told as Latin-1, each as the character of its number."""
+        """Return the envelope as a value of JSON, with bytes as Latin-1."""
         named: Dict[str, Any] = {}
         for name, (record, number, repeats) in _plain_names().items():
             found = self._by_number.get((record, number))
@@ -596,8 +765,14 @@ def _latin(octets: bytes) -> str:
 
 
 class Fed(NamedTuple):
-    """What a piece of an input came to: how many octets of it were used; what they have of the story, its lines joined by LF; and the
-    envelope that ends with them, or None. That envelope has no `story`, since it has gone through here."""
+    """The result of `Receiver.feed` for one chunk of input.
+
+    Attributes:
+        used: The number of bytes consumed.
+        story: The part of the story in these bytes, with its lines joined by LF.
+        envelope: The envelope that ends with these bytes, or `None`. Its `story` is `None`, since
+            the story was returned chunk by chunk.
+    """
 
     used: int
     story: Octets
@@ -605,13 +780,19 @@ class Fed(NamedTuple):
 
 
 class Place(NamedTuple):
-    """Where a receiver stands in an envelope.
+    """The position of a receiver within an envelope.
 
-    `begun` is "nothing" between datasets, or "tag", "data" or "end". `record` is that of the last whole head, `number` that of the dataset
-    whose data are begun, and `size` how many octets it has; of a tag there are none yet. `first` is the offset of the first octet of what is
-    begun, `came` how many of its octets have come, and `to_come` how many are to come, which isn't known of a tag. `part` is the part of the
-    message as iim.h numbers it, `counter` how many octets of its filler or gap have come, and `flag` is 1 in a gap that has an LF, and in the
-    text how many CR are held at its end.
+    Attributes:
+        begun: What is partial: "nothing" between datasets, or "tag", "data" or "end".
+        record: The record number of the last complete tag.
+        number: The dataset number, if the data of a dataset are partial; otherwise `None`.
+        size: The size of that dataset, in bytes; otherwise `None`.
+        first: The offset of the first byte of what is partial.
+        came: The number of its bytes received.
+        to_come: The number of its bytes remaining, or `None` if that is not known, as in a tag.
+        part: The part of the message, as iim.h numbers the parts.
+        counter: The number of bytes of the filler or gap received.
+        flag: In a gap, 1 if it has an LF; in the text, the number of CR buffered at its end.
     """
 
     begun: str
@@ -626,59 +807,97 @@ class Place(NamedTuple):
     flag: int
 
 
-def _place_of(told: _Begun) -> Place:
-    """The place that the library tells."""
-    in_data, kind = told.kind == _DATA, ("nothing", "tag", "data", "end")[told.kind]
-    number, size, to_come = (told.set, told.count, told.left) if in_data else (None, None, 0 if kind == "end" else None)
-    return Place(kind, told.section, number, size, told.first, told.came, to_come, told.part, told.counter, told.flag)
+def _place_of(found: _Begun) -> Place:
+    """Return the position that the library wrote."""
+    in_data, kind = found.kind == _DATA, ("nothing", "tag", "data", "end")[found.kind]
+    number, size, to_come = (found.set, found.count, found.left) if in_data else (None, None, 0 if kind == "end" else None)
+    return Place(kind, found.section, number, size, found.first, found.came, to_come, found.part, found.counter, found.flag)
 
 
-class _Room:
-    """A buffer that grows."""
+# A buffer that the library writes to. It knows its own length, so that the length of one buffer is
+# never used with the bytes of another; a slice of it is `bytes`, and never longer than the buffer.
+_Buffer = Any
 
-    def __init__(self, size: int) -> None:
-        self.grow(size)
 
-    def grow(self, size: int) -> None:
-        self.size = size
-        self.octets = ctypes.create_string_buffer(max(1, size))
+def _buffer(size: int) -> _Buffer:
+    """Return a new buffer of `size` bytes, and of at least one."""
+    return ctypes.create_string_buffer(max(1, size))
 
-    def reserve(self, size: int) -> None:
-        """Makes room for so many octets."""
-        if size > self.size:
-            self.grow(size)
 
-    def take(self, count: int) -> bytes:
-        return ctypes.string_at(self.octets, count)
+_Method = TypeVar("_Method", bound=Callable[..., Any])
+
+
+def _in_use(of: object) -> NoReturn:
+    """Raise `RuntimeError` because an object is in use."""
+    raise RuntimeError(f"the {type(of).__name__} is in use by another thread, or by a call that has not returned")
+
+
+def _alone(method: _Method) -> _Method:
+    """Make a method raise `RuntimeError` if its object is in use."""
+
+    @functools.wraps(method)
+    def guarded(self: Any, *args: Any, **kwargs: Any) -> Any:
+        if not self._lock.acquire(False):
+            _in_use(self)
+        try:
+            return method(self, *args, **kwargs)
+        finally:
+            self._lock.release()
+
+    return cast(_Method, guarded)
 
 
 class Receiver:
-    """Takes one envelope after another, from pieces of any length.
+    """Receive one envelope after another from chunks of any length.
 
-    `ticket` is the place that the octets of the present envelope have led to, and `octets` how many they are. Both may be kept, and
-    `Receiver.resume` goes on from them, in another process or on another machine. After a refusal all calls raise `Refused` of
-    cause 61.
+    `ticket` is the saved state and `octets` the number of bytes consumed. Store both, and
+    `Receiver.resume` continues from them, in another process or on another machine. After a
+    refusal all calls raise `Refused` with cause 61.
+
+    Use a receiver in one thread at a time. A call before another call has returned raises
+    `RuntimeError` and changes nothing. A receiver can't be copied or pickled: store `ticket` and
+    `octets`.
+
+    Attributes:
+        octets: The number of bytes of the current envelope consumed.
+        nth: The number of the current envelope in the input, from 1.
+        at: The offset of its first byte in the input.
     """
 
     def __init__(self, limits: Limits = WIRE) -> None:
+        """Create a receiver in the state before the first byte.
+
+        Args:
+            limits: The limits on records 1 and 2.
+
+        Raises:
+            ValueError: A limit is out of range.
+        """
         for limit in limits:
             if not 1 <= limit <= GREATEST_LIMIT:
                 raise ValueError(f"the limit {limit} is not from 1 to {GREATEST_LIMIT}")
+        self._lock = threading.Lock()
         self._limits = _Limits(*limits)
         self._ticket = b""
         self._refusal: Optional[Refused] = None
-        self._answer, self._text, self._next = _Answer(), _Room(1_024), _Room(1_024)
-        # How many octets of the present envelope have come; which one of the input it is, from 1; where it begins there.
+        self._answer, self._text, self._next = _Answer(), _buffer(1_024), _buffer(1_024)
         self.octets, self.nth, self.at = 0, 1, 0
-
-    def _begin(self) -> None:
-        """Begins with another input, with the same room."""
-        self._ticket, self._refusal, self.octets, self.nth, self.at = b"", None, 0, 1, 0
 
     @classmethod
     def resume(cls, ticket: AnyOctets, octets: int, limits: Limits = WIRE, *, nth: int = 1, at: int = 0) -> Receiver:
-        """A receiver at the place that a ticket tells, after so many octets of its envelope. `nth` and `at` are those of the receiver
-        that gave the ticket: they are told again, and change nothing else."""
+        """Return a receiver in the state that a ticket encodes.
+
+        Args:
+            ticket: The saved state, from `Receiver.ticket` or `Refused.ticket`.
+            octets: The number of bytes of the envelope consumed when the state was saved.
+            limits: The limits on records 1 and 2.
+            nth: The number of the envelope in the input. It is reported, and changes nothing else.
+            at: The offset of the envelope in the input. It is reported, and changes nothing else.
+
+        Raises:
+            TicketRefused: The bytes are not a valid ticket.
+            ValueError: A limit or `octets` is out of range.
+        """
         receiver = cls(limits)
         if not 0 <= octets < 2**64:
             raise ValueError(f"{octets} octets")
@@ -686,128 +905,192 @@ class Receiver:
         receiver._ask_end()
         return receiver
 
-    @property
-    def ticket(self) -> bytes:
-        """The ticket of the place after the octets so far."""
-        self._stand()
-        if not self._ticket:
-            self._feed(b"", 0)
-            return self._next.take(self._answer.ticket)
-        return self._ticket
+    def __reduce__(self) -> NoReturn:
+        raise TypeError("a Receiver can't be copied or pickled: keep its ticket and octets, from which Receiver.resume goes on")
 
     @property
+    @_alone
+    def ticket(self) -> bytes:
+        """The saved state after the bytes consumed so far."""
+        return self._ticket_here()
+
+    @property
+    @_alone
     def place(self) -> Place:
-        """Where it stands: what is begun, how much of that has come and is to come, and the part of the message."""
-        ticket, begun = self.ticket, _Begun()
+        """The position within the envelope."""
+        ticket, begun = self._ticket_here(), _Begun()
         _library.iim_place(ticket, len(ticket), self.octets, begun, self._answer)
         self._expect(_DONE)
         return _place_of(begun)
 
     @property
+    @_alone
     def next(self) -> FrozenSet[int]:
-        """The octets of which each could come next. All others are refused."""
+        """The bytes that are accepted next."""
         self._stand()
-        found = _OctetSet()
-        _library.iim_next(self._limits, self._ticket, len(self._ticket), found, self._answer)
+        found, ticket = _OctetSet(), self._ticket
+        _library.iim_next(self._limits, ticket, len(ticket), found, self._answer)
         self._expect(_MORE, _DONE)
         return frozenset(octet for octet in range(256) if found.bits[octet // 8] >> octet % 8 & 1)
 
+    @_alone
     def tries(self, octets: AnyOctets) -> Tuple[int, bool]:
-        """How many of the octets would be taken from here on, and whether the envelope ends with them. It stays where it is."""
+        """Try bytes from the current state on, without changing it.
+
+        Args:
+            octets: The bytes to try.
+
+        Returns:
+            The number of bytes that would be consumed, and whether the envelope would end with them.
+        """
         self._stand()
-        octets, answer = _bytes(octets), self._answer
-        if self.octets:
+        octets, answer, before = _bytes(octets), self._answer, self.octets
+        if before:
             self._feed(octets, 0)
         else:
             _library.iim_check(self._limits, octets, len(octets), answer)
             self._expect(_DONE, _REFUSED, _TRUNCATED)
-        return answer.octet - self.octets, answer.status == _DONE
+        return answer.octet - before, answer.status == _DONE
 
     def feed(self, piece: AnyOctets, start: int = 0) -> Fed:
-        """Takes the octets of a piece, from `start` on, up to the end of the present envelope."""
-        self._stand()
-        piece = _bytes(piece)
-        if not 0 <= start <= len(piece):
-            raise ValueError(f"the piece has no octet {start}")
-        self._feed(piece, start)
-        answer = self._answer
-        story = Octets(self._text.take(answer.written))
-        if answer.status == _REFUSED:
-            refusal = self._refused(Refused, story)
-            # (the octets before the refused one again, for the ticket of its place)
-            self._feed(piece[: start + refusal.octet - self.octets], start)
-            refusal._ticket = self._next.take(answer.ticket)
-            raise refusal
-        ticket, self.octets = self._next.take(answer.ticket), answer.octet
-        if answer.status == _MORE:
-            self._ticket = ticket
-            return Fed(answer.used, story, None)
-        envelope = Envelope(ticket, self.nth, self.at, self.octets, None)
-        self._ticket, self.octets, self.nth, self.at = b"", 0, self.nth + 1, self.at + self.octets
-        return Fed(answer.used, story, envelope)
+        """Consume the bytes of a chunk up to the end of the current envelope.
 
+        A chunk that is not `bytes` is copied by each call: convert it first if it has many envelopes.
+
+        Args:
+            piece: The chunk.
+            start: The offset in the chunk of the first byte to consume.
+
+        Returns:
+            The number of bytes consumed, their part of the story, and the envelope if it ended.
+
+        Raises:
+            Refused: A byte is invalid.
+            ValueError: `start` is not an offset of the chunk.
+            MemoryError: The library could not allocate memory. No byte is consumed.
+        """
+        # (the lock of `_alone` without its call: this method runs for each chunk and envelope)
+        if not self._lock.acquire(False):
+            _in_use(self)
+        try:
+            self._stand()
+            piece = _bytes(piece)
+            if not 0 <= start <= len(piece):
+                raise ValueError(f"the piece has no octet {start}")
+            before = self.octets
+            self._feed(piece, start)
+            answer = self._answer
+            story = Octets(self._text[: answer.written])
+            if answer.status == _REFUSED:
+                self._refuse(piece[: start + answer.octet - before], start, story)
+            ticket, self.octets = self._next[: answer.ticket], answer.octet
+            if answer.status == _MORE:
+                self._ticket = ticket
+                return Fed(answer.used, story, None)
+            envelope = Envelope(ticket, self.nth, self.at, self.octets, None)
+            self._ticket, self.octets, self.nth, self.at = b"", 0, self.nth + 1, self.at + self.octets
+            return Fed(answer.used, story, envelope)
+        finally:
+            self._lock.release()
+
+    def _refuse(self, before: bytes, start: int, story: bytes) -> NoReturn:
+        """Raise the refusal that the library returned for the byte after those in `before`."""
+        refusal = self._refused(Refused, story)
+        # (once more up to that byte, for the ticket of the state before it)
+        self._feed(before, start)
+        refusal._ticket = self._next[: self._answer.ticket]
+        raise refusal
+
+    @_alone
     def end(self) -> None:
-        """Tells that the input ends here. Raises `Truncated` where that is inside an envelope."""
+        """Report the end of the input.
+
+        Raises:
+            Truncated: The input ends inside an envelope.
+        """
         self._stand()
         if self.octets and self._ask_end() == _TRUNCATED:
             refusal = self._refused(Truncated, b"", keep=False)
             refusal._ticket = self._ticket
             raise refusal
 
+    def _ticket_here(self) -> bytes:
+        """Return the ticket of the state after the bytes so far."""
+        self._stand()
+        if not self._ticket:
+            self._feed(b"", 0)
+            return bytes(self._next[: self._answer.ticket])
+        return self._ticket
+
     def _feed(self, piece: bytes, start: int) -> None:
-        """Asks the library, with more room where there is too little."""
-        count = len(piece) - start
+        """Call the library, and again with more capacity if a buffer is too small."""
+        count = max(0, len(piece) - start)
         begin = (ctypes.cast(ctypes.c_char_p(piece), ctypes.c_void_p).value or 0) + start
+        ticket, answer = self._ticket, self._answer
+        state = self._limits, ticket, len(ticket), self.octets
         while True:
-            text, room, answer = self._text, self._next, self._answer
-            place = self._limits, self._ticket, len(self._ticket), self.octets
-            _library.iim_feed(*place, begin, count, text.octets, text.size, room.octets, room.size, answer)
+            text, following = self._text, self._next
+            _library.iim_feed(*state, begin, count, text, len(text), following, len(following), answer)
             if answer.status != _SHORT:
                 return self._expect(_DONE, _MORE, _REFUSED)
-            if answer.written <= text.size and answer.ticket <= room.size:
-                raise RuntimeError("the library asks for no more room than it has")
-            for short, wanted in (text, answer.written), (room, answer.ticket):
-                if wanted > short.size:
-                    short.grow(2 * wanted)
+            if answer.written <= len(text) and answer.ticket <= len(following):
+                raise RuntimeError("the library reports a short buffer, but needs no more capacity")
+            if answer.written > len(text):
+                self._text = _buffer(2 * answer.written)
+            if answer.ticket > len(following):
+                self._next = _buffer(2 * answer.ticket)
 
     def _ask_end(self) -> int:
-        """What the library says of the end of the input here."""
-        _library.iim_end(self._limits, self._ticket, len(self._ticket), self.octets, self._answer)
+        """Return the library's status for an input that ends here."""
+        ticket = self._ticket
+        _library.iim_end(self._limits, ticket, len(ticket), self.octets, self._answer)
         self._expect(_DONE, _TRUNCATED)
         status: int = self._answer.status
         return status
 
     def _expect(self, *statuses: int) -> None:
-        """Raises what a status says that is none of these."""
+        """Raise the exception for the library's status unless it is one of these."""
         status = self._answer.status
         if status == _NO_MEMORY:
             raise MemoryError
         if status == _BAD_TICKET:
             raise TicketRefused(self._answer.cause)
         if status not in statuses:
-            raise RuntimeError(f"the library answers {status}")
+            raise RuntimeError(f"the library returned the unexpected status {status}")
 
     def _refused(self, kind: Type[Refused], story: bytes, keep: bool = True) -> Refused:
-        """The refusal that the library has answered."""
+        """Return the refusal that the library reported."""
         answer = self._answer
-        place = layer_name(answer.layer) or "", answer.rec, answer.set, answer.octet, answer.cause
-        refusal = kind(self.nth, self.at, *place, story)
+        reported = layer_name(answer.layer) or "", answer.rec, answer.set, answer.octet, answer.cause
+        refusal = kind(self.nth, self.at, *reported, story)
         if keep:
             self._refusal = refusal
         return refusal
 
     def _stand(self) -> None:
-        """Raises cause 61 where something was refused before."""
+        """Raise `Refused` with cause 61 after an earlier refusal."""
         if self._refusal is not None:
             raise Refused(self.nth, self.at, "outside", 0, 0, self._refusal.octet, 61)
 
 
 def read(file: AnyFile, limits: Limits = WIRE, *, on_text: Optional[Callable[[bytes], Any]] = None) -> Iterator[Envelope]:
-    """Gives the envelopes of a file one after another: of a path, or of anything that has `read` and gives octets.
+    """Yield the envelopes of a file, each as soon as its last byte is read.
 
-    It reads a block at a time, and gives each envelope when its last octet has come. It raises `Refused` at the first octet that is
-    refused, and `Truncated` where the file ends inside an envelope. The story of the envelope in hand is kept in memory; where `on_text`
-    is given, its octets go there as they come, and the envelope has no `story`.
+    The file is read in blocks. Only the story of the current envelope is stored in memory.
+
+    Args:
+        file: A path, or an object whose `read` returns bytes.
+        limits: The limits on records 1 and 2.
+        on_text: If given, called with each part of the story when it is read. The envelopes then
+            have no `story`.
+
+    Yields:
+        Each envelope, in the order of the file.
+
+    Raises:
+        Refused: A byte is invalid.
+        Truncated: The file ends inside an envelope.
+        OSError: The file can't be read. `BlockingIOError` if `read` returned `None`.
     """
     if isinstance(file, (str, bytes, os.PathLike)):
         with open(file, "rb", buffering=0) as opened:
@@ -843,7 +1126,16 @@ def read(file: AnyFile, limits: Limits = WIRE, *, on_text: Optional[Callable[[by
 
 
 def check(octets: AnyOctets, limits: Limits = WIRE) -> int:
-    """How many octets the envelope has that these octets begin with. Raises `Refused` or `Truncated` where they begin with none."""
+    """Return the size of the envelope at the beginning of these bytes.
+
+    Args:
+        octets: The bytes, of which those after the envelope are ignored.
+        limits: The limits on records 1 and 2.
+
+    Raises:
+        Refused: A byte is invalid.
+        Truncated: The bytes end inside the envelope.
+    """
     octets = _bytes(octets)
     receiver = Receiver(limits)
     answer = receiver._answer
@@ -858,10 +1150,24 @@ def check(octets: AnyOctets, limits: Limits = WIRE) -> int:
 
 
 class AuditRow(NamedTuple):
-    """What an audit tells of an envelope: where its first octet stands in the input, and how many octets it has; its id and its priority;
-    the octets and the subfiles of its object; the words that its message announces, and those of its story; how many whole seconds ago it
-    was sent, or None; whether its copy is "held", "expired" or "free"; and the instants of its release and its expiration, in seconds
-    from 1970 on, or None."""
+    """The row of an audit for one envelope.
+
+    Attributes:
+        at: The offset of its first byte in the input.
+        length: Its size, in bytes.
+        service: The service identifier, 1:30.
+        number: The envelope number, 1:40.
+        date_sent: The date sent, 1:70.
+        priority: The priority, 1:60, or `None`.
+        size: The size of its object, in bytes.
+        subfiles: The number of subfiles.
+        announced: The number of words that the message's header announces.
+        counted: The number of words in the story.
+        age: The number of complete seconds since it was sent, or `None` if it has no time sent.
+        copy: "held" before its release, "expired" after its expiration, and "free" otherwise.
+        release: The instant of its release, in seconds since 1970, or `None`.
+        expires: The instant of its expiration, in seconds since 1970, or `None`.
+    """
 
     at: int
     length: int
@@ -881,21 +1187,21 @@ class AuditRow(NamedTuple):
 
 _EPOCH = datetime.datetime(1970, 1, 1, tzinfo=datetime.timezone.utc)
 
-# The last instant that there is, in seconds from then on: 9999-12-30T22:00:00Z.
+# The last valid instant, in seconds since 1970: 9999-12-30T22:00:00Z.
 LAST_SECOND = 253_402_207_200
 
-# The members of a row, as the library writes them: of an instant its second alone.
+# The fields of a row as the library writes it; of an instant, only its second.
 RawRow = Tuple[int, int, int, int, int, int, int, int, int, bool, bool, bool, int, int, int, bytes, bytes, bytes]
 _ROW = struct.Struct("6Qqq8xq8x3?3B10s8s8s")
 
 _COPY = "free", "held", "expired"
 
-# The most rows of a block.
+# The maximum number of rows in a block.
 _ROWS = 1_024
 
 
 def _row_of(raw: RawRow) -> AuditRow:
-    """A row, as the library writes it."""
+    """Return the `AuditRow` for a row that the library wrote."""
     at, length, size, subfiles, announced, counted, age, release, expires, has_age, has_release, has_expires, copy, priority, count, service, number, date = raw
     return AuditRow(
         at, length, Octets(service[:count]), Octets(number), Octets(date), Octets((priority,)) if priority else None, size, subfiles, announced, counted,
@@ -904,34 +1210,78 @@ def _row_of(raw: RawRow) -> AuditRow:
 
 
 class Auditor:
-    """Audits one input after another, at an instant, or else the present one. It reads each as `read` does."""
+    """Audit one input after another, as of one instant.
+
+    Use an auditor in one thread, and for one input, at a time. Starting another input before the
+    generator of `blocks` or `raw_blocks` has finished, from another thread or from `fill`, raises
+    `RuntimeError` and changes nothing; to abandon an input, close its generator. An auditor can't
+    be copied or pickled.
+    """
 
     def __init__(self, limits: Limits = WIRE, *, now: Optional[datetime.datetime] = None) -> None:
+        """Create an auditor.
+
+        Args:
+            limits: The limits on records 1 and 2.
+            now: The instant, with a time zone, from which ages are counted and copy is held or
+                expired [default: the present].
+
+        Raises:
+            ValueError: A limit is out of range, or `now` is after 9999-12-30T22:00:00Z.
+        """
         since = (datetime.datetime.now(datetime.timezone.utc) if now is None else now) - _EPOCH
         second = since // datetime.timedelta(seconds=1)
         if second > LAST_SECOND:
             raise ValueError("the last instant is 9999-12-30T22:00:00Z")
+        self._lock = threading.Lock()
         self._now = _Instant(second, since.microseconds * 1_000)
         self._receiver, self._so_far = Receiver(limits), _SoFar()
-        piece = bytearray(BLOCK)
-        self._piece, self._begin = memoryview(piece), ctypes.addressof(ctypes.c_char.from_buffer(piece))
+        self._piece = bytearray(BLOCK)
+        self._begin = ctypes.addressof(ctypes.c_char.from_buffer(self._piece))
         self._array = (_AuditRow * _ROWS)()
         self._rows = memoryview(self._array).cast("B")
-        # (the ticket of the place, how many octets it has, and room for that of the next one)
-        self._ticket, self._count, self._next = _Room(1_024), 0, _Room(1_024)
+        # The buffer with the current ticket, and that ticket's size; the buffer of the next ticket.
+        self._place: Tuple[_Buffer, int] = (_buffer(1_024), 0)
+        self._next = _buffer(1_024)
+
+    def __reduce__(self) -> NoReturn:
+        raise TypeError("an Auditor can't be copied or pickled: make one of the same limits and instant")
 
     def blocks(self, fill: Callable[[memoryview], Optional[int]]) -> Iterator[List[AuditRow]]:
-        """The rows of an input, many at a time. `fill` puts its next octets into a buffer, and answers how many: 0 at its end. Raises
-        `Refused` after the rows before the refusal."""
+        """Yield the rows of an input in lists.
+
+        Args:
+            fill: Writes the next bytes of the input into a buffer and returns their number: 0 at
+                the end of the input, and `None` if no bytes are available now.
+
+        Raises:
+            Refused: A byte is invalid. The rows before it are yielded first.
+            Truncated: The input ends inside an envelope. The rows before it are yielded first.
+            RuntimeError: The auditor is in use.
+            BlockingIOError: `fill` returned `None`.
+        """
         for rows in self.raw_blocks(fill):
             yield [*map(_row_of, rows)]
 
     def raw_blocks(self, fill: Callable[[memoryview], Optional[int]]) -> Iterator[List[RawRow]]:
-        """The rows as the library writes them: what comes quickest."""
+        """Yield the rows in lists as the library writes them, which is fastest.
+
+        The arguments and exceptions are those of `blocks`.
+        """
+        if not self._lock.acquire(False):
+            _in_use(self)
+        try:
+            yield from self._blocks(fill)
+        finally:
+            self._lock.release()
+
+    def _blocks(self, fill: Callable[[memoryview], Optional[int]]) -> Iterator[List[RawRow]]:
+        """Yield the rows of an input for a caller that holds the lock."""
         so_far, answer = self._so_far, self._receiver._answer
-        so_far.at = so_far.octets = self._count = 0
+        so_far.at = so_far.octets = 0
+        self._place = self._place[0], 0
         nth = 1
-        while count := fill(self._piece):
+        while count := self._filled(fill):
             at, status = 0, _DONE
             while status == _DONE:
                 octets = so_far.octets
@@ -947,38 +1297,50 @@ class Auditor:
         if so_far.octets:
             self._receiver_at(nth, so_far.octets).end()
 
+    def _filled(self, fill: Callable[[memoryview], Optional[int]]) -> Optional[int]:
+        """Return the number of bytes that `fill` wrote to the block.
+
+        The buffer is released before the library reads, so that `fill` can't write to it later.
+        """
+        with memoryview(self._piece) as buffer:
+            count = fill(buffer)
+        if count is not None and not 0 <= count <= BLOCK:
+            raise ValueError(f"fill returned {count}: the buffer has {BLOCK:,} bytes")
+        return count
+
     def _ask(self, at: int, count: int) -> int:
-        """The status that the library answers for so many octets of the piece, from `at` on. It is asked with more room where a ticket has
-        too little."""
-        receiver, ticket, room = self._receiver, self._ticket, self._next
+        """Audit `count` bytes of the block from offset `at` on, and return the library's status.
+
+        The call is repeated with more capacity if the buffer of the ticket is too small.
+        """
+        receiver, (ticket, length), rows, following = self._receiver, self._place, self._array, self._next
         answer = receiver._answer
         while True:
             _library.iim_audit(
-                receiver._limits, ticket.octets, self._count, self._so_far, self._begin + at, count, self._now, self._array, _ROWS, room.octets, room.size,
-                answer,
-            )  # fmt: skip
+                receiver._limits, ticket, length, self._so_far, self._begin + at, count, self._now, rows, len(rows), following, len(following), answer
+            )
             status: int = answer.status
             if status != _SHORT:
                 break
-            if answer.ticket <= room.size:
-                raise RuntimeError("the library asks for no more room than it has")
-            room.grow(2 * answer.ticket)
+            if answer.ticket <= len(following):
+                raise RuntimeError("the library reports a short buffer, but needs no more capacity")
+            following = self._next = _buffer(2 * answer.ticket)
         if status == _DONE or status == _MORE:
-            # (where no envelope is begun, there is no ticket)
-            self._ticket, self._next, self._count = room, ticket, answer.ticket if answer.octet else 0
+            # (between two envelopes there is no ticket)
+            self._place, self._next = (following, answer.ticket if answer.octet else 0), ticket
         elif status != _REFUSED:
             receiver._expect()
         return status
 
     def _receiver_at(self, nth: int, octets: int) -> Receiver:
-        """A receiver of the envelope in hand, after so many octets of it."""
-        receiver = self._receiver
-        receiver._refusal, receiver._ticket = None, self._ticket.take(self._count) if octets else b""
+        """Return a receiver that has consumed `octets` bytes of the current envelope."""
+        receiver, (ticket, length) = self._receiver, self._place
+        receiver._refusal, receiver._ticket = None, ticket[:length] if octets else b""
         receiver.nth, receiver.at, receiver.octets = nth, self._so_far.at, octets
         return receiver
 
     def _refuse(self, piece: bytes, nth: int, octets: int) -> None:
-        """Raises the refusal of an octet of a piece, as a receiver tells it, but for what came of the story."""
+        """Raise the refusal of a byte of a chunk as a receiver does, but without the story."""
         try:
             self._receiver_at(nth, octets).feed(piece)
         except Refused as refusal:
@@ -987,25 +1349,25 @@ class Auditor:
 
 
 def _filler_of(file: BinaryIO) -> Callable[[memoryview], Optional[int]]:
-    """What puts the next octets of a file into a buffer."""
+    """Return a function that reads the next bytes of a file into a buffer."""
     for name in "readinto1", "readinto":
         if hasattr(file, name):
             filler: Callable[[memoryview], Optional[int]] = getattr(file, name)
             return filler
     take = getattr(file, "read1", file.read)
 
-    def fill(room: memoryview) -> Optional[int]:
-        piece = take(len(room))
+    def fill(buffer: memoryview) -> Optional[int]:
+        piece = take(len(buffer))
         if piece is None:
             return None
-        room[: len(piece)] = piece
+        buffer[: len(piece)] = piece
         return len(piece)
 
     return fill
 
 
 def audit_blocks(file: AnyFile, limits: Limits = WIRE, *, now: Optional[datetime.datetime] = None) -> Iterator[List[AuditRow]]:
-    """The rows of `audit`, many at a time."""
+    """Yield the rows of `audit` in lists. The arguments and exceptions are those of `audit`."""
     if isinstance(file, (str, bytes, os.PathLike)):
         with open(file, "rb", buffering=0) as opened:
             yield from audit_blocks(opened, limits, now=now)
@@ -1014,8 +1376,22 @@ def audit_blocks(file: AnyFile, limits: Limits = WIRE, *, now: Optional[datetime
 
 
 def audit(file: AnyFile, limits: Limits = WIRE, *, now: Optional[datetime.datetime] = None) -> Iterator[AuditRow]:
-    """Gives a row for each envelope of a file, at an instant, or else the present one: what `iimwire audit` prints of it, but for the
-    envelope that it repeats. It reads as `read` does, and raises what that does; of a refusal it tells no story."""
+    """Yield a row for each envelope of a file.
+
+    The rows are those of `iimwire audit`, but do not name the envelope that an envelope repeats.
+
+    Args:
+        file: A path, or an object whose `read` returns bytes.
+        limits: The limits on records 1 and 2.
+        now: The instant, with a time zone, from which ages are counted and copy is held or expired
+            [default: the present].
+
+    Raises:
+        Refused: A byte is invalid. Its `story` is empty.
+        Truncated: The file ends inside an envelope.
+        ValueError: A limit is out of range, or `now` is after 9999-12-30T22:00:00Z.
+        OSError: The file can't be read. `BlockingIOError` if `read` returned `None`.
+    """
     for rows in audit_blocks(file, limits, now=now):
         yield from rows
 
@@ -1023,16 +1399,26 @@ def audit(file: AnyFile, limits: Limits = WIRE, *, now: Optional[datetime.dateti
 # --- Packing ---
 
 
-# What each part of a header is, in their order, as docs/FORMAT.md has it.
+# The form of each part of a header, in their order, as docs/FORMAT.md defines it.
 _PARTS = (rb"[A-Za-z]{1,8}", rb"[0-9]{1,8}", rb"[0-9]", rb"[A-Za-z0-9]{1,8}", rb"[0-9]{1,6}", rb"[\x20-\x7E\x80-\xFF]{0,64}")
 
 
 def script(
     fields: Iterable[Tuple[int, int, AnyOctets]], header: Iterable[AnyOctets], lines: Iterable[AnyOctets], trailer: AnyOctets = b""
 ) -> bytes:
-    """The script of an envelope, which `pack` takes: its datasets of records 1 and 2, each with its record and number; the source,
-    number, priority, category, words and info of its message; its lines; and its trailer. Raises `ValueError` where a part of the
-    header, or a line, can't be one; all else is for `pack` to say."""
+    """Return the script of an envelope, which `pack` accepts.
+
+    Only the header and the lines are checked here; `pack` checks all else.
+
+    Args:
+        fields: The datasets of records 1 and 2, each as record number, dataset number and value.
+        header: The source, number, priority, category, words and info of the message.
+        lines: The lines of the story, without line ends.
+        trailer: The trailer of the message.
+
+    Raises:
+        ValueError: A part of the header or a line is invalid.
+    """
     made = [_with_shown(b"%d:%d" % (record, number), octets) for record, number, octets in fields]
     parts = [_bytes(part) for part in header]
     if len(parts) != len(_PARTS):
@@ -1053,57 +1439,133 @@ def script(
 
 
 def _with_shown(word: bytes, octets: AnyOctets) -> bytes:
-    """A line of a script: a word and, where there are any, a space and the octets as a script has them."""
+    """Return a line of a script: a word and, if there are bytes, a space and the escaped bytes."""
     shown = (bytes([octet]) if 0x20 <= octet <= 0x7E and octet != 0x5C else b"\\x%02X" % octet for octet in _bytes(octets))
     return b" ".join([word, *filter(None, [b"".join(shown)])])
 
 
 def pack(script: AnyOctets, *, subfile: int = 1_024, unknown: bool = False, maximum: Optional[int] = None) -> bytes:
-    """The envelope that a script tells, in subfiles of at most so many octets; its size is announced, unless it is to be unknown, when
-    a maximum may be told. Raises `ScriptRefused`. docs/FORMAT.md has the form of a script, `script` makes one."""
+    """Return the envelope that a script specifies.
+
+    `script` writes scripts, and docs/FORMAT.md defines them.
+
+    Args:
+        script: The script.
+        subfile: The maximum size of a subfile, in bytes.
+        unknown: Whether the size of the object is not announced.
+        maximum: The maximum size of the object, 7:95. Only an object of unknown size has one.
+
+    Raises:
+        ScriptRefused: The script is invalid.
+        ValueError: A size is out of range, or `maximum` is given without `unknown`.
+        MemoryError: The library could not allocate memory.
+    """
     if not 1 <= subfile <= GREATEST or maximum is not None and not 0 <= maximum <= GREATEST:
         raise ValueError(f"a subfile has 1 to {GREATEST} octets, a maximum 0 to {GREATEST}")
     if maximum is not None and not unknown:
-        raise ValueError("a maximum is told of an unknown size")
+        raise ValueError("maximum needs unknown=True")
     script = _bytes(script)
     packing = _Packing(subfile, unknown, maximum is not None, maximum or 0)
-    out, answer = _Room(len(script) + 256), _Answer()
+    out, answer = _buffer(len(script) + 256), _Answer()
     while True:
-        _library.iim_pack(packing, script, len(script), out.octets, out.size, answer)
+        _library.iim_pack(packing, script, len(script), out, len(out), answer)
         if answer.status != _SHORT:
             break
-        if answer.written <= out.size:
-            raise RuntimeError("the library asks for no more room than it has")
-        out.grow(answer.written)
+        if answer.written <= len(out):
+            raise RuntimeError("the library reports a short buffer, but needs no more capacity")
+        out = _buffer(answer.written)
     if answer.status == _NO_MEMORY:
         raise MemoryError
     if answer.status == _REFUSED:
         raise ScriptRefused(answer.octet, answer.cause)
     if answer.status != _DONE:
-        raise RuntimeError(f"the library answers {answer.status}")
-    return out.take(answer.written)
+        raise RuntimeError(f"the library returned the unexpected status {answer.status}")
+    return bytes(out[: answer.written])
 
 
 # --- The command ---
 
+# The exit status of a failure, and that of a program ended by a signal.
+FAILED = 3
+STOPPED = 130
+
+
+# The help of --limits.
+_LIMITS_HELP = "maximum bytes of data, and number of datasets, in records 1 and 2 together [default: 65536 512]"
+
 
 class CannotWrite(Exception):
-    """Standard output takes no more."""
+    """Raised if standard output can't be written. Its text is the reason."""
+
+
+class Failed(Exception):
+    """Raised if a file can't be read or written. Its text is `what: reason`."""
+
+
+class Terminated(KeyboardInterrupt):
+    """Raised by SIGTERM."""
+
+
+@contextlib.contextmanager
+def naming(what: str) -> Iterator[None]:
+    """Raise `Failed`, which names a file, for an `OSError` or `MemoryError` of the block.
+
+    The exception of a signal that ends the block names the file, too.
+    """
+    try:
+        yield
+    except KeyboardInterrupt as stop:
+        stop.args = stop.args or (what,)
+        raise
+    except OSError as fault:
+        raise Failed(f"{what}: {fault.strerror or fault}") from None
+    except MemoryError:
+        raise Failed(f"{what}: out of memory") from None
+
+
+def program_name(explains: bool) -> str:
+    """Return the name under which the program was started."""
+    if os.path.basename(sys.argv[0]) == "iim-explain":
+        return "iim-explain"
+    return "python3 -m iim explain" if explains else "python3 -m iim"
+
+
+def _abandon(stream: Any) -> None:
+    """Discard the unwritten output of a stream, so that Python's exit neither fails nor blocks."""
+    with contextlib.suppress(OSError, ValueError, AttributeError):
+        null = os.open(os.devnull, os.O_WRONLY)
+        os.dup2(null, stream.fileno())
+        os.close(null)
+
+
+def complain(text: str) -> None:
+    """Print an error as one line of standard error, if that can be written."""
+    try:
+        sys.stderr.write(f"{text}\n")
+        sys.stderr.flush()
+    except (OSError, ValueError, AttributeError):
+        _abandon(sys.stderr)
+
+
+def print_text(text: str) -> None:
+    """Print text and flush it. Raise `CannotWrite` on failure; then nothing more is written."""
+    if sys.stdout is None:
+        raise CannotWrite(os.strerror(errno.EBADF))
+    try:
+        sys.stdout.write(text)
+        sys.stdout.flush()
+    except OSError as fault:
+        _abandon(sys.stdout)
+        raise CannotWrite(fault.strerror or str(fault)) from None
 
 
 def print_line(value: Dict[str, Any]) -> None:
-    """Prints a value as a line of JSON, at once. Raises `CannotWrite`, and then nothing more is written."""
-    try:
-        sys.stdout.write(json.dumps(value) + "\n")
-        sys.stdout.flush()
-    except OSError:
-        # (so that Python doesn't try it once more at its end)
-        os.dup2(os.open(os.devnull, os.O_WRONLY), sys.stdout.fileno())
-        raise CannotWrite from None
+    """Print a value as a line of JSON and flush it. Raise `CannotWrite` as `print_text` does."""
+    print_text(json.dumps(value) + "\n")
 
 
 def _print_file(named: Dict[str, str], file: Any, limits: Limits) -> int:
-    """Prints the lines of a file, and answers the status."""
+    """Print the lines of a file, and return the exit status."""
     try:
         for envelope in read(file, limits):
             print_line({**named, **envelope.as_json()})
@@ -1111,61 +1573,126 @@ def _print_file(named: Dict[str, str], file: Any, limits: Limits) -> int:
         print_line({**named, **refusal.as_json()})
         return 1
     except OSError as fault:
-        print_line({**named, "failed": f"cannot read: {fault.strerror}"})
-        return 3
+        print_line({**named, "failed": f"cannot read: {fault.strerror or fault}"})
+        return FAILED
     return 0
 
 
 def _print_named(name: str, limits: Limits) -> int:
-    """Opens a file and prints its lines, each with the file's name; answers the status."""
-    try:
-        file = open(name, "rb", buffering=0)
-    except OSError as fault:
-        print_line({"file": name, "failed": f"cannot open: {fault.strerror}"})
-        return 3
-    with file:
-        return _print_file({"file": name}, file, limits)
+    """Open a file, print its lines, each with the file's name, and return the exit status."""
+    with naming(name if name.isprintable() else ascii(name)[1:-1]):
+        try:
+            file = open(name, "rb", buffering=0)
+        except OSError as fault:
+            print_line({"file": name, "failed": f"cannot open: {fault.strerror}"})
+            return FAILED
+        with file:
+            return _print_file({"file": name}, file, limits)
 
 
-def _explain(words: List[str]) -> int:
-    """Explains a file, and answers the status."""
+def _explain(arguments: List[str]) -> int:
+    """Explain a file, and return the exit status."""
     import explain
 
-    return explain.main(explain.parse(words))
+    return explain.main(explain.parse(arguments))
 
 
-def _print_files(words: List[str]) -> int:
-    """Prints the lines of the files that the words name, or else of standard input, and answers the status."""
+def _print_files(arguments: List[str]) -> int:
+    """Print the lines of the files given, or of standard input, and return the exit status."""
     parser = argparse.ArgumentParser(
         "python3 -m iim",
-        description="Prints a line of JSON for each envelope. Octets are told as Latin-1.",
-        epilog="`%(prog)s explain --help` tells how a file is explained.",
+        description="Print one line of JSON for each envelope. Bytes are written as Latin-1.",
+        epilog="`%(prog)s explain FILE` shows what a file contains and why it was rejected; see `%(prog)s explain --help`.",
     )
-    parser.add_argument("files", metavar="FILE", nargs="*", help="a file to read, or else standard input")
-    parser.add_argument("--limits", metavar=("OCTETS", "FIELDS"), type=int, nargs=2, default=WIRE, help="of records 1 and 2 together")
-    asked = parser.parse_args(words)
+    parser.add_argument("files", metavar="FILE", nargs="*", help="file to read [default: standard input]")
+    parser.add_argument("--limits", metavar=("OCTETS", "FIELDS"), type=int, nargs=2, default=WIRE, help=_LIMITS_HELP)
+    asked = parser.parse_args(arguments)
     limits = Limits(*asked.limits)
     if not all(1 <= limit <= GREATEST_LIMIT for limit in limits):
-        parser.error(f"a limit is from 1 to {GREATEST_LIMIT}")
+        parser.error(f"a limit must be from 1 to {GREATEST_LIMIT}")
     if asked.files:
         return max([_print_named(name, limits) for name in asked.files])
-    return _print_file({}, sys.stdin.buffer, limits)
+    with naming("standard input"):
+        if sys.stdin is None:
+            raise OSError(errno.EBADF, os.strerror(errno.EBADF))
+        return _print_file({}, sys.stdin.buffer, limits)
+
+
+def _prepare() -> None:
+    """Make SIGINT and SIGTERM raise exceptions, and standard output accept any name."""
+    if sys.stdout is not None and hasattr(sys.stdout, "reconfigure"):
+        # (a name may have characters that the encoding of the output lacks)
+        sys.stdout.reconfigure(errors="backslashreplace")
+    if threading.current_thread() is threading.main_thread():
+        # (the process that started this one may have set a signal to be ignored)
+        if signal.getsignal(signal.SIGINT) is signal.SIG_DFL:
+            signal.signal(signal.SIGINT, signal.default_int_handler)
+        if signal.getsignal(signal.SIGTERM) is signal.SIG_DFL:
+            signal.signal(signal.SIGTERM, _terminate)
+
+
+def _terminate(*_: Any) -> None:
+    raise Terminated
+
+
+def _place_of_fault(fault: BaseException) -> str:
+    """Return the file and the line at which an exception was raised."""
+    trace = fault.__traceback__
+    while trace is not None and trace.tb_next is not None:
+        trace = trace.tb_next
+    return f"{os.path.basename(trace.tb_frame.f_code.co_filename)}:{trace.tb_lineno}" if trace else "?"
+
+
+def _ended(fault: BaseException) -> Tuple[str, int]:
+    """Return why an exception ends the program, and the exit status."""
+    if isinstance(fault, KeyboardInterrupt):
+        return ": ".join([*fault.args, "terminated" if isinstance(fault, Terminated) else "interrupted"]), STOPPED
+    if isinstance(fault, CannotWrite):
+        return f"standard output: {fault}", FAILED
+    if isinstance(fault, (Failed, ImportError)):
+        return str(fault), FAILED
+    if isinstance(fault, MemoryError):
+        return "out of memory", FAILED
+    return f"internal error: {type(fault).__name__}: {fault} ({_place_of_fault(fault)})", FAILED
 
 
 def main(words: Optional[List[str]] = None) -> int:
-    """Prints a line of JSON for each envelope of the files, or else of standard input, and one for each refusal; after the word `explain` it
-    explains a file. Answers the status: 0 all accepted, 1 refused, 2 a mistake in the words, 3 a file, output or memory fault."""
+    """Run `python3 -m iim`.
+
+    It prints a line of JSON for each envelope and for each refusal, or explains a file.
+    Each failure is one line of standard error, `program: what: reason`.
+
+    Args:
+        words: The command-line arguments [default: those of the process]. If the first is
+            `explain`, a file is explained.
+
+    Returns:
+        The exit status: 0 if all is accepted, 1 if input was rejected, 2 for a usage error, 3 if a
+        file, the output or memory failed, and 130 after SIGINT or SIGTERM.
+    """
     words = sys.argv[1:] if words is None else words
+    explains = words[:1] == ["explain"]
     try:
-        return _explain(words[1:]) if words[:1] == ["explain"] else _print_files(words)
-    except MemoryError:
-        sys.stderr.write("out of memory\n")
-    except CannotWrite:
-        sys.stderr.write("cannot write\n")
-    except ImportError as fault:
-        sys.stderr.write(f"{fault}\n")
-    return 3
+        _prepare()
+        try:
+            return _explain(words[1:]) if explains else _print_files(words)
+        except SystemExit as end:
+            if not end.code:
+                # (--help was printed, but not yet flushed)
+                print_text("")
+            raise
+    except (Exception, KeyboardInterrupt) as fault:
+        reason, status = _ended(fault)
+        with contextlib.suppress(ValueError):
+            # (against a second Ctrl-C while the program ends)
+            signal.signal(signal.SIGINT, signal.SIG_IGN)
+        _abandon(sys.stdout)
+        complain(f"{program_name(explains)}: {reason}")
+        return status
 
 
 if __name__ == "__main__":
+    # (explain.py imports this module by name, and must get this instance: `main` catches its
+    # exceptions)
+    sys.modules.setdefault("iim", sys.modules[__name__])
     sys.exit(main())

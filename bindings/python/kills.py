@@ -1,16 +1,18 @@
 #!/usr/bin/env python3
-"""Kills runs of archive.py that write an index at random moments, and continues them: the index has to be that of one run.
+"""Kill runs of archive.py that write an index, restart them, and check the index.
 
-  bindings/python/kills.py [FILES [KILLS [SEED]]]    4,000 files, 10 kills and seed 1 where no number is given
+  bindings/python/kills.py [FILES [KILLS [SEED]]]    [default: 4,000 files, 10 kills, seed 1]
 
-Files are made in a temporary folder, of one to four hundred envelopes, some damaged, many with the id of another. A run has two
-workers. At each kill the process that writes is killed, or a worker, or all of them, by SIGKILL. It prints what each run came to, and
-the status is 1 where the index differs. The tests run it with fewer files.
+The files are generated in a temporary directory, with one to four hundred envelopes each, some
+damaged, many with the id of another. A run has two workers. Each SIGKILL ends the process that
+writes, a worker, or all of them. The totals of each run are printed. The exit status is 1 if the
+index differs. The tests run it with fewer files.
 """
 import contextlib
 import os
 import random
 import signal
+import sqlite3
 import subprocess
 import sys
 import tempfile
@@ -27,7 +29,7 @@ NOW = "2024-03-01T12:00:00Z"
 
 
 def make(folder, files, chance):
-    """Writes so many files, a hundred in each folder."""
+    """Write this many files, a hundred in each directory."""
     bodies = [rules.object_of(envelopes.STORY_HEAD, [b"a word of copy"] * count, b"") for count in (1, 40, 200)]
     for at in range(files):
         os.makedirs(f"{folder}/{at // 100:04}", exist_ok=True)
@@ -40,7 +42,7 @@ def make(folder, files, chance):
 
 
 def children(process):
-    """The processes that a process has started."""
+    """Return the children of a process."""
     found = []
     for number in filter(str.isdigit, os.listdir("/proc")):
         with contextlib.suppress(OSError), open(f"/proc/{number}/stat") as stat:
@@ -50,21 +52,34 @@ def children(process):
 
 
 def is_alive(process):
-    """Whether a process is there, and no zombie."""
+    """Check whether a process exists and is no zombie."""
     with contextlib.suppress(OSError), open(f"/proc/{process}/stat") as stat:
         return stat.read().rpartition(")")[2].split()[0] != "Z"
     return False
 
 
 def begin(index, tree):
-    """A run that writes an index."""
+    """Start a run that writes an index."""
     words = [sys.executable, f"{HERE}/archive.py", "--now", NOW, "--workers", "2", "--batch", "4", "--into", index, tree]
     return subprocess.Popen(words, stdout=subprocess.PIPE, stderr=subprocess.PIPE)
 
 
-def killed(process, seconds, whom):
-    """Kills the process that writes, a worker or all of them after so many seconds. Answers whether it was still running, and the
-    processes that it had started."""
+def files_in(index):
+    """Return how many files an index lists, 0 if there is none yet."""
+    with contextlib.suppress(sqlite3.Error), contextlib.closing(sqlite3.connect(f"file:{index}?mode=ro", uri=True)) as database:
+        return database.execute("SELECT count(*) FROM files").fetchone()[0]
+    return 0
+
+
+def killed(process, index, more, seconds, whom):
+    """Kill the process that writes, a worker or all of them, some seconds after the index has more files.
+
+    Returns:
+        Whether the process that writes was still running, and its children.
+    """
+    wanted, end = files_in(index) + more, time.monotonic() + 20
+    while process.poll() is None and files_in(index) < wanted and time.monotonic() < end:
+        time.sleep(0.002)
     time.sleep(seconds)
     mine = children(process.pid)
     running = process.poll() is None
@@ -76,7 +91,7 @@ def killed(process, seconds, whom):
 
 
 def rows_of(index):
-    """What an index has: its rows, and what it knows of each file but for its number."""
+    """Return the rows of an index, its entries of files without numbers, and SQLite's check."""
     import archive_index
 
     rows = subprocess.run([sys.executable, f"{HERE}/archive.py", "query", "--now", NOW, index], stdout=subprocess.PIPE, check=True).stdout
@@ -86,21 +101,27 @@ def rows_of(index):
 
 
 def endure(files, kills, seed, tell=print):
-    """Whether an index that was written by runs that were killed is that of one run, and how many of them were running when they were
-    killed. Raises where a worker goes on after the process that writes."""
+    """Check that an index written by killed runs is that of one run.
+
+    Returns:
+        Whether they are equal, and how many of the runs were killed while running.
+
+    Raises:
+        AssertionError: A worker continued after the process that writes had ended.
+    """
     chance = random.Random(seed)
     with tempfile.TemporaryDirectory() as folder:
         tree = f"{folder}/tree"
         make(tree, files, chance)
-        began = time.monotonic()
         one = begin(f"{folder}/one", tree)
         tell(one.communicate()[0].decode().strip())
-        took = time.monotonic() - began
         hit = 0
         for at in range(kills):
-            # (later runs find less to do, so the first ones are killed early)
-            whom = ("writer", "all", "worker")[at % 3]
-            running, mine = killed(begin(f"{folder}/many", tree), chance.uniform(0.1, 0.1 + took / kills), whom)
+            # (by the files that are written, and not by the time alone, which depends on what else runs)
+            more, seconds = chance.randrange(files // (2 * kills)), chance.uniform(0, 0.02)
+            # (a run that loses a worker goes on to its end: these come last)
+            whom = ("writer", "all")[at % 2] if at < kills - kills // 3 else "worker"
+            running, mine = killed(begin(f"{folder}/many", tree), f"{folder}/many", more, seconds, whom)
             hit += running
             end = time.monotonic() + 20
             while any(map(is_alive, mine)):

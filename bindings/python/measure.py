@@ -1,15 +1,18 @@
 #!/usr/bin/env python3
-"""Measures archive.py on generated files, beside `iimwire audit` in the same run. It is no part of the gate.
+"""Measure archive.py on generated files, and compare it with `iimwire audit`.
 
-  bindings/python/measure.py [TURNS [PROGRAM]]    3 turns and crates/iimwire/out/iimwire where nothing is given
+  bindings/python/measure.py [TURNS [PROGRAM]]    [default: 3 turns, crates/iimwire/out/iimwire]
 
-There are two trees: 4,000 files of one envelope, and 40 files of 200 envelopes, which are a task each. Each envelope has 22 datasets and a
-story of 4 KB. A turn is a run, its start and its output counted. A line has the best turn, and the fewest processor seconds that a turn
-took, of all its processes together: these tell what it costs where a machine has other work too. `iimwire audit` is one process for each
-file. `again` is a second run over the same tree, which has not changed.
+There are two trees: 4,000 files of one envelope, and 40 files of 200 envelopes, each of which is a
+task. Each envelope has 22 datasets and a story of 4 KB. A turn is a complete run with its start and
+its output. A line has the best elapsed time and the least processor time of all processes of a turn,
+which does not depend on other work of the machine. `iimwire audit` is one process per file. `again`
+is a second run over the same, unchanged tree.
 
-  bindings/python/measure.py --rows N     so many made rows through the process that writes: rows a second, and its memory
-  bindings/python/measure.py --files N    so many files of one envelope, of three sizes: an index of them, and a second run
+  bindings/python/measure.py --rows N     pass N generated rows through the process that writes
+  bindings/python/measure.py --files N    index N files of one envelope, of three sizes, twice
+
+The gate does not run this.
 """
 import contextlib
 import os
@@ -33,7 +36,7 @@ HEAD = [b"TST", b"0007", b"4", b"ECO", b"910", b""]
 
 
 def envelope(number):
-    """An envelope of 22 datasets and a story of 4 KB."""
+    """Return an envelope of 22 datasets and a story of 4 KB."""
     first = [(1, 0, b"\0\4"), (1, 20, b"\0\2"), (1, 22, b"\0\1"), (1, 30, b"TST"), (1, 40, b"%08d" % number), (1, 70, b"20240301")]
     second = [(2, 0, b"\0\4"), (2, 105, b"Rates are held"), (2, 120, b"a" * 200), *((2, 25, b"keyword %d" % at) for at in range(13))]
     lines = [b"Word by word it goes on to the end of a line of wire copy." for _ in range(70)]
@@ -41,7 +44,7 @@ def envelope(number):
 
 
 def make(folder, files, envelopes):
-    """Writes so many files of so many envelopes, a hundred in each folder."""
+    """Write files of `envelopes` envelopes each, a hundred in each directory."""
     for at in range(files):
         os.makedirs(f"{folder}/{at // 100:04}", exist_ok=True)
         with open(f"{folder}/{at // 100:04}/{at % 100:02}.iim", "wb") as to:
@@ -49,7 +52,13 @@ def make(folder, files, envelopes):
 
 
 def seconds(words, turns, before=None):
-    """The least seconds that the words take, and the least of a processor; before each turn something is done."""
+    """Return the least elapsed and processor time of a command, in seconds, over some turns.
+
+    Args:
+        words: The command and its arguments.
+        turns: The number of turns.
+        before: A function that is called before each turn.
+    """
     taken, used = [], []
     for _ in range(turns):
         if before is not None:
@@ -65,14 +74,14 @@ def seconds(words, turns, before=None):
 
 
 def remove(index):
-    """Removes an index."""
+    """Remove an index."""
     for end in "", "-wal", "-shm", ".lock":
         with contextlib.suppress(FileNotFoundError):
             os.remove(index + end)
 
 
 def compare(turns, command):
-    """Runs both trees in each way."""
+    """Measure both trees in each way."""
     print(f"{'files':>6} {'envelopes':>9} {'way':<22} {'seconds':>8} {'processor':>9} {'us a file':>9} {'us an envelope':>14} {'ratio':>6}")
     for files, envelopes, batch in (4_000, 1, 128), (40, 200, 1):
         with tempfile.TemporaryDirectory() as folder:
@@ -95,10 +104,11 @@ def compare(turns, command):
                 print(f"{files:6} {files * envelopes:9} {way:<22} {took:8.2f} {used:9.3f} {a_file:9.1f} {an_envelope:14.1f} {used / least:6.2f}", flush=True)
 
 
-# The process that writes: made rows through it. Each hundredth has the id of one before it.
+# Passes generated rows through the process that writes. Each hundredth has the id of an earlier
+# one.
 WRITER = """
 import argparse, marshal, random, re, sys, time
-import archive, archive_index
+import archive, archive_index, archive_rows
 path, rows = sys.argv[1], int(sys.argv[2])
 index = archive_index.Index(path)
 kept = archive.Kept(index, argparse.Namespace(name="*", into=path), archive.Silence())
@@ -113,7 +123,7 @@ for first in range(0, rows, 2_000):
             date = f"2024{at // 3_000_000 % 12 + 1:02}{at // 100_000 % 28 + 1:02}"
             of_file += file, nth + 1, nth * 4700, 4700, "TST", "%08d" % (at % 10**8), date, "5", 4200, 2, 910, 905, 1_709_290_800, None, None
         files.append((file, b"/archive/%06d/%02d.iim" % (file // 100, file % 100), 940_000, 1, 940_000, "accepted", None, of_file, None))
-    block = marshal.dumps(files, archive.FORM)
+    block = marshal.dumps(files, archive_rows.FORM)
     began = time.process_time()
     kept.add(marshal.loads(block))
     wrote += time.process_time() - began
@@ -128,7 +138,7 @@ with open("/proc/self/status") as status:
 
 
 def write_rows(rows):
-    """Made rows through the process that writes, and then the repeats of the index."""
+    """Measure the process that writes on generated rows, and then the query of the repeats."""
     with tempfile.TemporaryDirectory() as folder:
         index = f"{folder}/index"
         subprocess.run([sys.executable, "-c", WRITER, index, str(rows)], check=True, env={**os.environ, "PYTHONPATH": HERE})
@@ -138,11 +148,11 @@ def write_rows(rows):
         with subprocess.Popen(words, stdout=subprocess.PIPE) as query:
             count = sum(1 for _ in query.stdout) - 1
             _, _, usage = os.wait4(query.pid, 0)
-        print(f"repeats told: {count:,} in {time.monotonic() - began:.1f} seconds, memory {usage.ru_maxrss / 1000:.0f} MB")
+        print(f"repeats: {count:,} in {time.monotonic() - began:.1f} seconds, memory {usage.ru_maxrss / 1000:.0f} MB")
 
 
 def index_files(files):
-    """Real files of three sizes: an index, and a second run."""
+    """Measure the index of real files of three sizes, and a second run."""
     with tempfile.TemporaryDirectory() as folder:
         tree, index = f"{folder}/tree", f"{folder}/index"
         sizes = [envelope(1), rules.packed(SMALL, rules.object_of(HEAD, [b""], b""), 1024), rules.packed(SMALL, rules.object_of(HEAD, [b"a line of copy"] * 1400, b""), 32_768)]

@@ -1,21 +1,25 @@
 #!/usr/bin/env python3
-"""Runs iim.py and archive.py, and compares what they answer with what the built command prints, with the second reading of the rules
-in tests/rules.py, and with values that were worked out by hand.
+"""Check iim.py and archive.py against the built command, a test oracle and hand-computed values.
 
-  bindings/python/test.py [PROGRAM]    PROGRAM: crates/iimwire/out/iimwire of this repository where none is named
+The test oracle is tests/rules.py.
 
-It needs the library, which bindings/build makes, and the built command. Tests on Dask distributed, GNU parallel and a C compiler are
-run where these are installed, and else named. With TIMES in the environment it tells the seconds of each test.
+  bindings/python/test.py [PROGRAM]    PROGRAM is the command [default: crates/iimwire/out/iimwire]
 
-Prints each failure, and then 'N passed, M failed', and ', K skipped' where tests were not run. The status is 1 where something
-failed.
+The tests need the library, which bindings/build builds, and the built command. Tests that need Dask
+distributed, GNU parallel or a C compiler are skipped if that is not installed. With TIMES in the
+environment the seconds of each test are printed.
+
+Prints each failure, then 'N passed, M failed', and ', K skipped' if tests were not run. The exit
+status is 1 if a test failed.
 """
 import array
+import collections
 import concurrent.futures
 import contextlib
 import ctypes
 import datetime
 import functools
+import inspect
 import io
 import itertools
 import json
@@ -25,6 +29,7 @@ import random
 import re
 import shutil
 import signal
+import socket
 import subprocess
 import sys
 import tempfile
@@ -39,7 +44,7 @@ SAMPLES = f"{TOP}/samples"
 SECONDS = 300
 NOW = "2024-03-01T12:00:00Z"
 sys.path[:0] = [HERE, f"{TOP}/tests"]
-# What is started here finds the module too, and leaves no files beside the sources.
+# Child processes find the module, too, and write no files beside the sources.
 sys.dont_write_bytecode = True
 os.environ["PYTHONDONTWRITEBYTECODE"] = "1"
 MODULES = {**os.environ, "PYTHONPATH": os.pathsep.join(filter(None, [HERE, os.environ.get("PYTHONPATH")]))}
@@ -50,12 +55,13 @@ import iim
 import rules
 import tickets
 from envelopes import SMALLEST, STORY, STORY_FIELDS, STORY_HEAD, STORY_LINES, VARIED
+from pages import causes
 
 TESTS = []
 
 
 class NotHere(Exception):
-    """Why a test can't be run on this machine."""
+    """Raised if a test can't be run on this machine. Its text is the reason."""
 
 
 def test(function):
@@ -74,7 +80,7 @@ def holds(fact, words):
 
 
 def raised(kind, function, *words, **named):
-    """What the function raises, which has to be of this kind."""
+    """Return the exception that a function raises, which must be of this kind."""
     try:
         got = function(*words, **named)
     except kind as fault:
@@ -92,7 +98,7 @@ def file(folder, name, octets):
 
 @functools.lru_cache(maxsize=None)
 def samples():
-    """The octets of each sample, by its path below samples/."""
+    """Return the bytes of each sample, by its path below samples/."""
     found = {}
     for at, _, names in os.walk(SAMPLES):
         for name in names:
@@ -108,18 +114,22 @@ def run(words, octets=b"", **more):
     return ran.returncode, ran.stdout, ran.stderr
 
 
-# --- What the command prints, and what the module answers ---
+# --- The output of the command, and the results of the module ---
 
 
 def asked(octets):
-    """What the command prints: of `check` and `show` the status and the output, of `story` the errors too."""
+    """Return the results of `check`, `show` and `story`; of the last with its errors."""
     checked, shown, told = (run([PROGRAM, command], octets) for command in ("check", "show", "story"))
     same((checked[2], shown[2]), (b"", b""))
     return checked[:2], shown[:2], told
 
 
 def told(envelopes):
-    """The same, put together from what the module gives: of a function that gives envelopes, each with its story."""
+    """Return the same from the results of the module.
+
+    Args:
+        envelopes: A function that yields envelopes, each with its story.
+    """
     checked, shown, story, status = [], [], b"", 0
     try:
         for envelope in envelopes():
@@ -137,7 +147,7 @@ def told(envelopes):
 
 
 def with_space(word, octets):
-    """A word, and the shown octets where there are any."""
+    """Return a word, followed by the escaped bytes unless there are none."""
     return f"{word} {rules.shown(octets)}\n" if octets else f"{word}\n"
 
 
@@ -146,7 +156,7 @@ def or_dash(number):
 
 
 def shown_lines(envelope):
-    """What `show` prints of an envelope."""
+    """Return the lines that `show` prints for an envelope."""
     header, sizes = envelope.header, envelope.sizes
     yield f"envelope {envelope.nth}\n"
     for field in envelope.fields:
@@ -160,12 +170,12 @@ def shown_lines(envelope):
 
 
 def read_whole(octets):
-    """The envelopes of octets as `read` gives them."""
+    """Yield the envelopes of an input by `read`."""
     return told(lambda: iim.read(io.BytesIO(octets)))
 
 
 def compare(cases, read=read_whole):
-    """Compares the module with the command on each case, a few commands at a time."""
+    """Compare the module with the command on each case, with several commands at a time."""
     cases = list(cases)
     with concurrent.futures.ThreadPoolExecutor(os.cpu_count()) as pool:
         for octets, want in zip(cases, pool.map(asked, cases)):
@@ -173,7 +183,7 @@ def compare(cases, read=read_whole):
 
 
 def in_pieces(octets, size, resumes=False):
-    """The envelopes of octets that come in pieces of one size; from one piece to the next a ticket alone is kept, if asked for."""
+    """Yield the envelopes of an input in chunks, with a receiver resumed for each if `resumes`."""
     receiver, parts = iim.Receiver(), []
     for begin in range(0, len(octets), size):
         piece, start = octets[begin : begin + size], 0
@@ -200,14 +210,14 @@ def in_pieces(octets, size, resumes=False):
 
 
 def changed(octets, others):
-    """The octets with each one of them changed, to each of the others that are given for it."""
+    """Yield an input with each of its bytes changed to each of the values given for it."""
     for at, octet in enumerate(octets):
         for other in others(octet):
             yield octets[:at] + bytes([other]) + octets[at + 1 :]
 
 
 def made(seed, count):
-    """Random envelopes: right ones, spoiled ones and damaged ones."""
+    """Return random envelopes: valid, invalid and damaged ones."""
     chance = random.Random(seed)
     for at in range(count):
         story = envelopes.wrong_story(chance) if at % 5 == 1 else envelopes.story(chance)
@@ -239,16 +249,16 @@ def reads_random_envelopes_as_the_command():
     compare(made(1, 400))
 
 
-# --- Against the second reading of the rules ---
+# --- Comparison with the test oracle ---
 
 
 def by_rules(octets, limits=rules.LIMITS):
-    """What the rules say of one envelope: its length, or its refusal."""
+    """Return the verdict of the test oracle on one envelope: its length, or its refusal."""
     return answer_of(rules.read(octets, limits))
 
 
 def answer_of(envelope):
-    """The same of octets that the rules have read."""
+    """Return the same verdict for an input that the test oracle has read."""
     return envelope.answer() if envelope.answer() != "more" else envelope.end()
 
 
@@ -326,7 +336,7 @@ def gives_the_tickets_that_the_rules_tell():
         same((receiver.ticket, receiver.octets), (iim.Receiver().ticket, 0))
 
 
-# --- Pieces, places and limits ---
+# --- Chunks, saved states and limits ---
 
 
 @test
@@ -360,7 +370,7 @@ def takes_pieces_of_each_kind():
         raised(ValueError, receiver.feed, SMALLEST, start)
 
 
-# Each kind of octets, the last one with others between them.
+# Each type of bytes; the last one is not contiguous.
 KINDS = [bytes, bytearray, memoryview, iim.Octets, lambda octets: array.array("B", octets), lambda octets: memoryview(spread(octets))[::2]]
 
 
@@ -369,7 +379,7 @@ def spread(octets):
 
 
 def made_with(fields, head, lines, trailer, kind=bytes, how=list):
-    """The script of these, each as octets of this kind."""
+    """Return the script of these values, each converted to one type of bytes."""
     fields = how((record, number, kind(octets)) for record, number, octets in fields)
     return iim.script(fields, how(map(kind, head)), how(map(kind, lines)), kind(trailer))
 
@@ -446,7 +456,7 @@ def tells_what_came_before_a_refusal():
                 continue
             except iim.Refused as caught:
                 refused = pickle.loads(pickle.dumps(caught))
-            # (the datasets that have ended in the octets before the refused one)
+            # (the datasets that are complete before the rejected byte)
             before = rules.read(octets[refused.at : refused.octet_in_file])
             same((name, [tuple(field) for field in refused.fields]), (name, [tuple(field) for field in before.fields]))
             firsts = [rules.first(before.fields, 1, number) for number in (30, 40, 70)]
@@ -471,7 +481,7 @@ def takes_more_after_a_truncation():
 
 
 def read_under(limits):
-    """What `read` answers to the worked story under limits."""
+    """Return the result of `read` for the worked story under limits."""
     try:
         (envelope,) = iim.read(io.BytesIO(STORY), iim.Limits(*limits))
         return f"done {envelope.length}"
@@ -520,7 +530,7 @@ def takes_just_the_tickets_of_places():
     later = iim.Receiver.resume(receiver.ticket, 180, iim.Limits(78, 16), nth=7, at=1000)
     envelope = later.feed(STORY[180:]).envelope
     same((envelope.nth, envelope.at, envelope.length, later.nth, later.at), (7, 1000, 246, 8, 1246))
-    # A ticket of an envelope that has ended gives it again.
+    # The ticket of a complete envelope yields it again.
     again = iim.Receiver.resume(envelope._ticket, 246)
     same(again.end(), None)
     fed = again.feed(SMALLEST)
@@ -557,6 +567,21 @@ def tells_the_worked_story():
 
 
 @test
+def documents_each_name_and_attribute():
+    for name in iim.__all__:
+        thing = getattr(iim, name)
+        text = inspect.getdoc(thing) or ""
+        same((name, [each for each in getattr(thing, "_fields", ()) if f"\n    {each}: " not in text]), (name, []))
+        holds(re.match("[A-Z][^\n]*[.](\n\n|$)", text), f"{name} has no summary: {text[:100]!r}")
+    refusals = [
+        raised(iim.Refused, iim.check, b"x"), raised(iim.ScriptRefused, iim.pack, b""), raised(iim.TicketRefused, iim.Receiver.resume, b"x", 1),
+    ]  # fmt: skip
+    for thing in iim.Receiver(), next(iim.read(io.BytesIO(SMALLEST))), *refusals:
+        text = inspect.getdoc(type(thing))
+        same((type(thing), [each for each in vars(thing) if each[0] != "_" and f"\n    {each}: " not in text]), (type(thing), []))
+
+
+@test
 def tells_octets_as_text():
     octets = SMALLEST[:62] + rules.dataset_of(2, 105, "Zürich €".encode()) + SMALLEST[62:]
     (envelope,) = iim.read(io.BytesIO(octets))
@@ -572,7 +597,7 @@ def tells_octets_as_text():
 
 
 def tables():
-    """The rows of docs/FORMAT.md, by record and number: the name, and whether it repeats."""
+    """Return the rows of docs/FORMAT.md by numbers: the name, and whether the dataset repeats."""
     with open(f"{TOP}/docs/FORMAT.md") as page:
         rows = re.findall(r"^\| (\d+):(\d+) \| ([^|]+) \| [^|]+ \| [^|]+ \| [^|]+ \| (yes|no) \|$", page.read(), re.M)
     return {(int(record), int(number)): (name, repeats == "yes") for record, number, name, repeats in rows}
@@ -592,12 +617,11 @@ def knows_the_names_of_datasets():
 @test
 def knows_the_names_of_causes_and_layers():
     known = {**rules.CAUSES, **rules.OTHER_CAUSES}
-    with open(f"{TOP}/docs/CAUSES.md") as page:
-        named = re.findall(r"(?<=[|,] )(\d+) ([A-Z]\w+)(?= \||,)", page.read())
+    named = [(cause.number, cause.name) for cause in causes.causes()]
     holds(len(named) > 35, f"{len(named)} causes")
     around = {71: "Read", 72: "Interrupted", 90: "TooManyEnvelopes", 100: "TicketForm", 101: "TicketVersion", 102: "Impossible"}
     listed = {**known, **around}
-    same({int(number): name for number, name in named}, listed)
+    same(dict(named), listed)
     same({number: iim.cause_name(number) for number in range(256) if iim.cause_name(number)}, listed)
     same([iim.layer_name(number) for number in range(9)], [None, *rules.LAYERS, None])
     same(iim.layer_name(255), None)
@@ -605,14 +629,7 @@ def knows_the_names_of_causes_and_layers():
 
 @test
 def knows_what_the_causes_mean():
-    # (a cause that stands in two tables means what the first says)
-    want, column = {}, 0
-    with open(f"{TOP}/docs/CAUSES.md") as page:
-        for line in page:
-            cells = [cell.strip() for cell in line.strip().strip("|").split(" | ")]
-            column = cells.index("What it means") if cells[0] == "Cause" else column
-            if line.startswith("|") and (number := re.match(r"(\d+) \w", cells[0])):
-                want.setdefault(int(number[1]), cells[column])
+    want = causes.meanings()
     same(len(want) >= 40, True)
     same({number: iim.cause_text(number) for number in range(256) if iim.cause_text(number)}, want)
     raised(ValueError, iim.cause_text, 256)
@@ -633,7 +650,7 @@ def tells_the_octets_that_can_come_next():
 
 @test
 def tells_where_the_refused_token_begins():
-    # An octet in the head of 1:70 at 42, in its value, in the text and in the head of 9:10 at 105.
+    # A byte in the tag of 1:70 at 42, in its value, in the text and in the tag of 9:10 at 105.
     for octet, bad, kind, began in [(42, 0x1D, 0, 42), (44, 0x14, 1, 42), (50, 0x41, 2, 47), (54, 0x41, 2, 47), (103, 0x04, 2, 103), (107, 0x0B, 1, 105)]:
         front, rest = iim.Receiver(), SMALLEST[:octet] + bytes([bad]) + SMALLEST[octet + 1 :]
         refused = raised(iim.Refused, lambda: list(iim.read(io.BytesIO(rest))))
@@ -714,7 +731,7 @@ def tells_each_dataset_under_its_own_name():
 
 
 def iim_mandatory():
-    """The plain names of the datasets that every envelope has."""
+    """Return the attribute names of the mandatory datasets."""
     (envelope,) = iim.read(f"{SAMPLES}/smallest.iim")
     return {name for name in iim._plain_names() if getattr(envelope, name)}
 
@@ -723,7 +740,7 @@ def iim_mandatory():
 
 
 def packs(words, script):
-    """What the command packs, or the line that it prints."""
+    """Return the envelope that the command packs, or the line that it prints."""
     status, output, errors = run([PROGRAM, "pack", *words], script)
     return output if status == 0 else errors.decode().rstrip("\n")
 
@@ -794,7 +811,7 @@ def packs_what_was_read():
 
 
 def is_header(head):
-    """Whether a message has just this header, by the rules."""
+    """Check by the test oracle whether a message has exactly this header."""
     message = rules.Message()
     causes = {message.take(octet) for octet in rules.object_of(head, [b""], b"")}
     return causes == {0} and message.part == rules.Message.AFTER and message.head() == head
@@ -803,7 +820,7 @@ def is_header(head):
 @test
 def makes_no_script_of_parts_that_can_t_be_in_a_header():
     names = "source", "number", "priority", "category", "words", "info"
-    # (a line more, a story in place of another, and parts that move)
+    # (an additional line, a story in place of another, and parts that move)
     for name, part in ("words", b"0\ntext\nforged"), ("category", b"N 7 info"), ("source", b"X\nmessage Y"), ("info", b"a\ntext\nb"):
         head = [part if each == name else octets for each, octets in zip(names, STORY_HEAD)]
         same(str(raised(ValueError, iim.script, [], head, [])), f"{name} of the header can't be {part!r}")
@@ -843,7 +860,7 @@ def reads_files_of_each_kind():
 
 
 class OnlyRead:
-    """A file that has `read` alone, and gives so many octets at a time."""
+    """A file that has only `read`, which returns `size` bytes at a time."""
 
     def __init__(self, octets, most=3):
         self.octets, self.most = io.BytesIO(octets), most
@@ -902,7 +919,7 @@ def hands_a_story_on_as_it_comes():
 
 
 class Repeating:
-    """A file of the same octets, again and again."""
+    """A file that repeats the same bytes."""
 
     def __init__(self, octets, times):
         self.octets, self.left = octets, len(octets) * times
@@ -914,7 +931,7 @@ class Repeating:
 
 
 def most_held(function):
-    """The most octets of memory that Python has taken at once in the function, beside those before it."""
+    """Return the peak of the memory that Python allocates in a function, in bytes."""
     tracemalloc.start()
     try:
         before = tracemalloc.get_traced_memory()[0]
@@ -941,7 +958,7 @@ def holds_no_input():
 
 
 def module(words, octets=b"", python=sys.executable, **more):
-    """Runs `python3 -m iim`: the status, the values of the lines, and the errors."""
+    """Run `python3 -m iim`, and return the status, the values of the lines, and the errors."""
     status, output, errors = run([python, "-m", "iim", *words], octets, env=MODULES, **more)
     return status, [json.loads(line) for line in output.splitlines()], errors.decode()
 
@@ -969,7 +986,7 @@ TRUNCATED_AS_JSON = {
 }  # fmt: skip
 
 
-# What is known of the smallest envelope where it ends too early.
+# The known part of the smallest envelope if it is truncated.
 SMALLEST_AS_KNOWN = {
     "id": {"service": "TST", "number": "00000001", "date_sent": "20240301"},
     "fields": [
@@ -1019,26 +1036,27 @@ def takes_the_words_of_the_command():
 def tells_a_pipe_that_closed():
     reader, writer = os.pipe()
     os.close(reader)
-    # (archive.py ends quietly where nobody reads)
-    for words, told in [["-m", "iim", f"{SAMPLES}/story.iim"], b"cannot write\n"], [[f"{HERE}/archive.py", SAMPLES], b""]:
+    # (archive.py ends without an error if its reader has closed the pipe)
+    for words, told in [["-m", "iim", f"{SAMPLES}/story.iim"], b"python3 -m iim: standard output: Broken pipe\n"], [[f"{HERE}/archive.py", SAMPLES], b""]:
         ran = subprocess.run([sys.executable, *words], stdout=writer, stderr=subprocess.PIPE, env=MODULES, timeout=SECONDS)
         same((words, ran.returncode, ran.stderr), (words, 3, told))
     os.close(writer)
     with open("/dev/full", "wb") as full:
-        for words in [["-m", "iim", f"{SAMPLES}/story.iim"], [f"{HERE}/archive.py", SAMPLES]]:
+        of_module, of_archive = (f"{name}: standard output: No space left on device\n".encode() for name in ("python3 -m iim", "iim-archive"))
+        for words, told in [["-m", "iim", f"{SAMPLES}/story.iim"], of_module], [[f"{HERE}/archive.py", SAMPLES], of_archive]:
             ran = subprocess.run([sys.executable, *words], stdout=full, stderr=subprocess.PIPE, env=MODULES, timeout=SECONDS)
-            same((words, ran.returncode, ran.stderr), (words, 3, b"cannot write\n"))
+            same((words, ran.returncode, ran.stderr), (words, 3, told))
 
 
 @test
 def says_where_the_library_is_missing():
     with tempfile.TemporaryDirectory() as folder:
-        for name in "iim.py", "archive.py", "archive_rows.py", "archive_index.py", "archive_query.py":
+        for name in "iim.py", "archive.py", "archive_files.py", "archive_rows.py", "archive_index.py", "archive_query.py", "safe_output.py":
             shutil.copy(f"{HERE}/{name}", folder)
         plain = {name: value for name, value in os.environ.items() if name not in ("IIM_LIBRARY", "LD_LIBRARY_PATH", "PYTHONPATH")}
-        # (one that is named has to be there; libm is a library, but another one)
+        # (the library named must exist; libm is another library)
         for env in plain, {**plain, "IIM_LIBRARY": f"{folder}/absent.so"}, {**plain, "IIM_LIBRARY": "libm.so.6"}:
-            # (at the first call, and not before)
+            # (raised at the first call)
             status, output, errors = run([sys.executable, "-c", "import iim; print(1, flush=True); iim.row(1, 0)"], cwd=folder, env=env)
             same((status, output, b"ImportError: no libiim.so: bindings/build makes it" in errors), (1, b"1\n", True))
             for words in ["-m", "iim"], ["archive.py"], ["archive.py", "query"]:
@@ -1046,7 +1064,9 @@ def says_where_the_library_is_missing():
                 same((words, status, errors, output[:6]), (words, 0, b"", b"usage:"))
             for words in ["-m", "iim", f"{SAMPLES}/story.iim"], ["archive.py", SAMPLES], ["archive.py", "--workers", "1", SAMPLES]:
                 status, output, errors = run([sys.executable, *words], cwd=folder, env=env)
-                same((words, status, errors[:16], output), (words, 3, b"no libiim.so: bi", b""))
+                front, _, reason = errors.partition(b"no libiim.so: bi")
+                program = b"python3 -m iim: " if words[0] == "-m" else b"iim-archive: "
+                same((words, status, front, reason[:6], output), (words, 3, program, b"ndings", b""))
         for env, cwd in ({**plain, "IIM_LIBRARY": iim._library._name}, folder), ({**plain, "PYTHONPATH": HERE}, TOP):
             same(run([sys.executable, "-c", "import iim; iim.row(1, 0)"], cwd=cwd, env=env), (0, b"", b""))
         shutil.copy(iim._library._name, f"{folder}/libiim.so")
@@ -1054,11 +1074,69 @@ def says_where_the_library_is_missing():
         same(run(words, cwd=folder, env=plain), (0, f"{folder}/libiim.so\n".encode(), b""))
 
 
+@test
+def names_a_library_that_is_too_old():
+    compiler = shutil.which("cc")
+    if compiler is None:
+        raise NotHere("no C compiler is installed")
+    with tempfile.TemporaryDirectory() as folder:
+        # (all functions of the header except one)
+        names = [name for name in iim._FUNCTIONS if name != "iim_fields"]
+        source = file(folder, "old.c", "".join(f"int {name}(void) {{ return 1; }}\n" for name in names).encode())
+        same(run([compiler, "-shared", "-fPIC", "-o", f"{folder}/old.so", source])[0], 0)
+        words = [sys.executable, "-m", "iim", f"{SAMPLES}/story.iim"]
+        status, output, errors = run(words, env={**MODULES, "IIM_LIBRARY": f"{folder}/old.so"})
+        wanted = f"python3 -m iim: {folder}/old.so is older than this module: install both from one release ({folder}/old.so: undefined symbol: iim_fields)\n"
+        same((status, output, errors.decode()), (3, b"", wanted))
+
+
+# --- Many datasets ---
+
+
+class Counting:
+    """The library, with a count of the calls of each function."""
+
+    def __init__(self, library):
+        self.library, self.calls = library, collections.Counter()
+
+    def __getattr__(self, name):
+        function = getattr(self.library, name)
+
+        def counted(*words):
+            self.calls[name] += 1
+            return function(*words)
+
+        return counted
+
+
+def many_fields(count):
+    """Return the smallest envelope with `count` keywords more, and its datasets."""
+    fields = [*envelopes.SMALLEST_FIELDS, *((2, 25, b"%08d" % at) for at in range(count))]
+    return rules.packed(fields, rules.object_of(envelopes.SMALLEST_HEAD, [b""], b""), 1024), fields
+
+
+@test
+def reads_all_datasets_in_two_calls_at_most():
+    limits = iim.Limits(200_000, 20_000)
+    # (the first call has capacity for 64 datasets)
+    for count, calls in (0, 1), (57, 1), (58, 2), (16_000, 2):
+        octets, want = many_fields(count)
+        (envelope,) = iim.read(io.BytesIO(octets), limits)
+        counting, library = Counting(iim._library), iim._library
+        iim._library = counting
+        try:
+            same([tuple(field) for field in envelope.fields], want)
+        finally:
+            iim._library = library
+        same((count, dict(counting.calls)), (count, {"iim_fields": calls}))
+        same({(type(field), type(field.octets)) for field in envelope.fields}, {(iim.Field, iim.Octets)})
+
+
 # --- Audits ---
 
 
 def audited(octets, now=NOW):
-    """What `audit` prints of the envelopes that octets begin with, but for what they repeat; and the line of the refusal, or None."""
+    """Return the rows of `audit` without repeats, and the line of the refusal, or `None`."""
     at, refused = 0, None
     for line in run([PROGRAM, "check"], octets)[1].decode("latin-1").splitlines():
         accepted = re.fullmatch(r"\d+ accepted (\d+) octets", line)
@@ -1072,7 +1150,7 @@ def audited(octets, now=NOW):
 
 
 def audit_text(nth, row):
-    """The same line of a row of `iim.audit`."""
+    """Return the same line for a row of `iim.audit`."""
     text = lambda octets: "-" if octets is None else octets.decode("latin-1")
     return (
         f"{nth} {rules.shown(row.service)} {text(row.number)} {text(row.date_sent)} priority {text(row.priority)} size {row.size}"
@@ -1081,7 +1159,7 @@ def audit_text(nth, row):
 
 
 def audit_lines(file):
-    """The lines of the rows, and that of the refusal, or None."""
+    """Return the lines of the rows, and the line of the refusal, or `None`."""
     lines, at = [], 0
     try:
         for row in iim.audit(file, now=datetime.datetime.fromisoformat(NOW.replace("Z", "+00:00"))):
@@ -1136,27 +1214,27 @@ def audits_blocks_with_more_envelopes_than_rows():
 
 
 def archive(words, python=sys.executable, **more):
-    """Runs archive.py: the status, its rows, the line of sums, and the errors."""
+    """Run archive.py, and return the status, its rows, the line of totals, and the errors."""
     status, output, errors = run([python, f"{HERE}/archive.py", "--now", NOW, *words], **more)
     lines = [json.loads(line) for line in output.splitlines()]
     return status, lines[:-1], lines[-1] if lines else None, errors.decode()
 
 
 def with_id(octets, service, number, date):
-    """An envelope of this object and this id."""
+    """Return an envelope with this object and this id."""
     first = [*envelopes.SMALLEST_FIELDS[:3], (1, 30, service), (1, 40, number), (1, 70, date)]
     return rules.packed([*first, (2, 0, b"\0\4")], octets, 1024)
 
 
 def tree_of(folder, count=60):
-    """A tree of samples and random envelopes, some damaged, with repeats between files."""
+    """Write a tree of samples and random envelopes, some damaged, with repeats between files."""
     chance = random.Random(6)
     for name, octets in samples().items():
         file(folder, f"samples/{name}", octets)
     for at in range(count):
         octets = b"".join(made(chance.randrange(10**9), 3))
         file(folder, f"random/{at % 7}/{at:04}.iim", octets)
-        # (the same service, number and date in other files; and each of the three alone)
+        # (the same service, number and date in other files; and each of the three with other ones)
         parts = [chance.choice([b"", b"AAA", b"B\x80"]), b"%08d" % chance.randrange(3), chance.choice([b"20240301", b"20240229"])]
         file(folder, f"ids/{at:04}.iim", with_id(rules.object_of(STORY_HEAD, [b"a\tb  c", b" d"], b""), *parts) * chance.randint(1, 2))
     file(folder, "empty.iim", b"")
@@ -1164,12 +1242,12 @@ def tree_of(folder, count=60):
 
 
 def files_in(folder):
-    """All files of a folder, in the order of their names' octets."""
+    """Return all files of a directory, ordered by the bytes of their names."""
     return sorted((f"{at}/{name}" for at, _, names in os.walk(folder) for name in names), key=os.fsencode)
 
 
 def audit_line(at, row, repeats):
-    """The line of `audit` for a row."""
+    """Return the line of `audit` for a row."""
     service = rules.shown(row["service"].encode("latin-1"))
     return (
         f"{at} {service} {row['number']} {row['date_sent']} priority {or_dash(row['priority'])}"
@@ -1179,7 +1257,7 @@ def audit_line(at, row, repeats):
 
 
 def check_line(row):
-    """The line of `check` for a row, and the offset in the file of the octet that is refused, or of the end of the envelope."""
+    """Return a row's line of `check`, and the offset of the rejected byte or the envelope's end."""
     told = row.get("refused")
     if told is None:
         return f"{row['envelope']} accepted {row['length']} octets", row["at"] + row["length"]
@@ -1188,7 +1266,7 @@ def check_line(row):
 
 
 def expect_audit(rows, sums, folder):
-    """Compares the rows with what `audit` prints of all envelopes in one stream, and with what `check` prints of each file."""
+    """Compare the rows with `audit` of all envelopes as one stream, and `check` of each file."""
     stream, places, lines = b"", {}, []
     at = 0
     for path in files_in(folder):
@@ -1295,7 +1373,7 @@ def reports_what_can_t_be_read_and_goes_on():
             short = lambda row: row.get("failed") or row.get("refused", {}).get("cause_name") or row["length"]
             told = [(os.path.relpath(row["file"], folder), short(row)) for row in rows]
             missing = "No such file or directory"
-            want = [("a/one.iim", 114), ("b/lost.iim", missing), ("b/pipe.iim", "no regular file"), ("b/two.iim", "Truncated")]
+            want = [("a/one.iim", 114), ("b/lost.iim", missing), ("b/pipe.iim", "not a regular file"), ("b/two.iim", "Truncated")]
             same(told, [*want, ("z.iim", 114), ("z.iim", "Marker"), ("absent", missing)])
             same(rows[4]["repeats"], {"file": f"{folder}/a/one.iim", "envelope": 1})
         same(archive([f"{folder}/a/one.iim"])[0], 0)
@@ -1314,7 +1392,7 @@ def takes_the_words_of_the_archive():
 
 
 class Started:
-    """A process that runs archive.py, with what it prints."""
+    """A process that runs archive.py, and its output."""
 
     def __init__(self, words, python=sys.executable):
         self.process = subprocess.Popen([python, f"{HERE}/archive.py", "--now", NOW, *words], stdout=subprocess.PIPE, stderr=subprocess.PIPE)
@@ -1331,7 +1409,7 @@ class Started:
 
 
 def children(process):
-    """The processes that a process has started."""
+    """Return the children of a process."""
     found = []
     for number in filter(str.isdigit, os.listdir("/proc")):
         with contextlib.suppress(OSError), open(f"/proc/{number}/stat") as stat:
@@ -1341,7 +1419,7 @@ def children(process):
 
 
 def wait_for(found, words, seconds=60):
-    """Waits until something is found."""
+    """Wait until a function returns a result."""
     end = time.monotonic() + seconds
     while time.monotonic() < end:
         got = found()
@@ -1352,7 +1430,7 @@ def wait_for(found, words, seconds=60):
 
 
 def long_tree(folder):
-    """A tree that takes a while."""
+    """Write a tree that takes a while to read."""
     for at in range(120):
         file(folder, f"{at:04}.iim", (STORY * 100 if at % 10 else STORY * 3 + SMALLEST[:50]))
     return folder
@@ -1364,7 +1442,7 @@ def goes_on_where_a_process_of_the_pool_dies():
         want = archive([long_tree(folder)])
         started = Started(["--workers", "2", "--batch", "1", folder])
         worker = wait_for(lambda: children(started.process.pid), "a worker")[0]
-        # (it holds a file from the moment on when it is stopped, or it will never end)
+        # (it has a file open when it is stopped, or it will never end)
         wait_for(lambda: started.output, "the first row")
         os.kill(worker, signal.SIGSTOP)
         time.sleep(0.5)
@@ -1373,7 +1451,7 @@ def goes_on_where_a_process_of_the_pool_dies():
         same(started.ended(), want)
 
 
-# What kills the process that reads a file named so, as a fault of the library would.
+# Kills the process that reads a file of this name, as a crash of the library would.
 KILLER = """
 import os, archive, archive_rows
 # (a worker runs this twice)
@@ -1416,34 +1494,42 @@ def loses_only_the_file_at_which_processes_die():
 
 @functools.lru_cache(maxsize=None)
 def python_with_distributed():
-    """A Python that has Dask distributed: this one, or that of the system."""
+    """Return a Python that has Dask distributed: this one, or that of the system."""
     for python in sys.executable, "/usr/bin/python3":
         with contextlib.suppress(OSError):
-            # (to import it would take a second)
+            # (importing it would take a second)
             if run([python, "-c", "import importlib.util, sys; sys.exit(importlib.util.find_spec('distributed') is None)"])[0] == 0:
                 return python
     raise NotHere("no Python here has distributed (Debian: python3-distributed)")
 
 
 @contextlib.contextmanager
-def cluster(count, *more):
-    """A scheduler and so many workers, each a process, run with more words: the address, and the workers' processes."""
+def cluster(count, *more, threads="1", env=MODULES):
+    """Start a scheduler and workers, and yield the address and the workers' processes.
+
+    Args:
+        count: The number of workers.
+        more: More arguments of each worker.
+        threads: The number of threads of each worker, or `None` for the worker's default.
+        env: The environment.
+    """
     python, started = python_with_distributed(), []
     with tempfile.TemporaryDirectory() as folder, open(f"{folder}/log", "wb") as log:
-        options = {"stdout": log, "stderr": log, "cwd": folder, "env": MODULES}
+        options = {"stdout": log, "stderr": log, "cwd": folder, "env": env}
         try:
             words = ["--host", "127.0.0.1", "--port", "0", "--no-dashboard", "--scheduler-file", f"{folder}/scheduler"]
             started.append(subprocess.Popen([python, "-m", "distributed.cli.dask_scheduler", *words], **options))
             address = wait_for(lambda: address_in(f"{folder}/scheduler"), "the scheduler")
-            words = [address, "--nthreads", "1", "--no-dashboard", "--local-directory", folder, *(more or ["--no-nanny"])]
+            of_threads = [] if threads is None else ["--nthreads", threads]
+            words = [address, *of_threads, "--no-dashboard", "--local-directory", folder, *(more or ["--no-nanny"])]
             for _ in range(count):
                 started.append(subprocess.Popen([python, "-m", "distributed.cli.dask_worker", *words], **options))
             wait = f"import distributed, sys; distributed.Client(sys.argv[1]).wait_for_workers({count})"
-            same((run([python, "-c", wait, address])[0]), 0)
+            same((run([python, "-c", wait, address])[0] if count else 0), 0)
             yield address, started[1:]
         finally:
             for process in started:
-                # (a nanny first: it would start another worker)
+                # (nannies first, since a nanny restarts its worker)
                 mine = children(process.pid)
                 process.kill()
                 process.wait(SECONDS)
@@ -1468,19 +1554,64 @@ def audits_a_tree_on_distributed():
             same((batch, got[:3]), (batch, want[:3]))
 
 
+def busy_tree(folder):
+    """Write some hundred files of one to sixty envelopes, some damaged, all with different ids."""
+    for at in range(300):
+        octets = [with_id(rules.object_of(STORY_HEAD, [b"a word"], b""), b"T%03d" % at, b"%08d" % nth, b"20240301") for nth in range(1 + at * 7 % 60)]
+        file(folder, f"{at:04}.iim", b"".join(octets) + (b"\x1d" if at % 9 == 0 else b""))
+    return folder
+
+
+@test
+def reads_the_same_rows_on_threads():
+    with tempfile.TemporaryDirectory() as folder:
+        program = [sys.executable, "-c", ON_THREADS, NOW, *files_in(busy_tree(folder))]
+        same(run(program, env=MODULES), (0, b"[]\n", b""))
+
+
+# Reads the files once, and then ten times on four threads that switch as often as possible. Prints
+# the
+# files with other results.
+ON_THREADS = """
+import concurrent.futures, datetime, os, sys
+import archive_rows, iim
+sys.setswitchinterval(1e-6)
+now = datetime.datetime.fromisoformat(sys.argv[1].replace("Z", "+00:00"))
+files = [archive_rows.Asked(nth, os.fsencode(path), 0, 0, None) for nth, path in enumerate(sys.argv[2:])]
+def rows_of(asked):
+    return archive_rows.read_file(asked, iim.WIRE, now)
+want = [*map(rows_of, files)]
+with concurrent.futures.ThreadPoolExecutor(4) as pool:
+    print(sorted({rows.path for _ in range(10) for rows, wanted in zip(pool.map(rows_of, files), want) if rows != wanted}))
+"""
+
+
+@test
+def audits_the_same_on_threads_of_distributed():
+    python = python_with_distributed()
+    with tempfile.TemporaryDirectory() as folder:
+        want = archive([busy_tree(folder)])
+        # (the default is one thread per processor)
+        for threads in "4", None:
+            with cluster(1, threads=threads) as (address, _):
+                for turn in range(3):
+                    got = archive(["--scheduler", address, "--batch", "4", folder], python)
+                    same((threads, turn, got[2:], got[:2] == want[:2]), (threads, turn, (want[2], ""), True))
+
+
 @test
 def goes_on_where_a_worker_is_lost():
     python = python_with_distributed()
     with tempfile.TemporaryDirectory() as folder, cluster(2) as (address, workers):
         want = archive([long_tree(folder)])
-        # A worker that is stopped takes tasks and ends none: without it no run can end.
+        # A stopped worker accepts tasks and finishes none: no run can end without its loss.
         os.kill(workers[0].pid, signal.SIGSTOP)
         started = Started(["--scheduler", address, "--batch", "1", folder], python)
         time.sleep(6)
         same(started.process.poll(), None)
         holds(len(started.output) < len(want[1]), "the run did not need the worker that was stopped")
         workers[0].kill()
-        # (of the loss the engine says a word on standard error)
+        # (Dask reports the loss on standard error)
         same(started.ended()[:3], want[:3])
 
 
@@ -1489,7 +1620,7 @@ def loses_only_the_file_at_which_workers_die():
     python = python_with_distributed()
     with tempfile.TemporaryDirectory() as folder:
         preload = file(folder, "killer.py", KILLER.encode())
-        # (each worker has a nanny, which starts another where it dies)
+        # (each worker has a nanny, which restarts it if it dies)
         with cluster(2, "--nanny", "--preload", preload) as (address, _):
             tree = poisoned_tree(f"{folder}/tree")
             expect_one_lost(archive(["--scheduler", address, "--batch", "8", tree], python), tree)
@@ -1499,12 +1630,12 @@ def loses_only_the_file_at_which_workers_die():
 
 
 def header():
-    """The text of iim.h without its comments."""
+    """Return the text of iim.h without its comments."""
     with open(f"{TOP}/bindings/c/iim.h") as text:
         return re.sub(r"/\*.*?\*/", " ", text.read(), flags=re.S)
 
 
-# Each struct of iim.h, and its part in iim.py.
+# Each struct of iim.h, and its class in iim.py.
 STRUCTS = {
     "iim_limits": iim._Limits, "iim_answer": iim._Answer, "iim_span": iim._Span, "iim_dataset": iim._Dataset, "iim_message": iim._Message,
     "iim_object": iim._Object, "iim_packing": iim._Packing, "iim_rule": iim._Rule, "iim_octet_set": iim._OctetSet, "iim_begun": iim._Begun,
@@ -1513,7 +1644,7 @@ STRUCTS = {
 
 
 def told_by_a_compiler(lines):
-    """What a C program prints that has these lines after iim.h."""
+    """Return the output of a C program with these lines after iim.h."""
     compiler = shutil.which("cc")
     if compiler is None:
         raise NotHere("no C compiler is installed")
@@ -1553,25 +1684,26 @@ def has_the_functions_and_statuses_of_the_header():
     same(told_by_a_compiler([f'printf("%d\\n", (int){name});' for name in names]), list(map(str, got)))
 
 
-# --- The page docs/USE.md ---
+# --- The guides, docs/guide, and README.md ---
 
 
 @functools.lru_cache(maxsize=None)
-def blocks():
-    """The programs and outputs of the page, in order: of each its language, if any, and its text."""
-    with open(f"{TOP}/docs/USE.md") as text:
+def blocks(page):
+    """Return the programs and outputs of a page, in order: of each its language, if any, and its text."""
+    with open(f"{TOP}/{page}") as text:
         return re.findall(r"^```(\w*)\n(.*?)^```$", text.read(), re.M | re.S)
 
 
-def block(language, words):
-    """The only block of a language that has these words, and the first block of no language or of JSON after it."""
-    (at,) = [at for at, (name, text) in enumerate(blocks()) if name == language and words in text]
-    return blocks()[at][1], next((text for name, text in blocks()[at:] if name in ("", "json")), None)
+def block(guide, language, words):
+    """Return the only block of a guide that has this language and these words, and the first block of no language or of JSON after it."""
+    found = blocks(f"docs/guide/{guide}.md")
+    (at,) = [at for at, (name, text) in enumerate(found) if name == language and words in text]
+    return found[at][1], next((text for name, text in found[at:] if name in ("", "json")), None)
 
 
 @contextlib.contextmanager
 def clone():
-    """A folder that looks like the top of a clone in which all is built."""
+    """Make a directory that looks like the top of a clone in which everything is built."""
     with tempfile.TemporaryDirectory() as folder:
         for name in "bindings", "samples", "docs":
             os.symlink(f"{TOP}/{name}", f"{folder}/{name}")
@@ -1587,29 +1719,38 @@ def shell(text, folder):
 
 
 @test
-def runs_the_shell_programs_of_the_page():
+def runs_the_shell_programs_of_the_guide():
     with clone() as folder:
-        text, output = block("sh", "./iimwire check samples/stream.iim")
+        text, output = block("command", "sh", "./iimwire check samples/stream.iim")
         same(shell(text, folder), (0, output, ""))
-        text, output = block("sh", "# Sorts the files that are named.")
+        text, output = block("command", "sh", "# Sort the named files.")
         file(folder, "sort.sh", text.encode())
         same(shell("sh sort.sh samples/stream.iim samples/damaged/truncated.iim", folder), (0, output, ""))
         same((os.listdir(f"{folder}/good"), sorted(os.listdir(f"{folder}/bad"))), (["stream.iim"], ["truncated.iim", "truncated.iim.why"]))
+        text, _ = block("command", "sh", "./iimwire story")
+        same(shell(text, folder), (0, "\nRates stay.\nNo change.\n", ""))
+        with open(f"{folder}/lines") as lines:
+            same(lines.read(), "1 accepted 114 octets\n2 accepted 246 octets\n")
+        same(shell(block("command", "sh", "./iimwire pack")[0], folder), (0, "", ""))
+        with open(f"{folder}/story.iim", "rb") as packed:
+            same(packed.read(), samples()["story.iim"])
 
 
 @test
-def has_the_programs_that_the_page_shows():
-    for language, words, path in ("rust", "fn receive", "crates/receive_copy/src/main.rt"), ("c", "iim_feed", "bindings/c/headline.c"):
+def shows_lines_of_the_programs_in_the_guides():
+    for guide, language, path, shown in ("rattle", "rust", "crates/receive_copy/src/main.rt", 2), ("c", "c", "bindings/c/headline.c", 3):
+        found = [text for name, text in blocks(f"docs/guide/{guide}.md") if name == language]
         with open(f"{TOP}/{path}") as source:
-            same((path, block(language, words)[0]), (path, source.read()))
+            program = source.read()
+        same((path, len(found), [text for text in found if text not in program]), (path, shown, []))
     with open(f"{TOP}/crates.txt") as crates:
-        holds(block("", "receive_copy: ")[0] in crates.read(), "another line in crates.txt")
+        holds(block("rattle", "", "receive_copy: ")[0] in crates.read(), "another line in crates.txt")
 
 
 @test
-def runs_the_c_program_of_the_page():
+def runs_the_c_program_of_the_guide():
     with clone() as folder:
-        words, _ = block("sh", "headline.c")
+        words, _ = block("c", "sh", "headline.c")
         same(shell(words, folder), (0, "Rates held\n", ""))
         for name, octets in samples().items():
             want = rules.read(octets)
@@ -1622,19 +1763,19 @@ def runs_the_c_program_of_the_page():
 
 
 @test
-def runs_the_python_programs_of_the_page():
+def runs_the_python_programs_of_the_guide():
     with clone() as folder:
-        text, _ = block("python", "envelope.headline")
+        text, _ = block("python", "python", "envelope.headline")
         file(folder, "receive.py", text.encode())
-        words, output = block("sh", "receive.py")
+        words, output = block("python", "sh", "receive.py")
         same(shell(words, folder), (0, output, ""))
         told = "octet 54 of the file: 1 refused at octet 54 by layer record on 1:70, cause 15 BadValue\n"
         same(shell(words.replace("stream", "damaged/bad_value"), folder), (1, "", told))
         same(shell(words.replace("stream", "damaged/truncated"), folder), (1, "", "the file ends in envelope 1\n"))
-        words, output = block("sh", "python3 -m iim samples")
+        words, output = block("python", "sh", "python3 -m iim samples")
         status, lines, errors = shell(words, folder)
         same((status, errors), (1, ""))
-        # (the page breaks the lines, and leaves out what `..` stands for)
+        # (the page breaks lines, and abbreviates by `..`)
         at = 0
         for part in re.sub(r"\n *", " ", output).replace("} {", "}\n{").strip().split(".."):
             part = part.strip(" ,")
@@ -1643,30 +1784,61 @@ def runs_the_python_programs_of_the_page():
 
 
 @test
-def runs_the_archive_of_the_page():
+def packs_the_envelope_of_the_guide():
     with clone() as folder:
-        words, output = block("sh", "archive.py --workers 2")
+        file(folder, "pack.py", block("python", "python", "iim.pack")[0].encode())
+        status, octets, errors = run([sys.executable, "pack.py"], cwd=folder, env={**os.environ, "PYTHONPATH": HERE})
+        want = rules.read(octets)
+        same((status, errors, want.is_done), (0, b"", True))
+        same([rules.first(want.fields, *number) for number in ((1, 30), (1, 40), (1, 70), (2, 105))], [b"TST", b"00000003", b"20240301", b"Rates held"])
+        file(folder, "packed.iim", octets)
+        same(run([PROGRAM, "story", "packed.iim"], cwd=folder)[1], b"Rates stay.\nNo change.\n")
+
+
+@test
+def receives_from_a_socket_as_the_guide_does():
+    stream = samples()["stream.iim"]
+    both = 0, b"00000001\n00000002\n", b""
+    one = 1, b"00000001\n", b"iim.Truncated"
+    with clone() as folder, socket.create_server(("127.0.0.1", 0)) as server:
+        file(folder, "client.py", block("python", "python", "create_connection")[0].encode())
+        for octets, want in (stream, both), (stream[:-1], one):
+            words = [sys.executable, "client.py", *map(str, server.getsockname())]
+            env = {**os.environ, "PYTHONPATH": HERE}
+            with subprocess.Popen(words, cwd=folder, env=env, stdout=subprocess.PIPE, stderr=subprocess.PIPE) as client:
+                with server.accept()[0] as connection:
+                    for at in range(0, len(octets), 100):
+                        connection.sendall(octets[at : at + 100])
+                output, errors = client.communicate(timeout=SECONDS)
+            last = errors.splitlines()[-1:]
+            same((client.returncode, output, b"".join(last).partition(b":")[0]), want)
+
+
+@test
+def runs_the_archive_of_the_guide():
+    with clone() as folder:
+        words, output = block("archive", "sh", "archive.py --workers 2")
         status, lines, errors = shell(words, folder)
         same((status, lines.splitlines()[-1], errors), (1, output.rstrip("\n"), ""))
-        status, lines, errors = shell(block("sh", "--into samples.index")[0], folder)
+        status, lines, errors = shell(block("archive", "sh", "--into samples.index")[0], folder)
         same((status, errors, json.loads(lines)), (1, "", {**json.loads(output), "unchanged": 0, "gone": 0}))
         same(shell("bindings/python/archive.py --into others.index samples/story.iim", folder)[0], 0)
-        status, lines, errors = shell(block("sh", "query --cause")[0], folder)
+        status, lines, errors = shell(block("archive", "sh", "query --cause")[0], folder)
         same((status, errors, {json.loads(line)["refused"]["cause_name"] for line in lines.splitlines()}), (0, "", {"CountForm"}))
-        status, lines, errors = shell(block("sh", "samples.index others.index")[0], folder)
+        status, lines, errors = shell(block("archive", "sh", "samples.index others.index")[0], folder)
         rows = [json.loads(line) for line in lines.splitlines()]
         same((status, errors, [row for row in rows if not row["repeats"]]), (0, "", []))
         same(len(rows), json.loads(output)["repeated"] + 1)
 
 
 @test
-def runs_the_recipes_of_the_page():
+def checks_a_tree_as_the_guide_does():
     if not shutil.which("parallel"):
         raise NotHere("GNU parallel is not installed")
     with clone() as folder:
         tree = tree_of(f"{folder}/TREE", 30)
-        check, refused, audit = (block("sh", words)[0] for words in ("each check {} > checked", "accepted/' checked", "Z {} > audited"))
-        file(folder, "each", block("sh", "# Runs `iimwire check`")[0].encode())
+        check, refused, audit = (block("command", "sh", words)[0] for words in ("each check {} > checked", "accepted/' checked", "Z {} > audited"))
+        file(folder, "each", block("command", "sh", "# Run `iimwire check`")[0].encode())
         same(shell(check, folder)[0], 1)
         paths = [os.path.relpath(path, folder) for path in files_in(tree)]
         told = lambda path: run([PROGRAM, "check", f"{folder}/{path}"])[1].decode().splitlines() if os.path.getsize(f"{folder}/{path}") else ["empty"]
@@ -1674,13 +1846,34 @@ def runs_the_recipes_of_the_page():
         with open(f"{folder}/checked") as checked:
             same(checked.read().splitlines(), [f"{path}\t{line}" for path, line in lines])
         same(shell(refused, folder)[1].splitlines(), [f"{path}\t{line}" for path, line in lines if " accepted " not in line])
-        # Repeats as archive.py finds them in the files that are accepted as a whole.
+        # The repeats that archive.py finds in the files without a refusal.
         whole = [path for path in paths if not run([PROGRAM, "check", f"{folder}/{path}"])[0]]
         rows = run([sys.executable, f"{HERE}/archive.py", "--now", NOW, *whole], cwd=folder)[1].splitlines()[:-1]
         repeats = [(row["file"], row["envelope"], row["repeats"]) for row in map(json.loads, rows) if row.get("repeats")]
         want = [f"{path} {number} repeats {first['file']} {first['envelope']}" for path, number, first in repeats]
         same(sorted(run(["sh", "-c", audit], cwd=folder)[1].decode().splitlines()), sorted(want))
         holds(len(want) > 10, f"only {len(want)} repeats")
+
+
+@test
+def runs_the_python_lines_of_the_readme():
+    (program,) = [text for name, text in blocks("README.md") if name == "python"]
+    with clone() as folder:
+        file(folder, "lines.py", program.encode())
+        told = "b'TST' b'Rates held' [b'Rates stay.', b'No change.']\n"
+        same(shell(f"PYTHONPATH=bindings/python {sys.executable} lines.py", folder), (0, told, ""))
+
+
+@test
+def runs_the_c_lines_of_the_readme():
+    (lines,) = [text for name, text in blocks("README.md") if name == "c"]
+    head = '#include "iim.h"\n#include <inttypes.h>\n#include <stdio.h>\nstatic uint8_t octets[4096];\n'
+    program = f"{head}int main(void) {{\nsize_t count = fread(octets, 1, sizeof octets, stdin);\n{lines}return 0;\n}}\n"
+    with clone() as folder:
+        file(folder, "lines.c", program.encode())
+        words = "-std=c11 -Wall -Wextra -Werror -I bindings/c -o lines lines.c bindings/out/libiim.a"
+        same(shell(f"cc {words} && ./lines < samples/story.iim", folder), (0, "status 0 after 246 octets\n", ""))
+        same(shell("./lines < samples/damaged/bad_value.iim", folder), (0, "status 2 after 54 octets\n", ""))
 
 
 def too_long(*_):

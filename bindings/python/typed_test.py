@@ -1,9 +1,12 @@
 #!/usr/bin/env python3
-"""Holds iim.pyi to iim.py and to the tables of the library, and the module, the archive and the programs of docs/USE.md to their types.
+"""Check iim.pyi against iim.py, and the types of all modules and of the pages' programs.
+
+The pages are README.md and those of docs/guide.
 
   bindings/python/typed_test.py
 
-It needs the library, which bindings/build makes, and mypy (Debian: mypy). Prints each failure, and then 'N passed, M failed'.
+The tests need the library, which bindings/build builds, and mypy (Debian: mypy). Prints each
+failure, then 'N passed, M failed'.
 """
 import glob
 import os
@@ -17,7 +20,7 @@ TOP = os.path.dirname(os.path.dirname(HERE))
 SECONDS = 300
 sys.path.insert(0, HERE)
 sys.dont_write_bytecode = True
-# (what a run has read of the standard library serves the next ones)
+# (the cache of the standard library's types is shared by all runs)
 CACHE = tempfile.TemporaryDirectory()
 MYPY = ["mypy", "--strict", "--config-file", f"{HERE}/mypy.ini", "--no-color-output", "--cache-dir", CACHE.name]
 
@@ -39,13 +42,18 @@ def text_of(path):
         return text.read()
 
 
+def modules():
+    """Return the modules beside iim.py that the packages have."""
+    return [path for path in sorted(glob.glob(f"{HERE}/*.py")) if re.fullmatch("(archive|explain|iim_|safe_output).*(?<!_test)[.]py", os.path.basename(path))]
+
+
 def run(words, **env):
     ran = subprocess.run(words, env={**os.environ, **env}, stdin=subprocess.DEVNULL, capture_output=True, text=True, timeout=SECONDS)
     return ran.returncode, ran.stdout, ran.stderr
 
 
 def typed(*paths):
-    """What a type checker says of files that import the module."""
+    """Run mypy on files that import the module, and return its output."""
     return run([*MYPY, *paths], MYPYPATH=HERE)
 
 
@@ -63,7 +71,7 @@ def has_an_attribute_for_each_dataset_with_a_name(folder):
     same(sorted(name for name in iim._plain_names() if name not in attributes), [])
     kinds = {name: attributes[name] for name in ("headline", "bylines", "date_sent", "supplemental_categories")}
     same(kinds, {"headline": "Optional[Octets]", "bylines": "List[Octets]", "date_sent": "Octets", "supplemental_categories": "List[Octets]"})
-    # (what each envelope has is what the format wants of it)
+    # (a mandatory dataset is never `None`)
     rows = [[cell.strip() for cell in line.strip("| ").split(" | ")] for line in text_of(f"{TOP}/docs/FORMAT.md").splitlines() if re.match(r"\| [12]:\d+ \|", line)]
     named = {tuple(map(int, row[0].split(":"))): (row[4], row[5]) for row in rows if len(row) == 6}
     kind = {("mandatory", "no"): "Octets", ("optional", "no"): "Optional[Octets]", ("optional", "yes"): "List[Octets]"}
@@ -74,17 +82,39 @@ def has_an_attribute_for_each_dataset_with_a_name(folder):
 
 @test
 def is_silent_of_the_module_and_the_archive(folder):
-    names = [path for path in sorted(glob.glob(f"{HERE}/*.py")) if re.fullmatch("(archive|explain|iim_).*(?<!_test)[.]py", os.path.basename(path))]
+    names = modules()
     same("archive.py" in map(os.path.basename, names), True)
     same(typed(*names), (0, f"Success: no issues found in {len(names)} source file{'s' * (len(names) > 1)}\n", ""))
-    # (its own code, where the stub doesn't stand for it)
+    # (the module's own code, without the stub)
     same(run([*MYPY, f"{HERE}/iim.py"]), (0, "Success: no issues found in 1 source file\n", ""))
 
 
 @test
-def is_silent_of_the_programs_of_the_page(folder):
-    programs = re.findall(r"^```python\n(.*?)^```$", text_of(f"{TOP}/docs/USE.md"), re.M | re.S)
-    same(len(programs) > 0, True)
+def runs_on_the_oldest_python_that_is_claimed(folder):
+    claimed = re.search(r'^requires-python = ">= (3\.\d+)"$', text_of(f"{TOP}/packages/python/pyproject.toml"), re.M)[1]
+    names = modules()
+    told = (0, f"Success: no issues found in {len(names)} source files\n", "")
+    same(run([*MYPY, "--python-version", claimed, *names], MYPYPATH=HERE), told)
+    # (and it detects attributes that the module lacks)
+    path = f"{folder}/newer.py"
+    with open(path, "w") as to:
+        to.write("def joined(one: dict[str, int], other: dict[str, int]) -> dict[str, int]:\n    return one | other\n")
+    same(run([*MYPY, "--python-version", claimed, path])[0], 1)
+    for page in f"{TOP}/docs/guide/python.md", f"{TOP}/packages/README", f"{TOP}/README.md":
+        same((page, re.findall(r"(?:needs|for) Python (3\.\d+)(?:,| and later)", text_of(page))), (page, [claimed]))
+
+
+@test
+def is_silent_of_typed_scripts(folder):
+    for path in "build", "packages/sbom", "packages/spdx.py":
+        same((path, run([*MYPY, f"{TOP}/{path}"])), (path, (0, "Success: no issues found in 1 source file\n", "")))
+
+
+@test
+def is_silent_of_the_programs_of_the_pages(folder):
+    pages = [text_of(path) for path in (f"{TOP}/README.md", *sorted(glob.glob(f"{TOP}/docs/guide/*.md")))]
+    programs = [program for page in pages for program in re.findall(r"^```python\n(.*?)^```$", page, re.M | re.S)]
+    same(len(programs), 5)
     for number, program in enumerate(programs):
         path = f"{folder}/program{number}.py"
         with open(path, "w") as to:
@@ -105,7 +135,7 @@ def finds_a_name_that_no_dataset_has(folder):
 def agrees_with_what_runs(folder):
     allowed = f"{folder}/allowed"
     with open(allowed, "w") as to:
-        # (a property that is kept is one for a type checker)
+        # (a cached property is a property for a type checker)
         kept = re.findall(r"^    @functools\.cached_property\n    def (\w+)", text_of(f"{HERE}/iim.pyi"), re.M)
         to.write("".join(rf"iim\.\w+\.{name}" + "\n" for name in kept))
     python = next(path for path in ("/usr/bin/python3", sys.executable) if run([path, "-c", "import mypy"])[0] == 0)

@@ -14,7 +14,7 @@ from pages.items import TOP
 WIDTH = 140
 HAND = f"{TOP}/docs/CALLING.md"
 MADE = "This page is made from the sources and from [`docs/CALLING.md`](../../docs/CALLING.md) (`tests/documents --write`)."
-CLAUSES = "[`docs/PROMISES.md`](../../docs/PROMISES.md) has the clauses of each call."
+CLAUSES = "[`docs/reference/{0}.md`](../../docs/reference/{0}.md) has the clauses of each call."
 LAW = "A law is a function with an empty body, or one that calls others alone. A call of it gives a proof what its clause says."
 LAWS = "What `{}` says is a record: each law is a field of it, by its name."
 # A line of docs/CALLING.md that names a caller: what is shown, its file, and what else is said.
@@ -145,8 +145,10 @@ def names_of(crate):
     own = ", ".join(f"`{module}`" for module in sorted(modules) if os.path.exists(f"{TOP}/crates/{crate}/src/{module}.rt"))
     at_root = {item.name for item in items.items(crate)} & names
     where = f"All names stand at the root{f', but for those in {own}' if own else ''}." if at_root else f"Each name stands in its module: {own}."
+    inner = ", ".join(f"`{name}`" for name in sorted(items.internals(crate)))
+    where += f" The module `internals` has what the layers above use, and no other caller: {inner}." if inner else ""
     others = list(items.of_others(crate))
-    yield from wrapped(f"{where} {CLAUSES}{' Handed on beside them, or as modules:' if others else ''}")
+    yield from wrapped(f"{where} {CLAUSES.format(crate)}{' Handed on beside them, or as modules:' if others else ''}")
     yield from [""] if others else []
     for place, other, handed in others:
         listed = ", ".join(f"`{name}`" for name in handed)

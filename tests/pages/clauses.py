@@ -1,10 +1,12 @@
-"""The lists of docs/PROMISES.md that tell of each call which clauses it has, as they are written from the sources.
+"""The lists in docs/reference/CRATE.md: of each call of the crate the clauses of its contract, as the sources have them.
 
-Each crate has a section there. Its list is made: of each call what its doc comment says first, its clauses by their names, each with the
-public definitions that it cites, and the wrong bodies of the function itself; and of a record of laws each law. All else in a section is
-written by hand.
+Each crate has a page there. Its list is generated: of each call the first sentence of its doc comment, its clauses by their names, each
+with the public definitions that it cites, and the mutants of the function itself; and of a record of lemmas each lemma. All else on a page
+is written by hand: mostly what tests alone show.
 """
+import glob
 import itertools
+import os
 import re
 import textwrap
 
@@ -12,16 +14,18 @@ from pages import callers, items
 from pages.items import TOP
 from wrong import sources as wrong_bodies
 
-PAGE = f"{TOP}/docs/PROMISES.md"
-# What stands before a list that is made.
-HEAD = "Its calls:\n\n"
+FOLDER = "docs/reference"
+# The pages by hand that cite clauses, mutants, tests and questions of `vectors`, beside those of the crates.
+BY_HAND = ["docs/THEOREM.md", *(f"{FOLDER}/{name}.md" for name in ("README", "promises", "refusals"))]
+# The heading above a generated list.
+HEAD = "## Calls\n\n"
 # Where public definitions stand: what octets are, where readers and writers stand, and what the laws say.
 ROOMS = ("Format", "States", "Laws")
 # The longest clause without a name that stands in a list as it is.
 SHORT = 60
 LIST = re.compile(rf"^{HEAD}(?:(?:- |  ).*\n)+", re.M)
 # The columns of a line.
-WIDTH = 140
+WIDTH = 100
 
 
 def first_sentence(doc):
@@ -43,7 +47,7 @@ def told_clause(clause, definitions):
     cited = list(dict.fromkeys(f"`{word}`" for word in re.findall(r"[\w']+", body) if word in definitions))
     if name:
         return f"`{name}`" + (f" ({', '.join(cited)})" if cited else "")
-    code = re.fullmatch(r" *\{ ?(.*?) ?\};?", body)[1]
+    code = re.fullmatch(r" *\{ ?(.*?) ?\}?;?", body)[1]
     return f"`{code}`" if len(code) <= SHORT and "|" not in code else ", ".join(cited) or "one clause"
 
 
@@ -79,39 +83,40 @@ def told(crate):
             for name, statement, words in items.laws_at(item):
                 yield part(f"`{name}`: {words}", f"`{statement}`", [], "  ")
     if bodies:
-        yield part("Functions below these.", "", sorted(itertools.chain(*bodies.values())))
+        yield part("Private functions.", "", sorted(itertools.chain(*bodies.values())))
 
 
 def part(said, clauses, bodies, indent=""):
     """A part of a list, in lines."""
-    words = [said, *(f"*Clauses:* {clauses}." for _ in clauses[:1]), *(f"*Wrong bodies:* {', '.join(bodies)}." for _ in bodies[:1])]
+    words = [said, *(f"*Clauses:* {clauses}." for _ in clauses[:1]), *(f"*Mutants:* {', '.join(bodies)}." for _ in bodies[:1])]
     indents = {"initial_indent": f"{indent}- ", "subsequent_indent": f"{indent}  "}
     return textwrap.fill(" ".join(words), WIDTH, **indents, break_long_words=False, break_on_hyphens=False)
 
 
-def sections(page):
-    """What stands before the sections of the page, and each of these: the crate or None, and its lines."""
-    front, *parts = re.split(r"^(?=### )", page, flags=re.M)
-    yield None, front
-    for part in parts:
-        crate = re.match(r"### `(\w+)`|", part)[1]
-        yield crate if crate and items.is_library(crate) else None, part
+def page_of(crate):
+    """Return the path of the page of a crate, below the repository."""
+    return f"{FOLDER}/{crate}.md"
 
 
-def made(page):
-    """The page with its lists made anew, and all else as it is."""
-    text = ""
-    for crate, section in sections(page):
-        listed = list(told(crate)) if crate else []
-        text += LIST.sub(lambda _: HEAD + "\n".join(listed) + "\n", section, count=1) if listed else section
-    return text
+def pages():
+    """Return the pages of crates, by their crates, with their texts."""
+    paths = sorted(glob.glob(f"{TOP}/{FOLDER}/*.md"))
+    crates = [os.path.basename(path).removesuffix(".md") for path in paths]
+    return {crate: items.text_of(path) for crate, path in zip(crates, paths) if os.path.isdir(f"{TOP}/crates/{crate}")}
 
 
-def by_hand(page):
-    """The page without what is made."""
-    return "".join(LIST.sub("", section, count=1) if crate else section for crate, section in sections(page))
+def made(crate, page):
+    """Return the page of a crate with its list generated anew, and all else as it is."""
+    listed = list(told(crate)) if items.is_library(crate) else []
+    return LIST.sub(lambda _: HEAD + "\n".join(listed) + "\n", page, count=1) if listed else page
+
+
+def by_hand():
+    """Return all that is written by hand on these pages, without code blocks."""
+    texts = [LIST.sub("", text, count=1) if items.is_library(crate) else text for crate, text in pages().items()]
+    return re.sub(r"^```.*?^```\n", "", "".join([*(items.text_of(f"{TOP}/{path}") for path in BY_HAND), *texts]), flags=re.M | re.S)
 
 
 def wanted():
-    """The page, with its text."""
-    return {"docs/PROMISES.md": made(items.text_of(PAGE))}
+    """Return the pages of crates, with their texts."""
+    return {page_of(crate): made(crate, text) for crate, text in pages().items()}

@@ -79,12 +79,23 @@ def laws_at(item):
     return laws if item.clauses == [f"ensures {{ {name} }}"] else []
 
 
-def handed_on(crate):
-    """What the root of a library hands on: the names of its `pub use` lines, and its public modules."""
-    root = re.sub("//.*", "", text_of(f"{TOP}/crates/{crate}/src/lib.rt"))
-    uses = [(path, names) for path, names in re.findall(r"^pub use ([\w:]+?)(?:::\{([^}]*)\})?;", root, re.M)]
+def used_publicly(code):
+    """The names of the `pub use` lines of some code."""
+    uses = re.findall(r"^pub use ([\w:]+?)(?:::\{([^}]*)\})?;", code, re.M)
     names = {name.split(" as ")[-1].strip() for path, group in uses for name in (group or path.split("::")[-1]).split(",")}
-    return names - {""}, set(re.findall(r"^pub mod (\w+);", root, re.M))
+    return names - {""}
+
+
+def internals(crate):
+    """The names of a library's module `internals`, which is for the layers above alone."""
+    path = f"{TOP}/crates/{crate}/src/internals.rt"
+    return used_publicly(re.sub("//.*", "", text_of(path))) if os.path.isfile(path) else set()
+
+
+def handed_on(crate):
+    """Return what a library exports: the names of the `pub use` lines of its root and of its module `internals`, and its public modules."""
+    root = re.sub("//.*", "", text_of(f"{TOP}/crates/{crate}/src/lib.rt"))
+    return used_publicly(root) | internals(crate), set(re.findall(r"^pub mod (\w+);", root, re.M)) - {"internals"}
 
 
 def of_others(crate):
@@ -166,6 +177,9 @@ class File:
         elif block := re.match(r"impl(?:<.*?>)? (?:([\w:]+)(?:<.*>)? for )?(\w+)", line):
             self.trait, self.owner, self.block = block[1], block[2], None if line.endswith("{}") else "impl"
             yield self.item("impl", self.owner, re.sub(r" \{\}?$", "", line), doc, self.owner)
+            if line.endswith("{}"):
+                # (an empty block has ended: what follows is of no type)
+                self.owner = self.block = self.trait = None
         elif constant := re.match(r" *pub const ([A-Z_0-9]+):", line):
             code = "\n".join(self.lines[at:]).partition(";\n")[0]
             yield self.item("const", constant[1], shortened(code), doc, self.owner)

@@ -5,6 +5,7 @@ All else on the page is written by hand.
 import re
 import textwrap
 
+from pages import causes
 from pages.items import TOP, cells_of, text_of
 
 PAGE = "docs/iimwire.1"
@@ -27,15 +28,10 @@ def datasets():
             yield [".TP 8", cells[0], *roff(cells[1])]
 
 
-def causes():
-    """The number of each cause, its name, and what it means: as the first table says that has it."""
-    found, place = {}, None
-    for _, cells in cells_of(f"{TOP}/docs/CAUSES.md"):
-        place = cells.index("What it means") if cells[0] == "Cause" else place
-        for number, name in re.findall(r"(\d+) (\w+)", cells[0]):
-            found.setdefault(int(number), (name, cells[place].replace("`", "")))
-    for number, (name, means) in sorted(found.items()):
-        yield [".TP 4", str(number), f".B {name}", ".br", *roff(means)]
+def listed_causes():
+    """Yield the lines of each cause, in the order of their numbers: its number, its name and what it means."""
+    for cause in sorted(causes.causes(), key=lambda each: each.number):
+        yield [".TP 4", str(cause.number), f".B {cause.name}", ".br", *roff(cause.entries["Meaning"].replace("`", ""))]
 
 
 def made(page, section, items):
@@ -51,4 +47,4 @@ def made(page, section, items):
 def wanted():
     """The page, with its text."""
     page = made(text_of(f"{TOP}/{PAGE}"), "DATASETS", datasets())
-    return {PAGE: made(page, "CAUSES", causes())}
+    return {PAGE: made(page, "CAUSES", listed_causes())}

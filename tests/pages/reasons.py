@@ -1,11 +1,12 @@
-"""The table of bindings/python/explain_causes.py: of each cause of an envelope the likely reason and what to do, as docs/CAUSES.md has them.
+"""The table of bindings/python/explain_causes.py: the likely reason of each cause of an envelope and what to do, from docs/CAUSES.md.
 
 All else in that file is written by hand.
 """
 import re
 import textwrap
 
-from pages.items import TOP, cells_of, text_of
+from pages import causes
+from pages.items import TOP, text_of
 
 PAGE = "bindings/python/explain_causes.py"
 # What stands around the entries.
@@ -15,16 +16,11 @@ WIDTH = 137
 INDENT = " " * 8
 
 
-def causes():
-    """The number, the likely reason and the advice of each cause of an envelope: the first table of the page."""
-    reason = advice = None
-    for _, cells in cells_of(f"{TOP}/docs/CAUSES.md"):
-        if cells[0] == "Cause":
-            if reason is not None:
-                return
-            reason, advice = cells.index("The likely reason"), cells.index("What to do")
-        elif number := re.match(r"\d+", cells[0]):
-            yield int(number[0]), cells[reason], cells[advice]
+def reasons():
+    """Yield the number, the likely reason and the advice of each cause of an envelope."""
+    for cause in causes.causes():
+        if cause.section == causes.OF_ENVELOPES:
+            yield cause.number, cause.entries["Likely reason"], cause.entries["What to do"]
 
 
 def literal(text):
@@ -44,5 +40,5 @@ def entry(number, reason, advice):
 def wanted():
     """The file, with its text."""
     before, _, rest = text_of(f"{TOP}/{PAGE}").partition(HEAD)
-    entries = "".join(f"{line}\n" for cause in causes() for line in entry(*cause))
+    entries = "".join(f"{line}\n" for cause in reasons() for line in entry(*cause))
     return {PAGE: f"{before}{HEAD}{entries}{FOOT}{rest.partition(FOOT)[2]}"}

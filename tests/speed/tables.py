@@ -4,6 +4,7 @@ The page has a place for each part that is measured, between two marked lines. T
 else: `tests/documents` holds each place to its tables, but for the numbers.
 """
 import re
+import textwrap
 
 from speed.shapes import AUDITS, SCRIPTS, SHAPES, TOP
 
@@ -47,13 +48,13 @@ def marks(part):
 
 
 def put(part, lines):
-    """Writes the lines of a part into its place in the page."""
+    """Writes the lines of a part into its place in the page, the first one in at most 100 columns."""
     begin, end = marks(part)
     with open(PAGE, encoding="utf-8") as file:
         before, _, rest = file.read().partition(begin)
     _, _, after = rest.partition(end)
     with open(PAGE, "w", encoding="utf-8") as file:
-        file.write(before + begin + "\n".join(lines) + "\n" + end + after)
+        file.write(before + begin + "\n".join([textwrap.fill(lines[0], 100, break_on_hyphens=False), *lines[1:]]) + "\n" + end + after)
 
 
 def faults(page):

@@ -34,8 +34,9 @@ def listed(crate):
         return None
     with open(at, encoding="utf-8") as index:
         modules = [json.loads(line)[0].split("/")[-1] for line in index]
-    # (what is made of closures and of dropping has a sign in its name)
-    paths = [name[len(front) : -len(end)].split(".") for name in modules if name.startswith(front) and name.endswith(end) and "+" not in name]
+    # (what is made of closures and of dropping has a sign in its name; what `rt lib` built has a link of the whole crate too)
+    named = [name for name in modules if name.startswith(front) and name.endswith(end) and "+" not in name and len(name) > len(front + end)]
+    paths = [name[len(front) : -len(end)].split(".") for name in named]
     return [path for path in paths if path[-2:-1] not in traits(crate)]
 
 

@@ -1,7 +1,8 @@
-"""Judges wrong bodies: rounds of many side by side, and again alone what a round does not plainly refuse."""
+"""Judges wrong bodies and the right ones in their copies: rounds of many side by side, and again alone what does not plainly pass in one."""
 import math
 import os
 import time
+from collections import Counter
 from concurrent.futures import FIRST_COMPLETED, ThreadPoolExecutor, wait
 
 from wrong import prover, rounds, sources, store, verdicts
@@ -30,12 +31,15 @@ class Crate:
 
     def sums(self):
         """A line that tells how its wrong bodies were judged, and what it took."""
-        counts = {}
-        for verdict, _ in self.verdicts.values():
-            counts[verdict] = counts.get(verdict, 0) + 1
-        told = ", ".join(f"{count} {verdict}" for verdict, count in counts.items())
         kept = f" ({self.kept} of them in an earlier run)" if self.kept else ""
-        return f"{self.name}: {len(self.bodies)} wrong bodies: {told}{kept}; {self.checks} checks, {self.seconds:.0f} seconds of a processor"
+        told = "; ".join(self.sums_of(word, of_right) for word, of_right in (("wrong", False), ("right", True)))
+        return f"{self.name}: {told}{kept}; {self.checks} checks, {self.seconds:.0f} seconds of a processor"
+
+    def sums_of(self, word, of_right):
+        """How many of its wrong bodies, or of its right ones, came to each verdict."""
+        names = [body.name for body in self.bodies if body.is_right == of_right]
+        counts = Counter(self.verdicts[name][0] for name in names)
+        return f"{len(names)} {word} bodies" + "".join(f"{',' if at else ':'} {count} {verdict}" for at, (verdict, count) in enumerate(counts.items()))
 
 
 def first_error(text):
@@ -71,9 +75,9 @@ def tried(task):
 class Judging:
     """All of it: the tasks that wait, those that run, and the crates."""
 
-    def __init__(self, crates, jobs, passed, proofs):
+    def __init__(self, crates, jobs, proofs):
         self.pool, self.running, self.waiting, self.crates = ThreadPoolExecutor(jobs), {}, [], crates
-        self.jobs, self.passed, self.proofs, self.apart, self.has_begun = jobs, passed, proofs, [], False
+        self.jobs, self.proofs, self.apart, self.has_begun = jobs, proofs, [], False
         # (what takes longest begins first)
         for crate in sorted(crates, key=lambda crate: -crate.size()):
             self.waiting += [(crate, these) for these in crate.planned]
@@ -130,7 +134,7 @@ class Judging:
             half = len(these.bodies) // 2
             self.again(crate, [each for part in (these.bodies[:half], these.bodies[half:]) for each in rounds.plan(crate.name, part)])
         for body, verdict in found or []:
-            if verdict[0] in self.passed or these.is_plain():
+            if verdict[0] in verdicts.passing(body) or these.is_plain():
                 self.decide(crate, body, verdict)
             else:
                 self.again(crate, [rounds.alone(body)])
@@ -138,9 +142,9 @@ class Judging:
     def decide(self, crate, body, verdict):
         """Notes what a wrong body comes to, and tells it unless it plainly passes."""
         crate.verdicts[body.name] = verdict
-        if verdict[0] in verdicts.PASSED and not sources.CHANGED:
+        if verdict[0] in verdicts.passing(body) and not sources.CHANGED:
             store.keep(body, verdict)
-        if verdict[0] != self.passed[0]:
+        if verdict[0] != verdicts.passing(body)[0]:
             print(f"{crate.name}: {body.name} ({body.function}, {body.clause}): {verdict[0]}{': ' if verdict[1] else ''}{verdict[1]}", flush=True)
 
     def leave(self):
@@ -164,8 +168,8 @@ class Judging:
                     time.sleep(self.proofs.SECONDS)
 
 
-def judge(chosen, jobs, anew, proofs, passed=verdicts.PASSED):
-    """Judges the wrong bodies of crates, and returns what all came to: what an earlier run on this machine said of the same stands, unless
+def judge(chosen, jobs, anew, proofs):
+    """Judges bodies of crates, and returns each with what it came to: what an earlier run on this machine said of the same stands, unless
     they are judged anew. One crate's share of a run that is long for the checks side by side goes in several rounds. Of what does not come
     to a verdict that passes each is tried again alone."""
     most = max(LEAST, math.ceil(sum(map(len, chosen.values())) / jobs))
@@ -173,5 +177,5 @@ def judge(chosen, jobs, anew, proofs, passed=verdicts.PASSED):
     if proofs.ended:
         for crate in crates:
             prover.below([crate.name])
-    Judging(crates, jobs, passed, proofs).run()
-    return [verdict for crate in crates for verdict, _ in crate.verdicts.values()]
+    Judging(crates, jobs, proofs).run()
+    return [(body, crate.verdicts[body.name][0]) for crate in crates for body in crate.bodies]

@@ -1,48 +1,74 @@
-"""What is written from the wrong bodies: docs/WRONG_BODIES.md, and those in crates/*/must-fail, which `rt ci` tries."""
+"""What is written from the wrong bodies: docs/reference/mutants.md, and those in crates/*/must-fail, which `rt ci` tries."""
 import glob
 import os
 
 from wrong import sources
 
-PAGE = f"{sources.TOP}/docs/WRONG_BODIES.md"
-FOREWORD = """# Wrong bodies
+PAGE = f"{sources.TOP}/docs/reference/mutants.md"
+FOREWORD = """# Mutants
 
-A contract that no wrong body breaks says little. These are edits of the code, of definitions or of both, {count} in all, each of which
-the prover has to refuse. They stand in `crates/CRATE/wrong-bodies.edits`, and this page is written from them (`tests/wrong_bodies --document`).
+A contract that no wrong code breaks says little. A mutant is an edit of the code, of definitions or
+of both that the prover must reject. There are {count}. They are in `crates/CRATE/wrong-bodies.edits`,
+and this page is generated from them by `tests/wrong_bodies --document`.
 
-`tests/wrong_bodies` judges each by itself. Many stand in one check, each in a copy of its function under another name, and the prover is
-asked for these copies alone: all else is taken at its word and without its body, since `rt ci` has proved it. A copy requires what its
-function requires, and keeps its loops and what is known at each turn of them; of what the function tells of its result the copy has to show
-the clause that the row names, and no other. Some have their body written whole: it calls the right function, of which what the contract says
-is known, and errs in one case or hands on another answer. A method of a trait's impl can't be copied and is changed itself, as is what
-several functions change; an edit of more than the bodies of functions stands in a copy of its crate. A wrong body passes where the prover does not prove its copy, and the goal that fails there is of the clause that its
-row names. What is not plainly refused so is tried again alone, in the function itself with all of its contract, and fails where the
-function is proved, where another clause refuses it, and where only a name is gone that a written answer cites. *Weak* are those that pass
-since an answer that is written by hand for that clause no longer fits: that says less, as the clause may be true all the same. The run
-counts and names them. One that has passed is not judged again on that machine while nothing changes that its verdict stands on: its crate,
-those below it, the toolchain and the judge (`--anew` judges all).
+Each public function with a body has at least one mutant, of itself or of a function below it. A
+lemma has none, since its body is empty. There is one more for each rule of the format that code
+could skip, such as a repeated dataset, a count of nine octets, a line end, or the cause that is
+reported first; and one for each pair of code and definition that could be wrong in the same way.
+Two mutants are rejected by one clause of one function only if they break different rules.
 
-That a verdict stands on its clause can be seen: `tests/wrong_bodies CRATE --without NAME` judges the wrong bodies of the function of this
-one with that clause saying nothing, and names as accepted those that are held to it. `tests/wrong_bodies --right` judges the copies with
-their right bodies, each of which has to be proved; for one that is written whole, a body that calls the right function and no more.
+## How they are judged
 
-A clause is `ensures` where a function has one clause without a name, or where the prover doesn't say which of them fails, `ensures x` where
-it is named `x`, `requires of f` where a call of `f` is no longer allowed, `loop` what holds at each turn of a loop, `invariant` that of the function's type, and `lemma x in F.antt` a lemma on
-which the function's proof stands: an edit that turns a definition and the code alike is refused there.
+`tests/wrong_bodies` judges each mutant by itself. Many are in one check, each in a copy of its
+function under another name, and the prover checks only these copies: everything else is assumed,
+without its body, since `rt ci` has proved it. A copy requires what its function requires, and has
+the same loop invariants. Of what the function ensures it has only the clause that the row names.
 
-Each public function with a body has one at least: the function itself is turned, or one below it. A law has none, since its
-body is empty. Beside these there is one for each rule of the format that a body could pass over, as that of a repeated dataset, of
-a count of nine octets, of a line's end, or of which cause is told first; and one for each pair of a body and a definition that
-could be wrong alike. Two wrong bodies are refused by one clause of one function only where they pass over different rules.
+Some mutants have their body written in full: it calls the original function, of which the contract
+is known, and fails in one case or returns another result. A method of a trait's impl can't be
+copied and is edited in place, and so is code that several functions call. An edit of more than the
+bodies of functions is made in a copy of its crate.
 
-`rt ci` tries one besides, `crates/CRATE/must-fail/`, by the toolchain's own judgement. It takes a whole check of its crate, so this is a
-crate of a short check. `tests/wrong_bodies --write` takes it from here.
+A mutant passes if the prover does not prove its copy and the goal that fails is of the clause that
+its row names. What is not plainly rejected is tried again alone, in the function itself with its
+complete contract. It fails if the function is proved, if another clause rejects it, or if only a
+name is gone that a written answer cites. *Weak* mutants pass because an answer that is written by
+hand for that clause no longer fits. That shows less, as the clause may be true all the same. The
+run counts and names them.
+
+A mutant that has passed is not judged again on that machine while nothing that its verdict depends
+on changes: its crate, those below it, the toolchain and the judge. `--anew` judges all.
+
+## How the judge is checked
+
+`tests/wrong_bodies CRATE --without NAME` judges the mutants of one function with one clause saying
+nothing, and reports those as accepted that the clause alone rejects.
+
+In each copy the original body is judged too, beside the mutants: it must be proved, or "refused"
+would say nothing about the mutants. For a mutant whose body is written in full, the original calls
+the original function and nothing else. `tests/wrong_bodies --right` judges these alone. A row whose
+clause its function does not have is rejected before anything is judged: a copy without any clause
+would be proved whatever its body is.
+
+`rt ci` tries one mutant besides, in `crates/CRATE/must-fail/`, by the toolchain's own judgement. It
+takes a complete check of its crate, so this is a crate with a short check. `tests/wrong_bodies
+--write` writes that file.
+
+## The columns
+
+- **Mutant**: its name, and what it means where the name doesn't say it.
+- **Function**: the function in which it is rejected.
+- **Clause**: what rejects it. `ensures` if the function has one clause without a name, or if the
+  prover doesn't say which one fails; `ensures x` for the clause `x` (`of std's f` if a trait of std
+  states it); `requires of f` if `f` may no longer be called; `loop` for a loop invariant;
+  `invariant` for that of the function's type; `lemma x in F.antt` for a lemma that the function's
+  proof uses, if an edit changes a definition and the code in the same way.
 """
 
 
 def rows(crate):
     """The table of a crate."""
-    yield f"\n## `{crate}`\n\n| Wrong body | Refused in | By |\n|---|---|---|\n"
+    yield f"\n## `{crate}`\n\n| Mutant | Function | Clause |\n|---|---|---|\n"
     for body in sources.bodies(crate):
         means = f": {body.said['means']}" if "means" in body.said else ""
         yield f"| {body.name}{means} | `{body.function}` | `{body.clause}` |\n"
@@ -73,7 +99,7 @@ def tried(crate):
 def wanted():
     """Each file that is written from the wrong bodies, with its text."""
     edits = {path: text for crate in sources.crates() for path, text in tried(crate).items()}
-    return {"docs/WRONG_BODIES.md": document(), **edits}
+    return {"docs/reference/mutants.md": document(), **edits}
 
 
 def there():

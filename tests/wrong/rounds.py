@@ -73,8 +73,9 @@ class Round:
         self.texts = {path: text for (name, path), text in sources.CHANGED.items() if name == crate}
 
     def add(self, body, places):
-        """Adds a wrong body that changes these functions, in a copy or in its function itself, and returns whether it fits."""
-        return self.add_copy(body, places) or not body.whole and self.add_itself(body, places)
+        """Adds a wrong body that changes these functions, in a copy or in its function itself, and returns whether it fits. A right one goes
+        into a copy alone: the function itself is proved already."""
+        return self.add_copy(body, places) or not (body.whole or body.is_right) and self.add_itself(body, places)
 
     def add_itself(self, body, places):
         """Adds a wrong body in its function itself, where none of the functions that it changes is taken."""
@@ -97,7 +98,7 @@ class Round:
         (at,) = places if len(places) == 1 else (None,)
         if at is None or at[1] != last(body.function) or body.clause.startswith("lemma "):
             return False
-        original, named = sources.text_in(body.crate, at[0]), f"{at[1]}_wrong_{len(self.bodies) + 1}"
+        original, named = sources.text_in(body.crate, at[0]), f"{at[1]}_{'right' if body.is_right else 'wrong'}_{len(self.bodies) + 1}"
         copy = copied(body, original, at, named)
         if copy is None:
             return False
@@ -119,14 +120,14 @@ class Round:
         return list(dict.fromkeys(self.functions.values()))
 
     def is_plain(self):
-        """Whether it is of one wrong body, which stands in its function itself or calls that."""
-        return len(self.bodies) == 1 and (bool(self.bodies[0].whole) or self.asked() == [self.bodies[0].function])
+        """Whether it is of one body, which is in its function itself, calls that, or is right."""
+        return len(self.bodies) == 1 and (bool(self.bodies[0].whole) or self.bodies[0].is_right or self.asked() == [self.bodies[0].function])
 
 
 def alone(body):
-    """A round of one wrong body, in its function itself, with all of its contract; in a copy where it calls that."""
+    """A round of one wrong body, in its function itself, with all of its contract; in a copy where it calls that, or is right."""
     found = Round(body.crate)
-    if body.whole:
+    if body.whole or body.is_right:
         found.add_copy(body, code.places(sources.original(body), body))
     else:
         found.add_itself(body, set())

@@ -17,14 +17,14 @@ or, in the place of such pairs, a whole body, which can call the right function 
   body: TEXT             what stands between its braces
 
 A clause is `ensures` (one without a name, or where the prover doesn't say which of them fails), `ensures NAME`, `requires of CALLEE`, `loop` (what holds at each turn),
-`invariant` (its type's), `ensures of std's METHOD`, or `lemma NAME in FILE.antt` (a lemma on which the function's proof stands).
+`invariant` (its type's), `ensures of std's METHOD` or `ensures NAME of std's METHOD`, or `lemma NAME in FILE.antt` (a lemma on which the function's proof stands).
 """
 import os
 import re
 from dataclasses import dataclass, field
 
 TOP = os.path.dirname(os.path.dirname(os.path.dirname(os.path.realpath(__file__))))
-FORMS = re.compile(r"ensures( \w+| of std's \w+)?|requires of \w+|loop|invariant|lemma [\w']+ in \w+\.antt")
+FORMS = re.compile(r"ensures( \w+)?( of std's \w+)?|requires of \w+|loop|invariant|lemma [\w']+ in \w+\.antt")
 WORDS = "name", "function", "clause", "means", "must-fail"
 
 # Texts that stand in the place of a crate's own, by the crate and the file.
@@ -38,17 +38,18 @@ class Unread(Exception):
 @dataclass
 class Body:
     """A wrong body: what it is, and its pairs of a file, the text there, and what takes its place; or the file of its function and all that
-    stands in its braces."""
+    stands in its braces. Or the right body in the place of one."""
 
     crate: str
     file: str
     said: dict = field(default_factory=dict)
     pairs: list = field(default_factory=list)
     whole: tuple = ()
+    is_right: bool = False
 
     @property
     def name(self):
-        return self.said["name"]
+        return f"{self.said['name']} (its right body)" if self.is_right else self.said["name"]
 
     @property
     def function(self):

@@ -37,7 +37,7 @@ def sum_of_crate(crate):
 
 def place(body):
     """The file of a wrong body's verdict."""
-    stands_on = json.dumps([sum_of_judges(), sum_of_crate(body.crate), body.said, body.pairs, body.whole])
+    stands_on = json.dumps([sum_of_judges(), sum_of_crate(body.crate), body.said, body.pairs, body.whole, body.is_right])
     return f"{PLACE}/{hashlib.sha256(stands_on.encode()).hexdigest()}"
 
 

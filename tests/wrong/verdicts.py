@@ -4,8 +4,9 @@ import re
 from dataclasses import dataclass, field
 
 REFUSED, WEAK, OTHER, GONE, ACCEPTED, UNHEARD, UNTRIED = "refused", "weak", "another clause", "a name is gone", "ACCEPTED", "not heard of", "not tried"
-# Passes: the clause that it names refuses it.
+# Passes: the clause that it names refuses it. A right body passes if it is proved.
 PASSED = REFUSED, WEAK
+RIGHT = (ACCEPTED,)
 
 # A goal that is open; what is wrong in a file of proofs; a function's line.
 OPEN = re.compile(r"note: \S+?:\d+:\d+: .*? \(`([^`]+)`\)(.*)")
@@ -84,7 +85,8 @@ def of_clause(clause, goal):
         return bool(re.search(rf"(^|-){name.removeprefix('of ')}(-\d+)?-requires", goal))
     if not name:
         return goal.startswith("returns") and "-clause-" not in goal
-    return goal.startswith("returns") and (name.startswith("of std's") or bool(re.search(rf"-clause-{name}(-\d+)?$", goal)))
+    word = re.sub(r" ?of std's \w+$", "", name)
+    return goal.startswith("returns") and (not word or bool(re.search(rf"-clause-{word}(-\d+)?$", goal)))
 
 
 def whose(found, function):
@@ -105,6 +107,11 @@ def by_lemma(clause, found):
         return (OTHER if failing else GONE), ", ".join(failing + heard.gone)
     elsewhere = [f"{goal} in {path}" for path, it in found.items() if path.endswith(".antt") for goal in it.open + it.by_hand]
     return (OTHER if elsewhere else ACCEPTED), ", ".join(elsewhere)
+
+
+def passing(body):
+    """Return the verdicts with which a body passes, the plain one first."""
+    return RIGHT if body.is_right else PASSED
 
 
 def judge(body, function, found):

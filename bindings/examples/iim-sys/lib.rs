@@ -1,21 +1,24 @@
-//! The library `libiim` for Rust: the functions of `iim.h` that a reader needs, and two safe calls above them, [`check`] and [`read`].
+//! Bindings to the library `libiim`: the functions of `iim.h` that a reader needs, and two safe
+//! functions over them, [`check`] and [`read`].
 //!
-//! `iim.h` tells what each function takes, writes and answers.
+//! `iim.h` documents the parameters and the results of each function.
 #![allow(non_camel_case_types)]
 
 use std::ffi::{c_char, CStr};
 use std::{fmt, ptr};
 
-/// The version of the interface that this file is for.
+/// The version of the interface that this crate declares.
 pub const IIM_VERSION: u32 = 1;
 
 pub const IIM_DONE: u8 = 0;
 pub const IIM_MORE: u8 = 1;
 pub const IIM_REFUSED: u8 = 2;
 pub const IIM_TRUNCATED: u8 = 3;
+pub const IIM_SHORT: u8 = 5;
 pub const IIM_NO_MEMORY: u8 = 6;
 
-/// The most that records 1 and 2 may have. It goes by value. All zero, which is its default, are the limits of wire copy.
+/// The limits on records 1 and 2, passed by value. The default, all zero, selects the limits of
+/// wire copy.
 #[repr(C)]
 #[derive(Clone, Copy, Debug, Default)]
 pub struct iim_limits {
@@ -23,7 +26,7 @@ pub struct iim_limits {
     pub fields: u32,
 }
 
-/// What a call came to.
+/// The result of a call.
 #[repr(C)]
 #[derive(Clone, Copy, Debug, Default)]
 pub struct iim_answer {
@@ -38,7 +41,7 @@ pub struct iim_answer {
     pub ticket: usize,
 }
 
-/// So many octets of a ticket.
+/// A slice of a ticket: `count` bytes from `offset` on.
 #[repr(C)]
 #[derive(Clone, Copy, Debug, Default)]
 pub struct iim_span {
@@ -46,7 +49,7 @@ pub struct iim_span {
     pub count: usize,
 }
 
-/// A dataset of records 1 and 2.
+/// A dataset of records 1 and 2: its record, its number and its data.
 #[repr(C)]
 #[derive(Clone, Copy, Debug, Default)]
 pub struct iim_dataset {
@@ -72,24 +75,31 @@ extern "C" {
         answer: *mut iim_answer,
     );
     pub fn iim_end(limits: iim_limits, ticket: *const u8, ticket_len: usize, at: u64, answer: *mut iim_answer);
-    pub fn iim_field(ticket: *const u8, ticket_len: usize, n: usize, dataset: *mut iim_dataset, answer: *mut iim_answer);
+    pub fn iim_fields(
+        ticket: *const u8,
+        ticket_len: usize,
+        from: usize,
+        datasets: *mut iim_dataset,
+        datasets_len: usize,
+        answer: *mut iim_answer,
+    );
     pub fn iim_cause_name(cause: u8, out: *mut c_char, len: usize) -> usize;
     pub fn iim_layer_name(layer: u8, out: *mut c_char, len: usize) -> usize;
     pub fn iim_version() -> u32;
 }
 
-/// Why octets are no envelope. It is told as `iimwire check` tells it.
+/// The reason why bytes are rejected. It is displayed as `iimwire check` prints it.
 #[derive(Clone, Copy, Debug, PartialEq, Eq)]
 pub struct Refusal {
-    /// Whether the octets end inside an envelope: more of them may complete it.
+    /// Whether the input ends inside an envelope: more bytes may complete it.
     pub is_truncated: bool,
-    /// The layer and the cause, by their numbers.
+    /// The numbers of the layer and of the cause.
     pub layer: u8,
     pub cause: u8,
-    /// The record of the dataset that is named, and its number there.
+    /// The record of the dataset concerned, and its number within the record.
     pub record: u8,
     pub number: u8,
-    /// The offset of the refused octet, or how many there are where they are too few.
+    /// The offset of the rejected byte, or the length of the input if it is truncated.
     pub octet: u64,
 }
 
@@ -103,7 +113,7 @@ impl fmt::Display for Refusal {
 
 impl std::error::Error for Refusal {}
 
-/// An envelope, and how many octets it has.
+/// An envelope and its length in bytes.
 #[derive(Clone, Debug)]
 pub struct Envelope {
     pub octets: usize,
@@ -111,27 +121,31 @@ pub struct Envelope {
 }
 
 impl Envelope {
-    /// The octets of the first dataset of a record and a number, or None.
+    /// Returns the data of the first dataset with this record and number, or `None`.
     pub fn first(&self, record: u8, number: u8) -> Option<&[u8]> {
-        let (mut dataset, mut answer) = (iim_dataset::default(), iim_answer::default());
-        for index in 0.. {
-            // SAFETY: the ticket is so long, and both structures may be written.
-            unsafe { iim_field(self.ticket.as_ptr(), self.ticket.len(), index, &mut dataset, &mut answer) };
-            if answer.status != IIM_DONE {
-                break;
-            }
-            if (dataset.rec, dataset.set) == (record, number) {
-                return Some(&self.ticket[dataset.data.offset..][..dataset.data.count]);
+        let dataset = self.datasets().into_iter().find(|dataset| (dataset.rec, dataset.set) == (record, number))?;
+        Some(&self.ticket[dataset.data.offset..][..dataset.data.count])
+    }
+
+    /// Returns the datasets of records 1 and 2, in order.
+    fn datasets(&self) -> Vec<iim_dataset> {
+        let mut datasets = vec![iim_dataset::default(); 64];
+        loop {
+            let mut answer = iim_answer::default();
+            // SAFETY: both pointers have their length, and the array and the answer are writable.
+            unsafe { iim_fields(self.ticket.as_ptr(), self.ticket.len(), 0, datasets.as_mut_ptr(), datasets.len(), &mut answer) };
+            datasets.resize(answer.written, iim_dataset::default());
+            if answer.status != IIM_SHORT {
+                return datasets;
             }
         }
-        None
     }
 }
 
-/// How many octets the envelope has that these octets begin with. What follows it is not looked at.
+/// Returns the length of the envelope at the beginning of `octets`, and reads no byte after it.
 pub fn check(octets: &[u8]) -> Result<usize, Refusal> {
     let mut answer = iim_answer::default();
-    // SAFETY: the octets are so many, and the answer may be written.
+    // SAFETY: the pointer has its length, and the answer is writable.
     unsafe { iim_check(iim_limits::default(), octets.as_ptr(), octets.len(), &mut answer) };
     match answer.status {
         IIM_DONE => Ok(answer.used),
@@ -139,13 +153,13 @@ pub fn check(octets: &[u8]) -> Result<usize, Refusal> {
     }
 }
 
-/// The envelope that these octets begin with.
+/// Reads the envelope at the beginning of `octets`.
 pub fn read(octets: &[u8]) -> Result<Envelope, Refusal> {
     let limits = iim_limits::default();
     let mut answer = iim_answer::default();
     let mut text = vec![0; octets.len()];
     let mut ticket = vec![0; 65_536 + 6 * 512 + 256];
-    // SAFETY: each pointer comes with its length, and what is written overlaps nothing else.
+    // SAFETY: each pointer has its length, and the buffers that are written overlap nothing else.
     unsafe {
         let (piece, text_out, ticket_out) = (octets.as_ptr(), text.as_mut_ptr(), ticket.as_mut_ptr());
         iim_feed(limits, ptr::null(), 0, 0, piece, octets.len(), text_out, text.len(), ticket_out, ticket.len(), &mut answer);
@@ -161,7 +175,7 @@ pub fn read(octets: &[u8]) -> Result<Envelope, Refusal> {
     }
 }
 
-/// What an answer refuses. Where memory was refused there is nothing to tell, and the program ends, as Rust's own does.
+/// Returns the refusal in an answer. Panics if an allocation failed.
 fn refusal(answer: &iim_answer) -> Refusal {
     assert_ne!(answer.status, IIM_NO_MEMORY, "out of memory");
     Refusal {
@@ -174,10 +188,10 @@ fn refusal(answer: &iim_answer) -> Refusal {
     }
 }
 
-/// The name that the library has for a number.
+/// Returns the name of a number.
 fn name(function: unsafe extern "C" fn(u8, *mut c_char, usize) -> usize, number: u8) -> String {
     let mut out = [0 as c_char; 64];
-    // SAFETY: so many characters may be written, and the last that is written is a NUL.
+    // SAFETY: the buffer has its length, and the function ends the name with a NUL.
     let told = unsafe {
         function(number, out.as_mut_ptr(), out.len());
         CStr::from_ptr(out.as_ptr())

@@ -3,12 +3,12 @@
 use crate::outcome::{Trouble, right, right_at};
 use crate::told::Told;
 use iim_listing::check::Check;
+use iim_listing::input::Input;
 use iim_listing::list::list;
 use iim_listing::story::narrate;
 use iim_output::fault::CommandFault;
 use iim_output::status::ACCEPTED;
 use iim_pack_script::packing::{PackRequest, pack_script};
-use iim_unpack::Intake;
 use std::alloc::Global;
 use std::io;
 use trials::{TrialReader, TrialWriter, Trouble as DeviceTrouble};
@@ -89,7 +89,7 @@ fn is_checked<const N: usize>(
     mut output: TrialWriter<N>,
     want: Want,
 ) -> bool {
-    let mut intake = Intake::new(TrialReader::new(STORY, input.0, input.1));
+    let mut intake = Input::new(TrialReader::new(STORY, input.0, input.1));
     let answer = list(alloc, &Check, &mut intake, &mut output);
     is_met(answer, output.octets(), b"", want)
 }
@@ -101,7 +101,7 @@ fn told(
     errors: &mut TrialWriter<256>,
 ) -> Result<u8, CommandFault> {
     let reader = TrialReader::new(STORY, CALM.0, CALM.1);
-    narrate(alloc, &mut Intake::new(reader), output, errors)
+    narrate(alloc, &mut Input::new(reader), output, errors)
 }
 
 /// Whether `story` of the envelope over devices answers and writes this.

@@ -11,6 +11,7 @@
 
 mod audits;
 mod commands;
+mod faults;
 mod given;
 mod memory;
 mod outcome;
@@ -39,8 +40,9 @@ fn tell_trials(rt: &impl Print, told: &mut Told, alloc: Global) -> io::Result<()
     commands::tell(rt, told, alloc)?;
     packing::tell(rt, told, alloc)?;
     round_trips::tell(rt, told, alloc)?;
-    scripts::tell(rt, told)?;
-    unpacking::tell(rt, told, alloc)
+    scripts::tell(rt, told, alloc)?;
+    unpacking::tell(rt, told, alloc)?;
+    faults::tell(rt)
 }
 
 /// Prints the trials of the layers below.

@@ -9,7 +9,7 @@ mod lines;
 mod objects;
 mod packing;
 pub(crate) mod records;
-mod scripts;
+pub(crate) mod scripts;
 mod unpacking;
 
 pub(crate) use calls::tell_all;

@@ -2,7 +2,7 @@
 
 ghost use Rattle.std.specs.Prelude.{◌<◌};
 
-use crate::given::LIMITS;
+use crate::given::{LIMITS, joined};
 use crate::outcome::{Trouble, right, right_at};
 use crate::told::Told;
 use iim_dataset::FromWrite;
@@ -13,7 +13,7 @@ use iim_unpack::{Cause, Unpacked};
 use std::alloc::Global;
 use std::io;
 use wire_message::MessageHead;
-use wire_story::Lines;
+use wire_story::{Lines, StorySink};
 use worked::{FIRST_LINE, LAST_LINE, SMALLEST, STORY};
 
 /// An envelope that was unpacked, and its lines.
@@ -200,6 +200,55 @@ fn a_story_is_refused_at_its_octet(alloc: Global) -> Result<(), Trouble> {
     right(refusal_of(short) == Some((Cause::Truncated, 200)))
 }
 
+/// The smallest envelope, in which the count of 1:30 is an extended one: 118 octets.
+fn extended(alloc: Global) -> Result<Vec<u8>, Trouble> {
+    let (before, tagged) = SMALLEST.split_at(24.min(SMALLEST.len()));
+    let (_count, after) = tagged.split_at(2.min(tagged.len()));
+    Ok(joined(alloc, &[before, b"\x80\x04\x00\x00\x00\x03", after])?)
+}
+
+/// The value that is read from the 118 octets, packed, is the smallest envelope.
+fn packs_value_of_extended_counts(alloc: Global) -> Result<(), Trouble> {
+    let octets = extended(alloc)?;
+    right(octets.len() == 118)?;
+    let Some(got) = Got::of(alloc, &[&octets]) else {
+        return Err(Trouble::Wrong);
+    };
+    right(got.used == 118)?;
+    match got.packed(alloc, 1024, Size::Known(14)) {
+        Some(packed) => right(packed.as_slice() == SMALLEST.as_slice()),
+        None => Err(Trouble::Wrong),
+    }
+}
+
+/// The smallest envelope with one line of 32,754 octets `a`, as the tags of its subfiles have to begin: 32,872 octets with one subfile
+/// of 32,768, and 32,873 with one of 32,767 and one of 1.
+fn packs_one_long_line(alloc: Global) -> Result<(), Trouble> {
+    let Some(mut got) = Got::of(alloc, &[SMALLEST.as_slice()]) else {
+        return Err(Trouble::Wrong);
+    };
+    for _ in 0..32_754 {
+        right(got.lines.text(b"a").is_ok())?;
+    }
+    let size = Size::Known(32_768);
+    let (Some(one), Some(two)) = (
+        got.packed(alloc, 32_768, size),
+        got.packed(alloc, 32_767, size),
+    ) else {
+        return Err(Trouble::Wrong);
+    };
+    right(one.len() == 32_872 && has_at(&one, 86, b"\x1c\x08\x0a\x80\x04\x00\x00\x80\x00"))?;
+    right(two.len() == 32_873 && has_at(&two, 86, b"\x1c\x08\x0a\x7f\xff"))?;
+    right(has_at(&two, 32_858, b"\x1c\x08\x0a\x00\x01\x04"))
+}
+
+/// Whether octets have others from a place on.
+fn has_at(octets: &[u8], at: usize, others: &[u8]) -> bool {
+    octets
+        .get(at..)
+        .is_some_and(|rest| rest.starts_with(others))
+}
+
 /// Tells the trials of round trips.
 pub(crate) fn tell(rt: &impl Print, told: &mut Told, alloc: Global) -> io::Result<()> {
     let plans = every_small_plan_comes_back(alloc);
@@ -209,5 +258,9 @@ pub(crate) fn tell(rt: &impl Print, told: &mut Told, alloc: Global) -> io::Resul
     let before = a_story_comes_back_before_others(alloc);
     told.trial(rt, "a_story_comes_back_before_others", before)?;
     let refused = a_story_is_refused_at_its_octet(alloc);
-    told.trial(rt, "a_story_is_refused_at_its_octet", refused)
+    told.trial(rt, "a_story_is_refused_at_its_octet", refused)?;
+    let extended = packs_value_of_extended_counts(alloc);
+    told.trial(rt, "packs_value_of_extended_counts", extended)?;
+    let line = packs_one_long_line(alloc);
+    told.trial(rt, "packs_one_long_line", line)
 }

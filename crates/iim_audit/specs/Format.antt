@@ -6,7 +6,7 @@ use Rattle.iim_dataset.specs.Format.Datasets.{Dataset, shown, number_or_dash}
 use Rattle.iim_tables.specs.Format.Dates.{nanoseconds_in_second}
 use Rattle.iim_fields.specs.Format.Records.{instant_sent, instant_of_release, instant_of_expiration, Identity, id_eq, first_data}
 use Rattle.wire_story.specs.Format.Texts.{words, capped, StoryEvent, WordsSoFar, CountsWords}
-use Rattle.iim_places.specs.Format.{Admitted.Value, Open.IsOpen, Open.Delivers, Causes.refusal_at}
+use Rattle.iim_places.specs.Format.{Admitted.Value, Open.IsOpen, Open.Delivers, Causes.refusal_at, Causes.cause_number, Causes.cause_name}
 use Rattle.iim_places.specs.Format.Streams.{Listed, Divides, IsListing, Whole, RefusedBy, TooMany, values_of, raised, IsEnvelopeWithin, Kills}
 use Rattle.iim_places.specs.declared.fault.TokenFault.{TokenFault}
 use Rattle.iim_dataset.specs.States.Devices.{Device, HasGiven, MissedAfter}
@@ -285,3 +285,20 @@ sums_line rows = decimal (length rows) ++ (codes " envelopes, " ++ (decimal (rep
 -- what is printed of a report
 abbrev pub printed_report : List AuditRow → List ℕ
 printed_report rows = lines_from 1 rows ++ sums_line rows
+
+-- The number of what stopped an audit: for a refusal, that of its cause.
+-- twins (with audit_name): `upper_faults_are_printed`
+abbrev pub audit_number : AuditCause → ℕ
+audit_number (causes.Refused refusal) = cause_number refusal.cause
+audit_number causes.Read = 71
+audit_number causes.Interrupted = 72
+audit_number causes.OutOfMemory = 70
+audit_number causes.TooManyEnvelopes = 90
+
+-- The name of what stopped an audit.
+abbrev pub audit_name : AuditCause → List ℕ
+audit_name (causes.Refused refusal) = cause_name refusal.cause
+audit_name causes.Read = codes "Read"
+audit_name causes.Interrupted = codes "Interrupted"
+audit_name causes.OutOfMemory = codes "OutOfMemory"
+audit_name causes.TooManyEnvelopes = codes "TooManyEnvelopes"

@@ -7,7 +7,7 @@ use thiserror::Error;
 #[derive(Clone, Copy, Debug, PartialEq, Eq, Error)]
 pub enum AuditCause {
     /// The envelope was refused, or the input ends in it; or the intake had answered a fault before.
-    #[error("cause {}", .0.cause.name())]
+    #[error("{0}")]
     Refused(Refusal),
     /// The reader failed: cause 71.
     #[error("the input cannot be read")]
@@ -21,6 +21,37 @@ pub enum AuditCause {
     /// There are 1,000,000 envelopes, and it is one more: cause 90.
     #[error("too many envelopes")]
     TooManyEnvelopes,
+}
+
+impl AuditCause {
+    ghost use Rattle.std.specs.Prelude.{◌≡◌};
+    ghost use Rattle.iim_audit.specs.Format.{audit_number, audit_name};
+
+    /// Returns the number of the cause, as it is printed: for a refusal, that of its cause.
+    pub fn number(self) -> u8
+        ensures { result ≡ audit_number self }
+    {
+        match self {
+            AuditCause::Refused(refusal) => refusal.cause.number(),
+            AuditCause::Read => 71,
+            AuditCause::Interrupted => 72,
+            AuditCause::OutOfMemory => 70,
+            AuditCause::TooManyEnvelopes => 90,
+        }
+    }
+
+    /// Returns the name of the cause, as it is printed: for a refusal, that of its cause.
+    pub fn name(self) -> &'static str
+        ensures { result.now ≡ audit_name self }
+    {
+        match self {
+            AuditCause::Refused(refusal) => refusal.cause.name(),
+            AuditCause::Read => "Read",
+            AuditCause::Interrupted => "Interrupted",
+            AuditCause::OutOfMemory => "OutOfMemory",
+            AuditCause::TooManyEnvelopes => "TooManyEnvelopes",
+        }
+    }
 }
 
 /// What stopped an audit, and at which envelope.

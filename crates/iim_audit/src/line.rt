@@ -3,7 +3,7 @@
 ghost use Rattle.std.specs.Prelude.{◌≡◌, ◌+◌, ◌*◌, ◌≤◌, [], ◌++◌, decimal, length};
 ghost use Rattle.iim_dataset.specs.Format.Datasets.{shown, shown_octet};
 
-use iim_dataset::{escaped, is_plain};
+use iim_dataset::internals::{escaped, is_plain};
 use itoa::write_digits;
 use std::marker::Model;
 

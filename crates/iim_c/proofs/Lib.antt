@@ -3,4 +3,5 @@ pub mod BegunThere
 pub mod Places
 pub mod TextLengths
 pub mod TicketFields
+pub mod FieldArrays
 pub mod Tried

@@ -27,12 +27,11 @@ abbrev pub TellsRoom : (written room ticket ticket_room : ℕ) → IimAnswer →
 TellsRoom written room ticket ticket_room answer told =
     ((written ≤ room) × (ticket ≤ ticket_room) × (told ≡ answer)) ⊎ (((room < written) ⊎ (ticket_room < ticket)) × (told ≡ short_answer written ticket))
 
--- The ticket of the unpacker stands in the buffer, where that has room, and the progress is answered; or memory was refused.
+-- The ticket of the unpacker stands in the buffer, where that has room, and the progress is answered.
 abbrev pub IsSaved : Unpacking → ℕ × ℕ → ℕ → ℕ → List ℕ → IimAnswer → Type 0
 IsSaved u told written room out answer =
-    ((count : ℕ) × HasTicketIn u out count
-    × TellsRoom written room count (length out) (record (status_answer told.0) { octet = u.octets; used = told.1; written = written; ticket = count }) answer)
-    ⊎ (answer ≡ status_answer status.no_memory)
+    (count : ℕ) × HasTicketIn u out count
+    × TellsRoom written room count (length out) (record (status_answer told.0) { octet = u.octets; used = told.1; written = written; ticket = count }) answer
 
 -- The unpacker at the place of a ticket stands on no octets, or is restored from the ticket.
 abbrev pub IsBegun : Limits → List ℕ → ℕ → Unpacking → Type 0

@@ -1,7 +1,7 @@
 //! What a call answers.
 
 ghost use Rattle.std.specs.Prelude.{◌≡◌};
-ghost use Rattle.iim_c.specs.Format.Answers.{status_answer, refusal_answer, layer_number, ticket_answer, ticket_number};
+ghost use Rattle.iim_c.specs.Format.Answers.{status_answer, refusal_answer, layer_number, ticket_answer};
 
 use crate::status::{BAD_TICKET, NO_MEMORY};
 use iim_unpack::{Layer, Refusal, TicketFault};
@@ -79,20 +79,6 @@ pub(crate) fn refusal_answer(status: u8, refusal: Refusal) -> IimAnswer
     }
 }
 
-/// The number of the cause for which a ticket is refused.
-fn ticket_number(fault: TicketFault) -> u8
-    ensures { result ≡ ticket_number fault }
-{
-    match fault {
-        TicketFault::Form => 100,
-        TicketFault::Version => 101,
-        TicketFault::Impossible => 102,
-        TicketFault::HeaderFull => 50,
-        TicketFault::TooManyFields => 51,
-        TicketFault::OutOfMemory => 70,
-    }
-}
-
 /// The answer for a ticket that is refused; refused memory has a status of its own.
 pub(crate) fn ticket_answer(fault: TicketFault) -> IimAnswer
     ensures { result ≡ ticket_answer fault }
@@ -101,7 +87,7 @@ pub(crate) fn ticket_answer(fault: TicketFault) -> IimAnswer
         return status_answer(NO_MEMORY);
     }
     IimAnswer {
-        cause: ticket_number(fault),
+        cause: fault.number(),
         ..status_answer(BAD_TICKET)
     }
 }

@@ -24,9 +24,8 @@ use jiff::Timestamp;
 use std::alloc::Global;
 
 /// The answer for rows after which the audit continues: writes the ticket of the place that it has come to, and tells what is kept beside
-/// it. Where the ticket has no room, or no memory, what was kept stays.
+/// it. If the ticket has no room, what was kept stays. It takes no memory.
 fn kept(
-    alloc: Global,
     audit: &PieceAudit,
     found: Found,
     told: (u8, usize),
@@ -38,7 +37,7 @@ fn kept(
     ensures { IsKept audit.now found told room so_far.old so_far.new ticket_out.new result }
 {
     let unpacker = audit.unpacker();
-    let answer = saved(alloc, unpacker, told, found.rows, room, ticket_out);
+    let answer = saved(unpacker, told, found.rows, room, ticket_out);
     if answer.status == told.0 {
         let (words, inside) = audit.words();
         *so_far = IimSoFar {
@@ -89,24 +88,8 @@ fn audited(
     let room = rows.len();
     let (found, ending) = find_rows(&mut audit, so_far.at, piece, now, rows);
     match ending {
-        Ending::Used => kept(
-            alloc,
-            &audit,
-            found,
-            (MORE, piece.len()),
-            room,
-            so_far,
-            ticket_out,
-        ),
-        Ending::Full => kept(
-            alloc,
-            &audit,
-            found,
-            (DONE, found.used),
-            room,
-            so_far,
-            ticket_out,
-        ),
+        Ending::Used => kept(&audit, found, (MORE, piece.len()), room, so_far, ticket_out),
+        Ending::Full => kept(&audit, found, (DONE, found.used), room, so_far, ticket_out),
         Ending::Refused(refusal) => {
             *so_far = IimSoFar::begins(found.at);
             refused(found, refusal)

@@ -12,7 +12,7 @@ use crate::span::IimSpan;
 use crate::status::DONE;
 use iim_dataset::laws::dataset_laws;
 use iim_fields::laws::record_laws;
-use iim_places::form::FIRST_VERSION;
+use iim_places::internals::FIRST_VERSION;
 use iim_tables::records::OBJECT;
 use iim_unpack::laws::place_laws;
 use iim_unpack::{TicketParts, TicketPhase, split_ticket};

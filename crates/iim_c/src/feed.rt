@@ -11,7 +11,7 @@ ghost use Rattle.iim_c.specs.Steps.{IsSaved, HasFedText, HasRefusedText, TellsRo
 use crate::answer::{IimAnswer, refusal_answer, status_answer, ticket_answer};
 use crate::begin::begin;
 use crate::limits::IimLimits;
-use crate::status::{DONE, MORE, NO_MEMORY, REFUSED, SHORT};
+use crate::status::{DONE, MORE, REFUSED, SHORT};
 use crate::text_out::TextOut;
 use iim_dataset::laws::dataset_laws;
 use iim_fields::Limits;
@@ -96,9 +96,8 @@ fn used_of(progress: Progress, piece: usize) -> (u8, usize)
 
 /// The answer for progress, `told` as a status and how many octets of a piece were used: writes the ticket of the place that the
 /// unpacker has come to. Of what else is written it is said how much there is, and for how much there was room. Where either buffer is
-/// too short the answer tells the lengths that are needed; where memory is refused, it tells that.
+/// too short the answer has the lengths that are needed. It takes no memory.
 pub(crate) fn saved(
-    alloc: Global,
     unpacker: &Unpacker,
     told: (u8, usize),
     written: usize,
@@ -108,8 +107,8 @@ pub(crate) fn saved(
     requires { unpacker.now.refused ≡ None }
     ensures { IsSaved unpacker.now told written room out.new result }
 {
-    let Ok(ticket) = unpacker.save_at(alloc, out) else {
-        return status_answer(NO_MEMORY);
+    let Ok(ticket) = unpacker.save_at(out) else {
+        unreachable!()
     };
     if ticket > out.len() || written > room {
         return short_answer(written, ticket);
@@ -147,7 +146,7 @@ fn fed(
     match answer {
         Ok(progress) => {
             let told = used_of(progress, piece.len());
-            saved(alloc, &unpacker, told, written, room, ticket_out)
+            saved(&unpacker, told, written, room, ticket_out)
         }
         Err(refusal) => refused(refusal, written, room),
     }

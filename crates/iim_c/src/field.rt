@@ -9,7 +9,7 @@ ghost use Rattle.iim_c.specs.Format.Tickets.{IsField, IsFieldAt};
 use crate::answer::{IimAnswer, status_answer, ticket_answer};
 use crate::span::{IimSpan, NO_SPAN};
 use crate::status::{DONE, NONE};
-use iim_unpack::{TicketFault, TicketParts, TicketPhase, split_ticket};
+use iim_unpack::{TicketParts, TicketPhase, split_ticket};
 
 /// A dataset of records 1 and 2.
 #[repr(C)]
@@ -31,7 +31,7 @@ const NO_DATASET: IimDataset = IimDataset {
 };
 
 /// The octets of a dataset in a ticket that stand before its data: record, number and count.
-const HEAD_OCTETS: usize = 6;
+pub(crate) const HEAD_OCTETS: usize = 6;
 
 /// How many octets tell what is begun.
 fn begun_octets(version: u8, phase: &TicketPhase<'_>) -> usize
@@ -47,7 +47,7 @@ fn begun_octets(version: u8, phase: &TicketPhase<'_>) -> usize
 }
 
 /// How many octets stand before the first dataset: name and version, the section, what is begun, and how many datasets there are.
-fn fields_start(parts: &TicketParts<'_>) -> usize
+pub(crate) fn fields_start(parts: &TicketParts<'_>) -> usize
     ensures { result ≡ 10 + length (phase_octets parts.now.version (phase_told parts.now.phase)) }
 {
     5 + 1 + begun_octets(parts.version, &parts.phase) + 4

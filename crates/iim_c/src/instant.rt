@@ -48,7 +48,8 @@ pub(crate) fn told(instant: Option<Timestamp>) -> (bool, IimInstant)
 }
 
 impl IimInstant {
-    /// The instant that it tells. None where it has more nanoseconds than a second, or lies outside the years -9999 to 9999.
+    /// Returns the instant, or None if it has more nanoseconds than a second, or is earlier than -009999-01-02T01:59:59Z or later than
+    /// 9999-12-30T22:00:00.999999999Z.
     pub(crate) fn told(self) -> Option<Timestamp>
         ensures some { IfSome result (λ t. IsToldAs self t.nanosecond) }
         ensures none { IfNone result (IsInstant self → ⊥) }

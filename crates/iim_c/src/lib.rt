@@ -4,8 +4,8 @@
 //! between two calls is a ticket, octets that the caller keeps: nothing lasts from one call to the next. `iim_exports` hands the calls to C.
 //!
 //! [`IimAnswer`] is what a call answers. [`iim_check`] reads an envelope that lies in memory, [`iim_feed`] a piece of one, and [`iim_end`]
-//! tells what it means that the input ends. [`iim_field`], [`iim_header`] and [`iim_sizes`] tell what a ticket says of an envelope, and
-//! [`iim_place`] what of the dataset that is begun; [`iim_next`] tries each octet from its place. [`iim_audit`] says of its rows what
+//! tells what it means that the input ends. [`iim_fields`], [`iim_field`], [`iim_header`] and [`iim_sizes`] return what a ticket says of an
+//! envelope, and [`iim_place`] what of the dataset that is begun; [`iim_next`] tries each octet from its place. [`iim_audit`] says of its rows what
 //! [`iim_audit::PieceAudit`] says of its own, whatever the pieces. [`iim_pack`] packs a script, [`iim_row`] tells the tables, and
 //! [`iim_cause_text`] what a cause means.
 #![tactic(auto)]
@@ -21,6 +21,7 @@ mod dataset_names;
 mod end;
 mod feed;
 mod field;
+mod fields;
 mod finding;
 mod header;
 mod instant;
@@ -47,6 +48,7 @@ pub use dataset_names::iim_dataset_name;
 pub use end::iim_end;
 pub use feed::iim_feed;
 pub use field::{IimDataset, iim_field};
+pub use fields::iim_fields;
 pub use header::{IimMessage, iim_header};
 pub use instant::IimInstant;
 pub use limits::IimLimits;

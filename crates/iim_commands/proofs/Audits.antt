@@ -1,5 +1,5 @@
 -- What stops an audit's report.
-use Rattle.iim_commands.proofs.Words.{◌≡◌, ℕ, ◌+◌, ℤ, inl, inr, refl, sym, List, [], ◌∷◌, ◌++◌, length, take, drop, append_assoc, length-append, arith, take-append-drop, Device, FailsAt, lines_from, printed_report, row_line, sums_line, AuditRow, IsAuditAnswer, FailsToAudit, HasPut, HoldsNothing, IsCutShort, FailsToAdd, limits, cut_on, stopped_in, CommandFault}
+use Rattle.iim_commands.proofs.Imports.{◌≡◌, ℕ, ◌+◌, ℤ, inl, inr, refl, sym, List, [], ◌∷◌, ◌++◌, length, take, drop, append_assoc, length-append, arith, take-append-drop, Device, FailsAt, lines_from, printed_report, row_line, sums_line, AuditRow, IsAuditAnswer, FailsToAudit, HasPut, HoldsNothing, IsCutShort, FailsToAdd, limits, cut_on, stopped_in, CommandFault}
 use Rattle.iim_dataset.specs.Laws.{TextsJoin}
 use Rattle.iim_audit.specs.declared.fault.AuditCause.{AuditCause}
 use Rattle.iim_audit.specs.declared.fault.AuditCause.TheVariants as causes

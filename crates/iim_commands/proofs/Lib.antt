@@ -1,4 +1,4 @@
-pub mod Words
+pub mod Imports
 pub mod Audits
 pub mod Runs
-pub mod Scripts
+pub mod ShownScripts

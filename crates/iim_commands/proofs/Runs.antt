@@ -1,5 +1,5 @@
 -- How a run begins and ends.
-use Rattle.iim_commands.proofs.Words.{◌≡◌, ℕ, ◌⊎◌, inl, inr, refl, ap, ◌∙◌, List, [], Option, None, Some, Result, Ok, Err, IfOk, IfErr, Device, CommandFault, status_failed, in_line, Complained, Ends}
+use Rattle.iim_commands.proofs.Imports.{◌≡◌, ℕ, ◌⊎◌, inl, inr, refl, ap, ◌∙◌, List, [], Option, None, Some, Result, Ok, Err, IfOk, IfErr, Device, CommandFault, status_failed, in_line, Complained, Ends}
 use Rattle.iim_unpack.specs.States.Blocks.{with_held, put_before}
 use Rattle.iim_unpack.specs.declared.intake.Intake.{Intake}
 

@@ -1,6 +1,6 @@
 //! What the commands read and write: listings of inputs (`check`, `show`), stories, audits, and packed scripts.
-//! [`request::parse`] makes a request of the words of a command line, [`run::run`] carries it out, and [`script::read_script`]
-//! tells what a script tells.
+//! [`parse`] makes a request of the words of a command line, [`run`] carries it out, and [`read_script`] returns what a script
+//! specifies.
 //!
 //! Stands on the crates of the single commands, whose modules it hands on: `iim_request` reads the words, `iim_listing` lists and tells
 //! stories, `iim_pack_script` packs, and `iim_output` has what they write with. The audit stands here, over `iim_audit`, and what ties
@@ -9,9 +9,13 @@
 
 pub mod audit;
 pub mod laws;
-pub mod run;
+pub mod running;
 
-pub use iim_listing::{check, coming, list, show, story};
+pub use iim_listing::{check, coming, input, list, show, story};
 pub use iim_output::{block_writer, fault, limits, lines, outlet, silent, status};
-pub use iim_pack_script::{packing, script};
-pub use iim_request::{commands, instant, pack_request, request, shown};
+pub use iim_pack_script::script::read_script;
+pub use iim_pack_script::{packing, script as scripts};
+pub use iim_request::request::{Files, FilesRequest, Job, Request, UsageFault, parse, parse_files};
+pub use iim_request::{commands, instant, pack_request, request as words, shown};
+pub use iim_script::{Script, ScriptFault};
+pub use running::run;

@@ -63,7 +63,7 @@ module _ {D : Type 0} {stops : D → List DatasetEvent → DatasetEvent → D �
 
   -- nothing is begun then, and the fault says so
   pub stopped_at : {goes : D → List DatasetEvent → D → Type 0} {stands : D → Option ℕ → Type 0} {old : DatasetPlace} {octets : List ℕ} {k : ℕ}
-      (given : DatasetPlace × Fault) {a b : D} → IsPlace given.0 → given.0 ≡ between → given.1 ≡ record { cause = Stopped; taken = k } → k < length octets
+      (given : DatasetPlace × Fault) {a b : D} → IsPlace given.0 → given.0 ≡ between → given.1 ≡ record { cause = Stopped; used = k } → k < length octets
       → Stops stops old octets k a b
       → RefusesOne goes stops stands (old, a) octets given.1 (given.0, b)
   stopped_at given is_place none is lt s = record { is_place = is_place; before = rw is lt; refused = rw is (s, none); onward = rw is tt }

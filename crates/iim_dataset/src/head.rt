@@ -8,6 +8,9 @@ use crate::place::lengthen;
 use crate::size::COUNT_OCTETS;
 use arrayvec::ArrayVec;
 use byteorder::{BigEndian, ByteOrder};
+use std::error::Error;
+use std::fmt;
+use std::fmt::{Display, Formatter};
 
 /// What a tag tells (IIM version 4, the chapter on DataSets): the number of the record, the number of the dataset in
 /// it, and how many octets of data follow.
@@ -21,7 +24,7 @@ pub struct Head {
     pub count: u64,
 }
 
-/// Why octets are no tag.
+/// Why octets are no tag. Definitions of the layers above cite it.
 #[derive(Clone, Copy, Debug, PartialEq, Eq)]
 pub enum HeadCause {
     /// The first octet is not the tag marker.
@@ -30,9 +33,21 @@ pub enum HeadCause {
     CountForm,
 }
 
+/// Writes the number and the name, as `1 Marker`.
+impl Display for HeadCause {
+    fn fmt<W: fmt::Write>(&self, f: &mut Formatter<W>) -> fmt::Result {
+        f.write_str(match self {
+            HeadCause::Marker => "1 Marker",
+            HeadCause::CountForm => "2 CountForm",
+        })
+    }
+}
+
+impl Error for HeadCause {}
+
 /// Octets that begin no tag.
-#[derive(Clone, Copy, Debug, PartialEq, Eq)]
-pub struct HeadFault {
+#[derive(Clone, Copy)]
+pub(crate) struct HeadFault {
     /// What was wrong with the octet there.
     pub cause: HeadCause,
     /// How many octets stand before the first with which no tag can continue.

@@ -7,11 +7,11 @@
 //! and spell sizes by [`number_bytes`]. Sources and targets are reached by [`take`] and [`put`] alone.
 #![tactic(auto)]
 
-mod dash;
 mod device;
 pub mod device_laws;
 mod fault;
 mod head;
+pub mod internals;
 pub mod laws;
 mod name;
 mod number;
@@ -27,16 +27,14 @@ mod source;
 mod stop;
 mod target;
 
-pub use dash::NumberOrDash;
 pub use device::IoFault;
 pub use fault::{Fault, FaultCause};
-pub use head::{EXTENDED, Head, HeadCause, HeadFault, TAG_MARKER, TAG_OCTETS, head_bytes};
+pub use head::{Head, TAG_MARKER, TAG_OCTETS, head_bytes};
 pub use name::DatasetName;
 pub use number::{NUMBER_OCTETS, number_bytes};
 pub use place::{DatasetPlace, HELD_OCTETS};
 pub use reader::HeadReader;
-pub use reserved::ReservedOctets;
-pub use shown::{escaped, is_plain, push_escape, push_shown};
+pub use shown::push_shown;
 pub use sink::{DatasetSink, Step};
 pub use size::{COUNT_OCTETS, GREATEST_SIZE};
 pub use source::{BLOCK, FromRead, Source, take};

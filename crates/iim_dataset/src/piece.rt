@@ -35,10 +35,10 @@ pub(crate) fn start() -> DatasetPlace
 fn stopped(used: usize) -> (DatasetPlace, Fault)
     ensures place { result.0 ≡ between }
     ensures is_place { IsPlace result.0 }
-    ensures fault { result.1 ≡ record { cause = FaultCause.Stopped; taken = used } }
+    ensures fault { result.1 ≡ record { cause = FaultCause.Stopped; used = used } }
 {
     let cause = FaultCause::Stopped;
-    (start(), Fault { cause, taken: used })
+    (start(), Fault { cause, used })
 }
 
 /// Hands on what the last octet of a tag completes.
@@ -95,7 +95,7 @@ fn take_tag<D: DatasetSink>(
             let used = fault.taken - held.len();
             let cause = tag_fault(fault.cause);
             lengthen(&mut held, &rest[..used]);
-            Err((DatasetPlace::Tag(held), Fault { cause, taken: used }))
+            Err((DatasetPlace::Tag(held), Fault { cause, used }))
         }
     }
 }
@@ -269,9 +269,9 @@ pub(crate) fn take_piece<D: DatasetSink>(
                 }
             }
             Err((place, fault)) => {
-                let used = at + fault.taken;
+                let used = at + fault.used;
                 let cause = fault.cause;
-                return Err((place, Fault { cause, taken: used }));
+                return Err((place, Fault { cause, used }));
             }
         }
     }

@@ -1,8 +1,27 @@
 //! The stop of a sink.
 
+ghost use Rattle.std.specs.Prelude.{Some};
+ghost use Rattle.iim_dataset.specs.Format.Faults.{stop_text};
+
+use std::error::Error;
+use std::fmt;
+use std::fmt::{Display, Formatter};
+
 /// A sink refused an octet of a call's run.
 #[derive(Clone, Copy, Debug, PartialEq, Eq)]
 pub struct Stop {
     /// How many octets of the run it took before that one.
     pub taken: usize,
 }
+
+/// Writes the number of octets that the sink took, as `stopped after 5 octets`.
+impl Display for Stop {
+    ghost output = { λ stop. Some (stop_text stop) };
+
+    fn fmt<W: fmt::Write>(&self, f: &mut Formatter<W>) -> fmt::Result {
+        let taken = self.taken;
+        write!(f, "stopped after {taken} octets")
+    }
+}
+
+impl Error for Stop {}

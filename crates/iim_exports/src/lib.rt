@@ -9,7 +9,7 @@ ghost use Rattle.iim_places.specs.Format.Tickets.{IsPlaceOf, Place};
 ghost use Rattle.iim_places.specs.States.Restored.{IsTicketAt};
 ghost use Rattle.iim_tables.specs.Format.Rows.{Meets, row_of};
 ghost use Rattle.iim_c.specs.Format.Auditing.{IsAudited};
-ghost use Rattle.iim_c.specs.Format.Tickets.{IsBegunTold, TellsOctets, TellsToken, IsNext, AreSizes, IsField, IsHeader};
+ghost use Rattle.iim_c.specs.Format.Tickets.{IsBegunTold, TellsOctets, TellsToken, IsNext, AreSizes, IsField, IsHeader, ReturnsFields};
 ghost use Rattle.iim_c.specs.Format.Checking.{IsChecked, IsOnly, limits_for};
 ghost use Rattle.iim_c.specs.Format.Feeding.{IsEnd, IsFed};
 ghost use Rattle.iim_c.specs.Format.Tables.{IsNamed, dataset_named, layer_named, name_or_none, rule_for, cause_named, cause_text};
@@ -76,6 +76,19 @@ pub extern "C" fn iim_field(
     ensures { IsField ticket.now n dataset.new answer.new }
 {
     iim_c::iim_field(ticket, n, dataset, answer);
+}
+
+/// Writes the datasets of records 1 and 2 of a ticket into an array, from the one with the index `from` on, in one pass over the ticket.
+#[unsafe(no_mangle)]
+pub extern "C" fn iim_fields(
+    ticket: &[u8],
+    from: usize,
+    datasets: &mut [IimDataset],
+    answer: &mut IimAnswer,
+)
+    ensures { ReturnsFields ticket.now from datasets.old datasets.new answer.new }
+{
+    iim_c::iim_fields(ticket, from, datasets, answer);
 }
 
 /// Tells the header and the trailer of the message, as far as they have come.

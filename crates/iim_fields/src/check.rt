@@ -15,9 +15,10 @@ use crate::fault::FieldFault;
 use crate::order::Order;
 use crate::value::{check_value, is_number, is_value};
 use iim_dataset::Head;
+use iim_tables::Row;
+use iim_tables::internals::line;
 use iim_tables::laws::each_row_has_values;
 use iim_tables::records::POST_OBJECT;
-use iim_tables::{Row, line};
 use std::marker::Model;
 
 /// A begun dataset.

@@ -2,10 +2,12 @@
 
 use crate::envelope_ref::EnvelopeRef;
 use crate::id::EnvelopeId;
+use crate::instants;
 use crate::store::Store;
 use crate::walk::{DataIter, FieldIter};
-use iim_tables::date_of;
 use iim_tables::records::{APPLICATION, ENVELOPE};
+use jiff::Timestamp;
+use jiff::civil::Date;
 use std::marker::Model;
 
 /// The datasets of a whole record 1 and a whole record 2, each good. It is seen as the list of them, in order.
@@ -31,9 +33,10 @@ impl Envelope {
     ghost use Rattle.std.specs.Prelude.{◌≡◌, ◌≤◌, List, [], ◌∷◌, length, is_some, Some, ◌↔◌, IsTrue, IsSomeAnd, IfSome, pos};
     ghost use Rattle.iim_dataset.specs.Format.Datasets.{Dataset};
     ghost use Rattle.std.specs.Option.{option_map};
-    ghost use Rattle.iim_tables.specs.Format.Dates.{is_date};
+    ghost use Rattle.jiff.specs.Words.{IsYmd};
+    ghost use Rattle.iim_tables.specs.Format.Dates.{is_date, year_in, month_in, day_in};
     ghost use Rattle.iim_fields.specs.States.Walks.{rest_of, data_left};
-    ghost use Rattle.iim_fields.specs.Format.Records.{IsEnvelope, first_data, all_data};
+    ghost use Rattle.iim_fields.specs.Format.Records.{IsEnvelope, first_data, all_data, instant_sent, instant_of_release, instant_of_expiration};
     ghost use Rattle.iim_fields.specs.States.Standing.{AreFew};
     ghost use Rattle.iim_fields.specs.Format.Causes.{joined};
     ghost use Rattle.iim_tables.specs.Format.Rows.{Meets};
@@ -113,6 +116,39 @@ impl Envelope {
         ensures date { IsTrue (is_date result.now) }
     {
         self.borrowed().date_sent_text()
+    }
+
+    /// Returns the day of 1:70 Date Sent.
+    pub fn date_sent(&self) -> Date
+        ensures { IsSomeAnd (first_data 1 70 self.now)
+            (λ date. IsYmd (pos (year_in date)) (pos (month_in date)) (pos (day_in date)) result) }
+    {
+        instants::date_sent(&self.borrowed())
+    }
+
+    /// Returns the instant of 1:70 Date Sent and 1:80 Time Sent: local time less its offset. `None` if no time was sent, or if `jiff`
+    /// has no such instant: its last is 9999-12-30T22:00:00.999999999Z.
+    pub fn sent(&self) -> Option<Timestamp>
+        ensures { option_map (λ t. t.nanosecond) result ≡ instant_sent self.now }
+    {
+        instants::sent(&self.borrowed())
+    }
+
+    /// Returns the instant from which on the copy may be used: 2:30 Release Date and 2:35 Release Time, local time less its offset, or
+    /// the beginning of that day in universal time if no time was sent. `None` if no date was sent, or if `jiff` has no such instant.
+    pub fn release(&self) -> Option<Timestamp>
+        ensures { option_map (λ t. t.nanosecond) result ≡ instant_of_release self.now }
+    {
+        instants::release(&self.borrowed())
+    }
+
+    /// Returns the last instant at which the copy may be used: 2:37 Expiration Date and 2:38 Expiration Time, local time less its offset,
+    /// or the last second of that day in universal time if no time was sent. `None` if no date was sent, or if `jiff` has no such
+    /// instant.
+    pub fn expires(&self) -> Option<Timestamp>
+        ensures { option_map (λ t. t.nanosecond) result ≡ instant_of_expiration self.now }
+    {
+        instants::expires(&self.borrowed())
     }
 
     /// What the envelope is known by: 1:30 Service Identifier, 1:40 Envelope Number and 1:70 Date Sent.

@@ -1,6 +1,6 @@
 //! The instants and the day that an envelope names.
 //!
-//! They stand apart from the envelope's own methods: a crate that names an envelope alone then reads nothing of `jiff` when it is built.
+//! An [`Envelope`](crate::Envelope) and an [`EnvelopeRef`] have a method for each.
 
 ghost use Rattle.std.specs.Prelude.{◌≡◌, IsSomeAnd, pos};
 ghost use Rattle.std.specs.Option.{option_map};

@@ -3,7 +3,7 @@
 ghost use Rattle.std.specs.Prelude.{◌≡◌, ◌+◌, ◌≤◌, ◌<◌, ◌++◌, ◌∷◌, [], IfOk, length, vec_len, vec_capacity};
 ghost use Rattle.iim_fields.specs.StoreLayout.{ends_at, begun_octets};
 
-use iim_dataset::ReservedOctets;
+use iim_dataset::internals::ReservedOctets;
 use std::alloc::{AllocError, Global};
 
 /// A kept dataset: the numbers of its record and of itself, and where its octets end in the store. They begin where

@@ -12,11 +12,12 @@ ghost use Rattle.iim_fields.specs.Format.Records.{data_of, number_told, tells_nu
 use crate::fault::{FieldCause, FieldFault};
 use crate::order::fault_on;
 use iim_dataset::{GREATEST_SIZE, Head};
+use iim_tables::internals::has_kind;
 use iim_tables::records::{
     ANNOUNCED_SIZE, CONFIRMED_SIZE, ENVELOPE, FILE_FORMAT, MAX_SUBFILE_SIZE, MAXIMUM_SIZE,
     POST_OBJECT, PRE_OBJECT, SIZE_MODE,
 };
-use iim_tables::{Kind, Row, admits, has_kind, number_of};
+use iim_tables::{Kind, Row, admits, number_of};
 
 /// The file format of a text for wire services, which the profile asks for.
 const WIRE_FORMAT: u64 = 2;

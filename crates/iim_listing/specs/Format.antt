@@ -126,7 +126,8 @@ BreaksInText old new envelopes octets = (k : ℕ) × (words : List ℕ) × (rest
     × (k ≡ length octets → rest ≡ [] → (e : Listed) × IsListed limits e × (e.octets ≡ octets))
     × IsTextIn (take k octets) (words ++ rest) × Appends old.octets new.octets (stories envelopes ++ words) × HasBroken old new
 
--- Of the envelopes whose stories are out some, from the first on, are told on the errors, each with its whole line.
+-- Of the envelopes whose stories are out some, from the first on, are told on the errors, each with its whole line. (All that ended before
+-- the last block was read are among them: nothing is held when it is read, which is the condition of `Input::next_piece`, and not said here.)
 abbrev pub TellsFront : Device → Device → List Listed → Type 0
 TellsFront errors_old errors_new envelopes = (front : List Listed) × (others : List Listed) × (envelopes ≡ front ++ others)
     × Wrote errors_old errors_new (texts_from line_of 1 front)

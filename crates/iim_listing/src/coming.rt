@@ -8,13 +8,14 @@ ghost use Rattle.iim_unpack.specs.declared.intake.IntakeFault.TheVariants.{Refus
 ghost use Rattle.iim_listing.specs.Steps.{IsOfFault};
 ghost use Rattle.iim_output.specs.Format.{limits};
 
+use crate::input::Input;
 use iim_dataset::device_laws::gifts_join;
 use iim_dataset::{Source, Stop};
 use iim_output::fault::CommandFault;
 pub use iim_output::limits::LIMITS;
 use iim_output::outlet::Outlet;
 use iim_unpack::laws::place_laws;
-use iim_unpack::{Cause, Fed, Intake, IntakeFault, Refusal, Unpacker};
+use iim_unpack::{Cause, Fed, IntakeFault, Refusal, Unpacker};
 use wire_story::laws::delivery_may_be_cut;
 
 /// What an input has next.
@@ -28,8 +29,8 @@ pub enum Next {
     Refused(Refusal),
 }
 
-/// Lets out what the sink holds, where the intake holds no octets and so has to read.
-fn let_out_before_read<R: Source, S: Outlet>(intake: &Intake<R>, sink: &mut S) -> Result<(), Stop>
+/// Lets out what the sink holds, where the input holds no octets and so has to be read.
+fn let_out_before_read<R: Source, S: Outlet>(intake: &Input<R>, sink: &mut S) -> Result<(), Stop>
     ensures told { OnOk result (S.goes sink.old [] sink.new) }
     ensures calm { OnOk result (S.failures sink.new ≡ S.failures sink.old) }
     ensures settled { OnOk result (intake.now.block ≡ [] → S.settled sink.new) }
@@ -65,7 +66,7 @@ fn next_of_fault(fault: IntakeFault) -> Result<Next, CommandFault>
 /// Begins an unpacker again, feeds it what comes next, and tells the sink the text of it. Before the input is read, the sink lets out
 /// what it holds. A fault is of the devices.
 pub fn take_next<R: Source, S: Outlet>(
-    intake: &mut Intake<R>,
+    intake: &mut Input<R>,
     unpacker: &mut Unpacker,
     sink: &mut S,
 ) -> Result<Next, CommandFault>

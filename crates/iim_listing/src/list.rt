@@ -12,6 +12,7 @@ ghost use Rattle.iim_output.specs.States.Holding.{HoldsNothing, KeepsWriter, dev
 ghost use Rattle.iim_listing.specs.Steps.{FailsToList, Settles, ListsNext};
 
 use crate::coming::{LIMITS, Next, take_next};
+use crate::input::Input;
 use iim_dataset::device_laws::{gifts_join, texts_join};
 use iim_dataset::{Source, Target};
 use iim_output::block_writer::BlockWriter;
@@ -19,7 +20,7 @@ use iim_output::fault::CommandFault;
 use iim_output::lines::{TOO_MANY, add, add_last, push_refused};
 use iim_output::silent::Silent;
 use iim_output::status::{ACCEPTED, REFUSED};
-use iim_unpack::{Intake, MAX_ENVELOPES, UnpackedRef, Unpacker};
+use iim_unpack::{MAX_ENVELOPES, UnpackedRef, Unpacker};
 use std::alloc::{AllocError, Global};
 
 /// Adds the text of the envelope that an unpacker is done with.
@@ -46,7 +47,7 @@ fn push_envelope<P: EnvelopeLines>(
 #[inline]
 fn list_next<P: EnvelopeLines, R: Source, W: Target>(
     texts: &P,
-    intake: &mut Intake<R>,
+    intake: &mut Input<R>,
     unpacker: &mut Unpacker,
     silent: &mut Silent<'_, W>,
     text: &mut Vec<u8>,
@@ -90,7 +91,7 @@ fn list_next<P: EnvelopeLines, R: Source, W: Target>(
 fn list_texts<P: EnvelopeLines, R: Source, W: Target>(
     alloc: Global,
     texts: &P,
-    intake: &mut Intake<R>,
+    intake: &mut Input<R>,
     silent: &mut Silent<'_, W>,
 ) -> Result<u8, CommandFault>
     requires alive { intake.old.failed ≡ None }
@@ -138,7 +139,7 @@ fn settle<W: Target>(
 pub fn list<P: EnvelopeLines, R: Source, W: Target>(
     alloc: Global,
     texts: &P,
-    intake: &mut Intake<R>,
+    intake: &mut Input<R>,
     output: &mut W,
 ) -> Result<u8, CommandFault>
     requires { intake.old.failed ≡ None }

@@ -9,6 +9,7 @@ ghost use Rattle.iim_unpack.specs.States.Unpacking.{limits_in};
 ghost use Rattle.iim_output.specs.Format.{limits};
 
 use crate::coming::{LIMITS, Next, take_next};
+use crate::input::Input;
 use crate::laws::envelopes_are_delivered_as_lines;
 use crate::narrator::Narrator;
 use iim_dataset::device_laws::{gifts_join, texts_join};
@@ -17,14 +18,14 @@ use iim_output::block_writer::BlockWriter;
 use iim_output::fault::CommandFault;
 use iim_output::lines::TOO_MANY;
 use iim_output::status::{ACCEPTED, REFUSED};
-use iim_unpack::{Intake, MAX_ENVELOPES, Unpacker};
+use iim_unpack::{MAX_ENVELOPES, Unpacker};
 use std::alloc::Global;
 use wire_story::laws::story_laws;
 
 /// Tells what comes next, after `count` envelopes, and answers the status where it is the last.
 #[inline]
 fn tell_next<R: Source, W: Target, E: Target>(
-    intake: &mut Intake<R>,
+    intake: &mut Input<R>,
     unpacker: &mut Unpacker,
     narrator: &mut Narrator<'_, '_, W, E>,
     count: u64,
@@ -64,7 +65,7 @@ fn tell_next<R: Source, W: Target, E: Target>(
 /// Tells the text of each envelope as it comes, and its line, where nothing is held before. All is out afterwards, but where a write failed.
 fn tell_stories<R: Source, W: Target, E: Target>(
     alloc: Global,
-    intake: &mut Intake<R>,
+    intake: &mut Input<R>,
     narrator: &mut Narrator<'_, '_, W, E>,
 ) -> Result<u8, CommandFault>
     requires alive { intake.old.failed ≡ None }
@@ -98,7 +99,7 @@ fn tell_stories<R: Source, W: Target, E: Target>(
 /// both.
 pub fn narrate<R: Source, W: Target, E: Target>(
     alloc: Global,
-    intake: &mut Intake<R>,
+    intake: &mut Input<R>,
     output: &mut W,
     errors: &mut E,
 ) -> Result<u8, CommandFault>

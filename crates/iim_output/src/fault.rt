@@ -3,6 +3,9 @@
 ghost use Rattle.std.specs.Prelude.{◌≡◌};
 
 use std::alloc::AllocError;
+use std::error::Error;
+use std::fmt;
+use std::fmt::{Display, Formatter};
 
 /// What went wrong around the octets, and not with them.
 #[derive(Clone, Copy, Debug, PartialEq, Eq)]
@@ -29,6 +32,19 @@ impl CommandFault {
         }
     }
 }
+
+/// Writes its line, without the line end.
+impl Display for CommandFault {
+    fn fmt<W: fmt::Write>(&self, f: &mut Formatter<W>) -> fmt::Result {
+        f.write_str(match self {
+            CommandFault::CannotRead => "cannot read",
+            CommandFault::CannotWrite => "cannot write",
+            CommandFault::OutOfMemory => "out of memory",
+        })
+    }
+}
+
+impl Error for CommandFault {}
 
 impl From<AllocError> for CommandFault {
     ghost use Rattle.iim_output.specs.declared.fault.CommandFault.TheVariants.{OutOfMemory};

@@ -2,7 +2,8 @@
 
 ghost use Rattle.std.specs.Prelude.{◌≡◌, ◌≤◌, ◌+◌, [], ◌++◌, length, drop, IfOk};
 
-use iim_dataset::{BLOCK, ReservedOctets};
+use iim_dataset::BLOCK;
+use iim_dataset::internals::ReservedOctets;
 use std::alloc::{AllocError, Global};
 use std::marker::Model;
 

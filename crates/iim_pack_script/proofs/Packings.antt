@@ -1,7 +1,8 @@
 -- `pack`: what its parts leave comes to what it leaves.
-use Rattle.iim_pack_script.proofs.Words.{◌≡◌, ℕ, ◌+◌, ap, length-append, IfOk, min, ◌≤◌, ◌++◌, List, [], length, inl, inr, refl, take, drop, append_assoc, take-append-drop, sym, subst, ◌∙◌, arith, Bool, true, false, Option, Some, None, Result, Ok, Err, IfErr, IsTrue, Device, BrokeAfter, HasGiven, Stopped, Wrote, Begins, pack_cause, max_script, Answered, Asked, IsBrokenOff, IsNotPacked, IsPacked, IsPast, IsPlanOf, IsRead, IsScriptRefusal, IsScriptOf, FailsToAnswer, FailsToRead, ScriptContent, object_of, IsFresh, block_device, held_in, octets_behind, ComesTo, IsFailedRead, TellsFault}
+use Rattle.iim_pack_script.proofs.Words.{◌≡◌, ◌<◌, ◌⊎◌, ℕ, ◌+◌, ap, length-append, IfOk, min, ◌≤◌, ◌++◌, List, [], length, inl, inr, refl, take, drop, append_assoc, take-append-drop, sym, subst, ◌∙◌, arith, Bool, true, false, Option, Some, None, Result, Ok, Err, IfErr, IsTrue, Device, BrokeAfter, HasGiven, Stopped, Wrote, Begins, pack_cause, max_script, Answered, Asked, IsBrokenOff, IsNotPacked, IsPacked, IsPast, IsPlanOf, IsRead, IsScriptRefusal, IsScriptOf, FailsToAnswer, FailsToRead, ScriptContent, object_of, IsFresh, block_device, held_in, octets_behind, ComesTo, IsFailedRead, TellsFault}
 use Rattle.std.specs.Prelude.{if◌then◌else◌}
 use Rattle.std.specs.Option.{unwrap_or}
+use Rattle.std.specs.Io.KnownBytes.{IsAtEnd}
 use Rattle.iim_dataset.specs.{Format.Octets.greatest_size, Steps.appends_nothing, Laws.GiftsJoin}
 use Rattle.iim_object.specs.Format.Objects.{bound_of, is_plan, most_in}
 use Rattle.iim_object.specs.declared.writing.cause.PackCause.TheVariants as causes
@@ -150,13 +151,18 @@ unread joins first mid new script room CannotRead few fits given h = (script, h.
 unread joins first mid new script room CannotWrite few fits given h = absurd h
 unread joins first mid new script room OutOfMemory few fits given h =
     let long = length-append script h.0 in
-    let within : length h.0 ≤ room = h.1 in
-    (script ++ h.0, omega (arith, long, within, fits), joins.more first mid new script h.0 given h.2)
+    let some : 0 < length h.0 = h.1 in
+    let within : length h.0 ≤ room = h.2 in
+    (script ++ h.0, omega (arith, long, within, fits), joins.more first mid new script h.0 given h.3, inl (omega (arith, long, some)))
 
 -- ---- answers
 
 few_read : (old new : Device) (octets : List ℕ) → IsRead old new octets → length octets ≤ max_script + 1
 few_read old new octets read = elim read.1 [ inl h ↦ (let within : length octets ≤ max_script = h.1 in omega (arith, within)) | inr h ↦ omega (arith, h) ]
+
+-- octets were read, or the input is at its end
+some_read : (old new : Device) (octets : List ℕ) → IsRead old new octets → (0 < length octets) ⊎ IsAtEnd new.octets
+some_read old new octets read = elim read.1 [ inl h ↦ inr h.0 | inr h ↦ inl (omega (arith, h)) ]
 
 -- the input was not read
 pub unread_as : (a : Asked) (first rest old errors : Device) (fault : CommandFault) → FailsToRead first rest fault
@@ -175,10 +181,12 @@ pub starved_as : (a : Asked) (octets : List ℕ) (first rest old new errors said
     → IsRead first rest octets → new ≡ old → IfErr result (λ fault. fault ≡ OutOfMemory)
     → IfErr result (FailsToAnswer a (devices first old errors) (devices rest new said))
 starved_as a octets first rest old new errors said (Ok status) read same starved = tt
-starved_as a octets first rest old new errors said (Err fault) read same starved = rw starved ((octets, few_read first rest octets read, read.0), same)
+starved_as a octets first rest old new errors said (Err fault) read same starved =
+    rw starved ((octets, few_read first rest octets read, read.0, some_read first rest octets read), same)
 
 pub unanswered_as : (a : Asked) (octets : List ℕ) (first rest old new errors said : Device) (fault : CommandFault) → IsRead first rest octets
     → IsNotPacked a octets old new (Around fault) → FailsToAnswer a (devices first old errors) (devices rest new said) fault
 unanswered_as a octets first rest old new errors said CannotRead read h = absurd h
 unanswered_as a octets first rest old new errors said CannotWrite read h = (octets, read, h)
-unanswered_as a octets first rest old new errors said OutOfMemory read h = ((octets, few_read first rest octets read, read.0), h)
+unanswered_as a octets first rest old new errors said OutOfMemory read h =
+    ((octets, few_read first rest octets read, read.0, some_read first rest octets read), h)

@@ -89,11 +89,13 @@ IsScriptRefusal a octets text = ((line : ℕ) × (cause : ScriptCause) × IsScri
 abbrev pub IsRead : Device → Device → List ℕ → Type 0
 IsRead old new octets = HasGiven old new octets × ((IsAtEnd new.octets × (length octets ≤ max_script)) ⊎ (length octets ≡ max_script + 1))
 
--- Why the input was not read: a read failed after no more octets than a script may have; or memory was short.
+-- Why there is no script: a read failed after no more octets than a script may have; or an allocation failed, for octets that were
+-- read or once all of them were. Before its first octet or its end an input causes no allocation.
 abbrev pub FailsToRead : Device → Device → CommandFault → Type 0
 FailsToRead old new CannotRead = (octets : List ℕ) × (fault : IoFault) × (length octets ≤ max_script) × MissedAfter old new octets fault
 FailsToRead old new CannotWrite = ⊥
 FailsToRead old new OutOfMemory = (octets : List ℕ) × (length octets ≤ max_script + 1) × HasGiven old new octets
+    × ((0 < length octets) ⊎ IsAtEnd new.octets)
 
 -- ---- the output
 

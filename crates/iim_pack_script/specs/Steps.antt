@@ -1,5 +1,5 @@
 -- What the parts of `pack` leave, and a target that is written to in blocks.
-use Rattle.std.specs.Prelude.{◌≡◌, ℕ, ◌-◌, cond, nat_le, List, ◌∷◌, ◌++◌, length, take, Option, Some, None, ◌≢◌, ◌≤◌, codes}
+use Rattle.std.specs.Prelude.{◌≡◌, ◌<◌, ℕ, ◌-◌, cond, nat_le, List, ◌∷◌, ◌++◌, length, take, Option, Some, None, ◌≢◌, ◌≤◌, codes}
 use Rattle.std.specs.Io.KnownBytes.{IsAtEnd}
 use Rattle.iim_dataset.specs.States.Devices.{Device, Missed, HasGiven}
 use Rattle.iim_object.specs.{Format.Causes.pack_number, declared.writing.cause.PackCause.PackCause}
@@ -46,11 +46,11 @@ pub record GotSome (old new : Device) (before after : List ℕ) (count : ℕ) : 
   pub counted : count ≡ length more
   pub at_end : count ≡ 0 → IsAtEnd new.octets
 
--- A read failed; or no more octets came than there is room for, and memory was short.
+-- A read failed; or it returned octets, no more than the buffer has, and the allocation for them failed.
 abbrev pub IsFailedRead : Device → Device → ℕ → CommandFault → Type 0
 IsFailedRead old new room CannotRead = (fault : IoFault) × Missed old new fault
 IsFailedRead old new room CannotWrite = ⊥
-IsFailedRead old new room OutOfMemory = (more : List ℕ) × (length more ≤ room) × HasGiven old new more
+IsFailedRead old new room OutOfMemory = (more : List ℕ) × (0 < length more) × (length more ≤ room) × HasGiven old new more
 
 -- what a script was read as
 abbrev pub told_by : Script → ScriptContent

@@ -25,9 +25,12 @@ use iim_pack::laws::packed_octets_are_one;
 pub use iim_request::pack_request::PackRequest;
 use iim_script::{MAX_SCRIPT, Script, ScriptCause, ScriptFault};
 use std::alloc::Global;
+use std::error::Error;
+use std::fmt;
+use std::fmt::{Display, Formatter};
 
 /// What keeps an envelope from being packed.
-#[derive(Drop)]
+#[derive(Debug, Drop)]
 pub enum PackFault {
     /// The script is refused.
     Refused {
@@ -42,6 +45,20 @@ pub enum PackFault {
     Around(CommandFault),
 }
 
+/// Writes the line that the command prints, without its end.
+impl Display for PackFault {
+    fn fmt<W: fmt::Write>(&self, f: &mut Formatter<W>) -> fmt::Result {
+        match self {
+            PackFault::Refused { line, number, name } => {
+                write!(f, "script line {line} cause {number} {name}")
+            }
+            PackFault::Around(fault) => write!(f, "{fault}"),
+        }
+    }
+}
+
+impl Error for PackFault {}
+
 /// Reads once, past interruptions, and adds what came to a script: answers how many octets, none only at the end.
 fn read_some<R: Source>(
     reader: &mut R,
@@ -55,6 +72,7 @@ fn read_some<R: Source>(
     ensures leads { R.leads reader.old reader.new }
 {
     match take(reader, block) {
+        Ok(0) => Ok(0),
         Ok(count) => match script.extend_from_slice(&block[..count]) {
             Ok(()) => Ok(count),
             Err(_) => Err(CommandFault::OutOfMemory),

@@ -1,6 +1,6 @@
 -- The place that the parts of a ticket tell, and whether an envelope can be there.
 use Rattle.std.proofs.Common.{◌≡◌, ℕ, ◌+◌, ◌-◌, ◌≤◌, cond, if◌then◌else◌, Bool, List, [], ◌∷◌, length, refl, ap, sym, ◌∙◌, subst, arith, ◌++◌, codes, rules, get_or}
-use Rattle.iim_places.proofs.Words.{AllByRecursion, all_map, Dataset, kept, kept_octets, IsWithin, Limits, LeadsToSaved, MessagePlace, LeadsByLayers, plain, PlacesArePossibleByLayers, RecordsLive, are_ended, begun_subfiles, one_of_some, record_datasets, Numbers, number_list, TicketsOfPlacesAreSplit, split_of, TicketsHaveOneSplit, IsSmall, IsSmallPhase, Split, IsSmallPlace, greatest_size_before, AreHeadsWithin, begun_count, begun_fields, widest, SmallPlacesWerePossible, IsTicketAt, IsLimitFault, IsRestoreFault, AreKept, IsMessageOf, numbers_told, told_datasets, IsSizeIn, HasForm, SplitsTicket, TicketsTellOnePlace, PossiblePlacesAreTaken, IsVersion, ticket_in, Form, Version, Impossible, OutOfMemory, split_octets, HeaderFull, TooManyFields}
+use Rattle.iim_places.proofs.Words.{AllByRecursion, all_map, Dataset, kept, kept_octets, IsWithin, Limits, LeadsToSaved, MessagePlace, LeadsByLayers, plain, PlacesArePossibleByLayers, RecordsLive, are_ended, begun_subfiles, one_of_some, record_datasets, Numbers, number_list, TicketsOfPlacesAreSplit, split_of, TicketsHaveOneSplit, IsSmall, IsSmallPhase, Split, IsSmallPlace, greatest_size_before, AreHeadsWithin, begun_count, begun_fields, widest, SmallPlacesWerePossible, IsTicketAt, IsLimitFault, IsRestoreFault, AreKept, IsMessageOf, numbers_told, told_datasets, IsSizeIn, HasForm, SplitsTicket, TicketsTellOnePlace, PossiblePlacesAreTaken, IsVersion, ticket_in, TicketForm, TicketVersion, Impossible, OutOfMemory, split_octets, HeaderFull, TooManyFields}
 use Rattle.iim_places.proofs.{Fitting.small_size, Fitting.spelled, Plain.kept_fields}
 use Rattle.iim_fields.specs.Format.Causes.{joined}
 use Rattle.iim_places.specs.{States.Readers.AreAt, States.Readers.LeadsNowhereIn, States.Restored.fields_told, States.Restored.octets_told}
@@ -63,8 +63,8 @@ same_place one ticket place there is are =
     one are.version there place are.is_version are.possible (rw at at is.possible) (sym are.spelled ∙ is.spelled ∙ ap (λ (v : ℕ). ticket_in v place) at)
 
 pub taken : TicketsOfPlacesAreSplit → TicketsTellOnePlace → PossiblePlacesAreTaken
-taken split one limits ticket place Form is bad = absurd (bad.1 (split_of is.version place) (parts_of split ticket place is))
-taken split one limits ticket place Version is bad =
+taken split one limits ticket place TicketForm is bad = absurd (bad.1 (split_of is.version place) (parts_of split ticket place is))
+taken split one limits ticket place TicketVersion is bad =
     let e : codes "IIMT" ++ bad.version ∷ bad.rest ≡ ticket_in is.version place = sym bad.named ∙ is.spelled in
     absurd (bad.other (subst IsVersion (sym (ap (λ (xs : List ℕ). get_or xs 4 0) e)) is.is_version))
 taken split one limits ticket place Impossible is bad = absurd (bad.1 place is)

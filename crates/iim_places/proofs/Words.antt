@@ -60,4 +60,4 @@ pub use Rattle.iim_places.specs.Restoring.{AreKept, CanContinueWithin, IsMessage
 pub use Rattle.iim_places.specs.TicketParts.{AreNoBody, AreNoMessage, AreNumbers, BeginsWithNoData, IsSize, body_octets, message_parts}
 pub use Rattle.iim_places.specs.declared.fault.TokenFault.{TokenFault}
 pub use Rattle.iim_places.specs.declared.refusal.Layer.{Layer}
-pub use Rattle.iim_places.specs.declared.ticket.fault.TicketFault.TheVariants.{Form, HeaderFull, Impossible, OutOfMemory, TooManyFields, Version}
+pub use Rattle.iim_places.specs.declared.ticket.fault.TicketFault.TheVariants.{TicketForm, HeaderFull, Impossible, OutOfMemory, TooManyFields, TicketVersion}

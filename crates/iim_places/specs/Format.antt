@@ -4,3 +4,4 @@ pub mod Streams
 pub mod Open
 pub mod Tickets
 pub mod TicketForm
+pub mod Faults

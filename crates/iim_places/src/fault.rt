@@ -1,12 +1,16 @@
 //! Tokens that a layer refuses.
 
-ghost use Rattle.std.specs.Prelude.{◌≡◌};
+ghost use Rattle.std.specs.Prelude.{◌≡◌, Some};
+ghost use Rattle.iim_places.specs.Format.Faults.{token_text};
 ghost use Rattle.iim_places.specs.Format.Causes.{of_field, size_on, too_many_on, message_on, layer_of, layer_of_message};
 
 use crate::refusal::{Cause, Layer};
-use iim_dataset::Head;
+use iim_dataset::{DatasetName, Head};
 use iim_fields::{FieldCause, FieldFault};
 use iim_object::SizeCause;
+use std::error::Error;
+use std::fmt;
+use std::fmt::{Display, Formatter};
 use wire_message::MessageCause;
 
 /// A token that is refused: the layer, the record and number of the dataset that is named, and the cause.
@@ -21,6 +25,23 @@ pub struct TokenFault {
     /// Why it is refused.
     pub cause: Cause,
 }
+
+/// Writes the layer, the dataset and the cause, as `refused by layer record on 1:70, cause 14 Missing`.
+impl Display for TokenFault {
+    ghost output = { λ fault. Some (token_text fault) };
+
+    fn fmt<W: fmt::Write>(&self, f: &mut Formatter<W>) -> fmt::Result {
+        let layer = self.layer;
+        let dataset = DatasetName {
+            rec: self.rec,
+            set: self.set,
+        };
+        let cause = self.cause;
+        write!(f, "refused by layer {layer} on {dataset}, cause {cause}")
+    }
+}
+
+impl Error for TokenFault {}
 
 fn field_layer(cause: FieldCause) -> Layer
     ensures { result ≡ layer_of cause }

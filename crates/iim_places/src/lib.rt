@@ -3,22 +3,19 @@
 //! Stands on the layers `iim_dataset`, `iim_fields`, `iim_object`, `wire_message` and `wire_story`, and knows no unpacker. What octets
 //! are is said here (`streams_have_one_answer`), how the fault of each layer is told ([`Refusal`]), that octets lead to one
 //! place (`octets_have_one_place`) from which they continue alike (`places_continue_alike`), what the octets of a ticket
-//! tell ([`split_ticket`]), and which readers stand there ([`readers_at`], [`fields_at`]). Its lemmas may be cited by the crates above.
+//! tell ([`split_ticket`]), and, for the unpacker alone, which readers stand there ([`internals`]). Its lemmas may be cited by the crates above.
 #![tactic(auto)]
 
 mod fault;
-pub mod form;
+mod form;
+pub mod internals;
 pub mod laws;
 mod listing;
 mod refusal;
 mod ticket;
 
-pub use fault::{TokenFault, message_on, of_field, size_on, too_many_on};
 pub use listing::MAX_ENVELOPES;
 pub use refusal::{Cause, Layer, Refusal};
 pub use ticket::fault::TicketFault;
 pub use ticket::fields::TicketFields;
-pub use ticket::possible::{Readers, readers_at};
-pub use ticket::readers::part_number;
-pub use ticket::records::fields_at;
 pub use ticket::split::{TicketParts, TicketPhase, split_ticket};

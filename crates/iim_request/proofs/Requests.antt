@@ -1,25 +1,28 @@
 -- What the program's command line comes to, by the rules of clap.
-use Rattle.std.proofs.Common.{◌≡◌, ◌⊎◌, inl, inr, Bool, true, false, not, ◌&&◌, List, [], ◌∷◌, Option, Some, None, refl, ap, sym, ◌∙◌, codes, option_map, is_some, ℕ, ℤ, Ok, Err}
+use Rattle.std.proofs.Common.{◌≡◌, ◌⊎◌, inl, inr, Bool, true, false, not, ◌&&◌, List, [], ◌∷◌, Option, Some, None, refl, ap, sym, ◌∙◌, codes, option_map, is_some, ℕ, ℤ, Ok, Err, Result, IfOk, IfErr, subst}
 use Rattle.std.specs.Prelude.{find, option_and_then, cond}
 use Rattle.std.specs.Box.{box_value}
 use Rattle.std.specs.List.{list_any}
 use Rattle.clap.specs.{Facts.explicit_source, Faults.check_fault, Faults.defaults_fault, Faults.entered_fault, Faults.settle_fault, Faults.walk_fault}
-use Rattle.clap.specs.{Kinds.Kinds, Kinds.or_else, Kinds.check_kinds, Matches.first_value, Matches.one_text, Matches.subcommand_name_of, Takes.is_given}
+use Rattle.clap.specs.{Kinds.Kinds, Kinds.or_else, Kinds.check_kinds, Matches.first_value, Matches.matched_of, Matches.one_text, Matches.raw_values, Matches.subcommand_name_of, Takes.is_given}
 use Rattle.clap.specs.Simple.{App, Shape, argument_words, built, entered, label_of, names_of, rows_at, subcommand_rows, subcommand_rows_of}
-use Rattle.clap.specs.Walk.{Row, Text, answers_to, finished, first_of, nothing_held, rows_of, settled, walk, walk_from}
+use Rattle.clap.specs.Walk.{Row, Text, all_of, answers_to, finished, first_of, nothing_held, rows_of, settled, walk, walk_from}
 use Rattle.clap.specs.Words.{fault_of, is_simple, is_simple_and_free, subcommand_of}
 use Rattle.clap.specs.declared.parser.matches.ArgMatches.{ArgMatches}
 use Rattle.clap.specs.declared.parser.matches.ArgMatches.TheViews.{out-ArgMatches, out-SubCommand}
 use Rattle.clap.specs.declared.parser.matches.Found.{Found}
-use Rattle.clap.proofs.{OnLiterals.clap_on_literals, WalkLemmas.first_value-rows, WalkLemmas.one_text-rows}
+use Rattle.clap.proofs.{OnLiterals.clap_on_literals, WalkLemmas.first_value-rows, WalkLemmas.one_text-rows, WalkLemmas.raw_values-rows}
 use Rattle.jiff.specs.Words.{parse_timestamp, Error as InstantError}
 use Rattle.std.specs.Borrow.{Bor}
 use Rattle.iim_request.specs.declared.request.Verb.{Verb}
 use Rattle.iim_request.specs.declared.request.Verb.TheVariants.{Check, Show, Story, Pack, Audit}
 use Rattle.iim_request.specs.declared.request.UsageFault.{UsageFault}
 use Rattle.iim_request.specs.declared.request.UsageFault.TheVariants as usage
-use Rattle.iim_request.specs.Format.{GivesNumber, IsFaultOf, IsFlag, IsInstant, IsJobFault, IsSubfile, NamesCommand, TellsPacking, program, text_given}
-use Rattle.iim_request.specs.Verbs.{IsFoundOf, verb_name}
+use Rattle.clap.specs.declared.error.kind.ErrorKind.TheVariants.{ArgumentConflict}
+use Rattle.iim_request.specs.declared.request.{Files.Files, FilesRequest.FilesRequest, Request.Request}
+use Rattle.iim_request.specs.declared.request.Files.TheVariants as files
+use Rattle.iim_request.specs.Format.{AreNamed, AsksFiles, AsksFor, AsksForFiles, GivesNumber, IsFaultOf, IsMade, NamesBoth, IsFilesFault, IsFilesFaultOf, IsFlag, IsInstant, IsJobFault, IsSubfile, NamesCommand, TellsPacking, program, text_given}
+use Rattle.iim_request.specs.Verbs.{IsForOne, IsForOthers, IsFoundOf, verb_name}
 
 program_simple : is_simple program ≡ true
 unfolding clap_on_literals
@@ -188,8 +191,55 @@ tells_packing f a b subfile unknown max of_a of_b subfile_is none value other ma
 
 -- the fault of a command's values is one of the words
 pub fault_of_job : (words : List Text) (verb : Verb) (name : Text) (rows : List Row) (fault : UsageFault) → NamesCommand words name rows → name ≡ verb_name verb
-    → IsJobFault (verb_name verb) rows fault → IsFaultOf words fault
+    → IsJobFault (verb_name verb) rows fault → IsFilesFaultOf words fault
 fault_of_job words verb name rows (usage.Words error) names is h = absurd h
 fault_of_job words verb name rows usage.MaxNeedsUnknown names is h = (name, rows, names, (is ∙ h.0, h.1))
 fault_of_job words verb name rows usage.BadNow names is h = (name, rows, names, (is ∙ h.0, h.1))
 fault_of_job words verb name rows usage.OutOfMemory names is h = absurd h
+
+-- the fault of a command's files is one of the words
+pub fault_of_files : (words : List Text) (name : Text) (rows : List Row) (fault : UsageFault) → NamesCommand words name rows
+    → IsFilesFault rows fault → IsFilesFaultOf words fault
+fault_of_files words name rows (usage.Words error) names is = inr (name, rows, names, is.0, is.1)
+fault_of_files words name rows usage.MaxNeedsUnknown names is = absurd is.1
+fault_of_files words name rows usage.BadNow names is = absurd is.1
+fault_of_files words name rows usage.OutOfMemory names is = tt
+
+-- what is given of a list, and of names, by the rows
+pub given_list : (f : Found) (given : Option (Bor Text)) → option_map (λ s. s.now) given ≡ first_value f (codes "files-from")
+    → first_of (codes "files-from") (rows_of f) ≡ option_map (λ s. s.now) given
+given_list f given is = sym (is ∙ first_value-rows f (codes "files-from"))
+
+pub given_names : (f : Found) (given : Option (List Text)) → given ≡ option_map raw_values (matched_of f (codes "FILE"))
+    → all_of (codes "FILE") (rows_of f) ≡ given
+given_names f given is = sym (is ∙ raw_values-rows f (codes "FILE"))
+
+-- files that are named as arguments are those that are asked for
+pub named_asked : (rows : List Row) (names : List Text) (r : Result Files UsageFault) → first_of (codes "files-from") rows ≡ None
+    → all_of (codes "FILE") rows ≡ Some names → IfOk r (AreNamed names) → IfOk r (AsksFiles rows)
+named_asked rows names (Ok (files.One None)) none given is = (none, rw given is)
+named_asked rows names (Ok (files.One (Some file))) none given is = (none, rw given is)
+named_asked rows names (Ok (files.Many all)) none given is = (none, rw given is)
+named_asked rows names (Ok (files.Listed list)) none given is = absurd is
+named_asked rows names (Err e) none given is = tt
+
+pub both_fault : (rows : List Row) (fault : UsageFault) → NamesBoth rows → IsMade ArgumentConflict fault → IsFilesFault rows fault
+both_fault rows (usage.Words error) both made = (both, made)
+both_fault rows usage.MaxNeedsUnknown both made = absurd made
+both_fault rows usage.BadNow both made = absurd made
+both_fault rows usage.OutOfMemory both made = tt
+
+-- ---- one file
+
+pub one_asked : (words : List Text) (request : FilesRequest) (r : Result Request UsageFault) → AsksForFiles words request
+    → IfOk r (IsForOne request) → IfOk r (AsksFor words)
+one_asked words request (Ok one) asked is = subst (AsksForFiles words) is asked
+one_asked words request (Err e) asked is = tt
+
+pub others_fault : (words : List Text) (request : FilesRequest) (r : Result Request UsageFault) → AsksForFiles words request
+    → IfErr r (IsForOthers request) → IfErr r (IsFaultOf words)
+others_fault words request (Ok one) asked is = tt
+others_fault words request (Err e) asked is = inr (request, asked, is.0, is.1)
+
+pub same_fault : (words : List Text) (fault : UsageFault) → IsFilesFaultOf words fault → IsFaultOf words fault
+same_fault words fault is = inl is

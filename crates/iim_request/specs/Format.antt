@@ -1,13 +1,16 @@
 -- What the words of a command line ask for, by the rules of clap.
-use Rattle.std.specs.Prelude.{◌≡◌, ℕ, ℤ, ⊤, List, [], Option, None, Some, IsSome, Bool, true, false, Ok, codes, option_map, ◌==◌, ◌&&◌, ◌||◌, nat_le, if◌then◌else◌, slice_index, ◌∷◌, ◌++◌}
+use Rattle.std.specs.Prelude.{◌≡◌, ℕ, ℤ, ⊤, List, [], Option, None, Some, IsSome, Bool, true, false, Ok, codes, option_map, ◌==◌, ◌&&◌, ◌||◌, nat_le, if◌then◌else◌, slice_index, ◌∷◌, ◌++◌, ◌⊎◌, ◌≤◌, length, map}
 use Rattle.std.specs.{Borrow.Bor, Option.unwrap_or, Char.is_ascii_control}
 use Rattle.std.specs.Str.Parse.{digits_value, without_leading_plus}
-use Rattle.clap.specs.{Values.IsUnsignedIn, declared.builder.action.ArgAction.TheVariants.SetTrue}
+use Rattle.clap.specs.{Values.IsUnsignedIn, declared.builder.action.ArgAction.TheVariants.SetTrue, declared.builder.action.ArgAction.TheVariants.Append}
 use Rattle.clap.specs.{declared.builder.value_parser.ValueParser.TheVariants.Unsigned}
-use Rattle.clap.specs.Words.{App, Row, Rule, Text, fault_of, first_of, kind_of, new_app, new_rule, one_of, subcommand_of, with_rule, with_subcommand, IsAmong}
+use Rattle.clap.specs.Words.{App, Row, Rule, Text, all_of, fault_of, first_of, kind_of, new_app, new_rule, one_of, subcommand_of, with_rule, with_subcommand, IsAmong}
+use Rattle.clap.specs.declared.error.kind.ErrorKind.{ErrorKind}
+use Rattle.clap.specs.declared.error.kind.ErrorKind.TheVariants.{ArgumentConflict, TooManyValues}
 use Rattle.iim_dataset.specs.Format.{Octets.greatest_size, Octets.backslash, Datasets.escape}
 use Rattle.jiff.specs.Words.{parse_timestamp}
-use Rattle.iim_request.specs.declared.request.{Job.Job, Request.Request}
+use Rattle.iim_request.specs.declared.request.{Job.Job, Request.Request, Files.Files, FilesRequest.FilesRequest}
+use Rattle.iim_request.specs.declared.request.Files.TheVariants.{One, Many, Listed}
 use Rattle.iim_request.specs.declared.request.Job.TheVariants.{Check, Show, Story, Pack, Audit}
 pub use Rattle.iim_request.specs.declared.request.UsageFault.{UsageFault}
 pub use Rattle.iim_request.specs.declared.request.UsageFault.TheVariants.{Words, MaxNeedsUnknown, BadNow, OutOfMemory}
@@ -19,6 +22,19 @@ pub use Rattle.iim_request.specs.declared.request.UsageFault.TheVariants.{Words,
 --   `tells_what_words_ask_wrongly`
 abbrev pub file_command : Text → App
 file_command name = with_rule (new_app name) (new_rule (codes "FILE"))
+
+-- the files of a command that may be given any number of them
+-- twins (with list_rule, files_command): `checks_several_files`, `tells_the_whole_help`
+abbrev pub files_rule : Rule
+files_rule = record (new_rule (codes "FILE")) { action = Some Append }
+
+-- the option that names a list of files
+abbrev pub list_rule : Rule
+list_rule = record (new_rule (codes "files-from")) { long = Some (codes "files-from"); value_names = 1 }
+
+-- a command that may be given any number of files, or a list of them
+abbrev pub files_command : Text → App
+files_command name = with_rule (with_rule (new_app name) files_rule) list_rule
 
 -- an option of this name, which takes a number from the least one to the greatest size
 -- twin: `refuses_words_of_pack_and_audit`, `packs_great_sizes_in_eight_octets`, `takes_numbers_with_a_plus_and_zeros`
@@ -48,7 +64,7 @@ wanting a = record a { top = record a.top { has_version = true; subcommand_requi
 -- the program, which wants to be given one of its commands
 abbrev pub program : App
 program = with_subcommand (with_subcommand (with_subcommand (with_subcommand (with_subcommand (wanting (new_app (codes "iimwire")))
-    (file_command (codes "check")).top) (file_command (codes "show")).top) (file_command (codes "story")).top) pack_command.top) audit_command.top
+    (files_command (codes "check")).top) (files_command (codes "show")).top) (files_command (codes "story")).top) pack_command.top) audit_command.top
 
 -- ---- what an option tells
 
@@ -105,10 +121,31 @@ pub record NamesCommand (words : List Text) (name : Text) (rows : List Row) : Ty
   pub faultless : fault_of program words ≡ []
   pub named : subcommand_of program words ≡ Some (name, rows)
 
--- The words ask for the job, and name the file.
+-- the names that are given as arguments
+-- twins (with AreNamed, AsksFiles): `checks_several_files`, `reads_the_names_of_a_list`
+abbrev pub names_given : List Row → List Text
+names_given rows = unwrap_or (all_of (codes "FILE") rows) []
+
+-- These names, given as arguments, are those of the files: one or none, or two and more.
+abbrev pub AreNamed : List Text → Files → Type 0
+AreNamed names (One None) = names ≡ []
+AreNamed names (One (Some file)) = names ≡ file.now ∷ []
+AreNamed names (Many files) = (names ≡ map (λ file. file.now) files.items) × (2 ≤ length names)
+AreNamed names (Listed list) = ⊥
+
+-- The values of a command's arguments name these files: by themselves, or by a list.
+abbrev pub AsksFiles : List Row → Files → Type 0
+AsksFiles rows (Listed list) = (first_of (codes "files-from") rows ≡ Some list.now) × (all_of (codes "FILE") rows ≡ None)
+AsksFiles rows files = (first_of (codes "files-from") rows ≡ None) × AreNamed (names_given rows) files
+
+-- The words ask for the job, and name the files.
+abbrev pub AsksForFiles : List Text → FilesRequest → Type 0
+AsksForFiles words request = (name : Text) × (rows : List Row) × NamesCommand words name rows × AsksJob name rows request.job
+    × AsksFiles rows request.files
+
+-- The words ask for the job, and name the file, or none.
 abbrev pub AsksFor : List Text → Request → Type 0
-AsksFor words request = (name : Text) × (rows : List Row) × NamesCommand words name rows × AsksJob name rows request.job
-    × (text_given request.file ≡ first_of (codes "FILE") rows)
+AsksFor words request = AsksForFiles words (record { files = One request.file; job = request.job })
 
 -- The command with this name, and the values of its arguments, have the fault: a maximum of a known size, or no instant.
 -- twins (with IsFaultOf): `refuses_words_of_pack_and_audit`, `tells_what_words_ask_wrongly`
@@ -117,11 +154,42 @@ IsJobFault name rows MaxNeedsUnknown = (name ≡ codes "pack") × ((subfile : �
 IsJobFault name rows BadNow = (name ≡ codes "audit") × ((now : ℤ) → IsInstant (first_of (codes "now") rows) now → ⊥)
 IsJobFault name rows _ = ⊥
 
+-- The fault is an error of this kind. Memory may always be short.
+abbrev pub IsMade : ErrorKind → UsageFault → Type 0
+IsMade kind (Words error) = kind_of error ≡ kind
+IsMade kind OutOfMemory = ⊤
+IsMade kind _ = ⊥
+
+-- The values of a command's arguments name a list of files and a file.
+-- twin: `refuses_words_of_several_files`
+abbrev pub NamesBoth : List Row → Type 0
+NamesBoth rows = IsSome (first_of (codes "files-from") rows) × IsSome (all_of (codes "FILE") rows)
+
+-- The fault is that a list of files and a file are named.
+-- twin: `refuses_words_of_several_files`
+abbrev pub IsFilesFault : List Row → UsageFault → Type 0
+IsFilesFault rows OutOfMemory = ⊤
+IsFilesFault rows fault = NamesBoth rows × IsMade ArgumentConflict fault
+
 -- The fault is one of those that clap finds in the words, or that their command has. Memory may always be short.
+abbrev pub IsFilesFaultOf : List Text → UsageFault → Type 0
+IsFilesFaultOf words (Words error) = IsAmong (kind_of error) (fault_of program words)
+    ⊎ ((name : Text) × (rows : List Row) × NamesCommand words name rows × NamesBoth rows × (kind_of error ≡ ArgumentConflict))
+IsFilesFaultOf words OutOfMemory = ⊤
+IsFilesFaultOf words fault = (name : Text) × (rows : List Row) × NamesCommand words name rows × IsJobFault name rows fault
+
+-- The request is for more than one file, or for a list of files.
+abbrev pub AreMore : Files → Type 0
+AreMore (One file) = ⊥
+AreMore files = ⊤
+
+abbrev pub IsForMore : FilesRequest → Type 0
+IsForMore request = AreMore request.files
+
+-- The fault is one of these; or the words ask for more than one file, or for a list of files.
 abbrev pub IsFaultOf : List Text → UsageFault → Type 0
-IsFaultOf words (Words error) = IsAmong (kind_of error) (fault_of program words)
-IsFaultOf words OutOfMemory = ⊤
-IsFaultOf words fault = (name : Text) × (rows : List Row) × NamesCommand words name rows × IsJobFault name rows fault
+IsFaultOf words fault = IsFilesFaultOf words fault
+    ⊎ ((request : FilesRequest) × AsksForFiles words request × IsForMore request × IsMade TooManyValues fault)
 
 -- ---- Names, and words of a command line, as text that can be printed.
 

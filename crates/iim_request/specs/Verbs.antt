@@ -5,7 +5,10 @@ use Rattle.clap.specs.declared.{error.Error.Error, builder.command.Command.Comma
 use Rattle.clap.specs.declared.{builder.command.Command.TheViews.out-Command as fields_of}
 use Rattle.clap.specs.declared.{parser.matches.ArgMatches.ArgMatches}
 use Rattle.clap.specs.declared.error.kind.ErrorKind.TheVariants as kind
-use Rattle.iim_request.specs.Format.{program, UsageFault, Words, OutOfMemory}
+use Rattle.clap.specs.declared.error.kind.ErrorKind.TheVariants.{TooManyValues}
+use Rattle.iim_request.specs.Format.{program, UsageFault, Words, OutOfMemory, IsForMore, IsMade}
+use Rattle.iim_request.specs.declared.request.{Request.Request, FilesRequest.FilesRequest}
+use Rattle.iim_request.specs.declared.request.Files.TheVariants.{One}
 use Rattle.iim_request.specs.declared.request.Verb.{Verb}
 use Rattle.iim_request.specs.declared.request.Verb.TheVariants as verbs
 
@@ -30,3 +33,11 @@ verb_name verbs.Audit = codes "audit"
 pub record IsFoundOf (words : List Text) (matches : ArgMatches) : Type 0 where
   pub faultless : fault_of program words ≡ []
   pub command : subcommand_rows_of matches ≡ subcommand_of program words
+
+-- The request for files is this one for one file.
+abbrev pub IsForOne : FilesRequest → Request → Type 0
+IsForOne files request = files ≡ record { files = One request.file; job = request.job }
+
+-- The request is for other files, and the fault says so.
+abbrev pub IsForOthers : FilesRequest → UsageFault → Type 0
+IsForOthers files fault = IsForMore files × IsMade TooManyValues fault

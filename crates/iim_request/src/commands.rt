@@ -3,7 +3,7 @@
 ghost use Rattle.std.specs.Prelude.{◌≡◌, codes, false, IfOk};
 ghost use Rattle.clap.specs.Words.{App, Rule, app_of, new_app, rule_of, with_rule, with_subcommand};
 ghost use Rattle.iim_request.specs.Verbs.{IsCommand};
-ghost use Rattle.iim_request.specs.Format.{audit_command, file_command, now_rule, number_rule, pack_command, program, unknown_rule, wanting};
+ghost use Rattle.iim_request.specs.Format.{audit_command, file_command, files_command, files_rule, list_rule, now_rule, number_rule, pack_command, program, unknown_rule, wanting};
 
 use clap::builder::ValueParser;
 use clap::{Arg, ArgAction, Command};
@@ -16,6 +16,14 @@ const RELEASE: &str = "2";
 /// What help says of the file.
 const FILE_HELP: &str =
     "The file to read, or else standard input, which is /dev/stdin, too; - is a file of that name";
+
+/// What help says of the files.
+const FILES_HELP: &str =
+    "The files to read, or else standard input, which is /dev/stdin, too; - is a file of that name";
+
+/// What help says of the list of files.
+const LIST_HELP: &str =
+    "Read the files that LIST names, one a line or each ended by NUL; - is standard input";
 
 /// What help says at the end of `check`.
 const CHECK_HELP: &str = "\
@@ -102,6 +110,54 @@ fn with_file<'a>(
         .about(about)
         .after_help(after)
         .arg(Arg::new(alloc, "FILE").help(FILE_HELP))
+}
+
+/// The files of a command that takes any number of them.
+fn files_arg<'a>(alloc: Global) -> Arg<'a>
+    ensures rule { rule_of result ≡ files_rule }
+    ensures local { result.global ≡ false }
+{
+    Arg::new(alloc, "FILE")
+        .action(ArgAction::Append)
+        .help(FILES_HELP)
+}
+
+/// The option that names a list of files.
+fn list_arg<'a>(alloc: Global) -> Arg<'a>
+    ensures rule { rule_of result ≡ list_rule }
+    ensures local { result.global ≡ false }
+{
+    Arg::new(alloc, "files-from")
+        .long("files-from")
+        .value_name("LIST")
+        .help(LIST_HELP)
+}
+
+/// A command that takes any number of files as arguments, with what help says at its top and at its end.
+fn with_names<'a>(
+    alloc: Global,
+    name: &'a str,
+    about: &'a str,
+    after: &'a str,
+) -> Result<Command<'a>, AllocError>
+    ensures { IsCommand (with_rule (new_app name.entry.now) files_rule) result }
+{
+    Command::new(alloc, name)
+        .about(about)
+        .after_help(after)
+        .arg(files_arg(alloc))
+}
+
+/// A command that takes any number of files as arguments, or a list of them.
+fn with_files<'a>(
+    alloc: Global,
+    name: &'a str,
+    about: &'a str,
+    after: &'a str,
+) -> Result<Command<'a>, AllocError>
+    ensures { IsCommand (files_command name.entry.now) result }
+{
+    with_arg(with_names(alloc, name, about, after), list_arg(alloc))
 }
 
 /// An option that takes a number, from the least one to the greatest size.
@@ -228,19 +284,19 @@ fn bare<'a>(alloc: Global) -> Command<'a>
 pub fn command<'a>(alloc: Global) -> Result<Command<'a>, AllocError>
     ensures { IfOk result (λ command. app_of command ≡ program) }
 {
-    let check = with_file(
+    let check = with_files(
         alloc,
         "check",
         "Lists the envelopes, up to the first refusal",
         CHECK_HELP,
     );
-    let show = with_file(
+    let show = with_files(
         alloc,
         "show",
         "Shows the fields, the message's header and the sizes of each envelope",
         SHOW_HELP,
     );
-    let story = with_file(
+    let story = with_files(
         alloc,
         "story",
         "Writes the story of each envelope",

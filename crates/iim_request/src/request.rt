@@ -1,7 +1,7 @@
 //! What the arguments ask for.
 
 ghost use Rattle.std.specs.Prelude.{◌≡◌, ◌≤◌, IfOk, IfErr, IfSome, IsNone, IsSome, List, true, false, map, string_bytes};
-ghost use Rattle.clap.specs.Words.{Text, found_of, rows_of};
+ghost use Rattle.clap.specs.Words.{Text, found_of, rows_of, kind_of};
 ghost use Rattle.iim_dataset.specs.Format.Octets.{greatest_size};
 
 use crate::commands::command;
@@ -12,6 +12,8 @@ use clap::{ArgMatches, Error};
 use iim_dataset::GREATEST_SIZE;
 use jiff::Timestamp;
 use std::alloc::{AllocError, Global};
+use std::fmt::{Display, Formatter};
+use std::{error, fmt};
 
 /// The most octets of a subfile where no number is given.
 pub const DEFAULT_SUBFILE: u64 = 1_024;
@@ -43,8 +45,28 @@ pub struct Request<'a> {
     pub job: Job,
 }
 
-/// Why arguments ask for nothing.
+/// The files that a command reads.
 #[derive(Drop)]
+pub enum Files<'a> {
+    /// The file of this name, or standard input if there is none.
+    One(Option<&'a str>),
+    /// Two or more files, in this order.
+    Many(Vec<&'a str>),
+    /// The files that a list names, in its order: the list is the file of this name, or standard input if it is `-`.
+    Listed(&'a str),
+}
+
+/// Files, and what is to be done with each of them.
+#[derive(Drop)]
+pub struct FilesRequest<'a> {
+    /// The files.
+    pub files: Files<'a>,
+    /// What is to be done.
+    pub job: Job,
+}
+
+/// Why arguments ask for nothing.
+#[derive(Debug, Drop)]
 pub enum UsageFault {
     /// The words are none that the program takes. The error tells it.
     Words(Error),
@@ -55,6 +77,20 @@ pub enum UsageFault {
     /// Memory was refused.
     OutOfMemory,
 }
+
+/// Writes the error of the arguments, or the line that the command prints.
+impl Display for UsageFault {
+    fn fmt<W: fmt::Write>(&self, f: &mut Formatter<W>) -> fmt::Result {
+        match self {
+            UsageFault::Words(error) => write!(f, "{error}"),
+            UsageFault::MaxNeedsUnknown => f.write_str("--max needs --unknown"),
+            UsageFault::BadNow => f.write_str("bad --now"),
+            UsageFault::OutOfMemory => f.write_str("out of memory"),
+        }
+    }
+}
+
+impl error::Error for UsageFault {}
 
 impl From<AllocError> for UsageFault {
     ghost use Rattle.iim_request.specs.declared.request.UsageFault.TheVariants.{OutOfMemory};
@@ -80,8 +116,8 @@ impl From<Error> for UsageFault {
 }
 
 ghost use Rattle.iim_request.specs.declared.request.Verb.{Verb as VerbValue};
-ghost use Rattle.iim_request.specs.Format.{AsksFor, AsksJob, GivesNumber, IsFaultOf, IsJobFault, IsSubfile, text_given};
-ghost use Rattle.iim_request.specs.Verbs.{verb_name, IsFoundOf};
+ghost use Rattle.iim_request.specs.Format.{AreNamed, AsksFiles, AsksFor, AsksForFiles, AsksJob, GivesNumber, IsFaultOf, IsFilesFault, IsFilesFaultOf, IsJobFault, IsMade, IsSubfile, text_given};
+ghost use Rattle.iim_request.specs.Verbs.{verb_name, IsForOne, IsForOthers, IsFoundOf};
 
 /// A command's name.
 #[derive(Clone, Copy, Debug, PartialEq, Eq)]
@@ -187,11 +223,59 @@ fn job_of(verb: Verb, found: &ArgMatches<'_>) -> Result<Job, UsageFault>
     }
 }
 
+/// What `--files-from` beside a FILE is told.
+const LIST_AND_FILE: &str = "--files-from takes no FILE";
+
+/// What more than one file is told, where one is wanted.
+const NOT_ONE_FILE: &str = "more than one FILE";
+
+/// Makes the fault of this kind and message.
+fn fault_of(alloc: Global, kind: ErrorKind, message: &str) -> UsageFault
+    requires { kind ≡ ErrorKind.OutOfMemory → ⊥ }
+    ensures { IsMade kind result }
+{
+    let Ok(mut program) = command(alloc) else {
+        return UsageFault::OutOfMemory;
+    };
+    match program.error(kind, message) {
+        Ok(error) => UsageFault::Words(error),
+        Err(_) => UsageFault::OutOfMemory,
+    }
+}
+
+/// Returns the files of these names, given as arguments.
+fn named<'a>(alloc: Global, names: &[&'a str]) -> Result<Files<'a>, UsageFault>
+    ensures ok { IfOk result (AreNamed (map (λ name. name.now) names.now)) }
+    ensures err { IfErr result (λ fault. fault ≡ UsageFault.OutOfMemory) }
+{
+    match names {
+        [] => Ok(Files::One(None)),
+        [name] => Ok(Files::One(Some(*name))),
+        _ => match Vec::from_slice(alloc, names) {
+            Ok(names) => Ok(Files::Many(names)),
+            Err(_) => Err(UsageFault::OutOfMemory),
+        },
+    }
+}
+
+/// Returns the files that a command is given.
+fn files_of<'a>(alloc: Global, found: &ArgMatches<'a>) -> Result<Files<'a>, UsageFault>
+    ensures ok { IfOk result (AsksFiles (rows_of (found_of found.now))) }
+    ensures err { IfErr result (IsFilesFault (rows_of (found_of found.now))) }
+{
+    match (found.get_str("files-from"), found.get_strs("FILE")) {
+        (None, None) => Ok(Files::One(None)),
+        (None, Some(names)) => named(alloc, names),
+        (Some(list), None) => Ok(Files::Listed(list)),
+        (Some(_), Some(_)) => Err(fault_of(alloc, ErrorKind::ArgumentConflict, LIST_AND_FILE)),
+    }
+}
+
 /// What the words ask for in which clap found this: they have no fault, and name one of the commands.
-fn request_of<'a>(matches: &ArgMatches<'a>) -> Result<Request<'a>, UsageFault>
+fn request_of<'a>(alloc: Global, matches: &ArgMatches<'a>) -> Result<FilesRequest<'a>, UsageFault>
     requires { (words : List Text) × IsFoundOf words matches.now }
-    ensures ok { (words : List Text) → IsFoundOf words matches.now → IfOk result (AsksFor words) }
-    ensures err { (words : List Text) → IsFoundOf words matches.now → IfErr result (IsFaultOf words) }
+    ensures ok { (words : List Text) → IsFoundOf words matches.now → IfOk result (AsksForFiles words) }
+    ensures err { (words : List Text) → IsFoundOf words matches.now → IfErr result (IsFilesFaultOf words) }
 {
     let Some((name, found)) = matches.subcommand() else {
         unreachable!()
@@ -199,17 +283,43 @@ fn request_of<'a>(matches: &ArgMatches<'a>) -> Result<Request<'a>, UsageFault>
     let Some(verb) = verb_named(name) else {
         unreachable!()
     };
-    Ok(Request {
-        file: found.get_str("FILE"),
-        job: job_of(verb, found)?,
-    })
+    let job = job_of(verb, found)?;
+    match files_of(alloc, found) {
+        Ok(files) => Ok(FilesRequest { files, job }),
+        Err(fault) => Err(fault),
+    }
 }
 
-/// Reads the words, of which the first is the program's name.
+/// Reads the words, of which the first is the program's name: any number of files.
+pub fn parse_files<'a>(alloc: Global, words: &'a [String]) -> Result<FilesRequest<'a>, UsageFault>
+    ensures ok { IfOk result (AsksForFiles (map string_bytes words.entry.now)) }
+    ensures err { IfErr result (IsFilesFaultOf (map string_bytes words.entry.now)) }
+{
+    let matches = command(alloc)?.try_get_matches_from(words)?;
+    request_of(alloc, &matches)
+}
+
+/// Reads the words, of which the first is the program's name: one file at most.
 pub fn parse<'a>(alloc: Global, words: &'a [String]) -> Result<Request<'a>, UsageFault>
     ensures ok { IfOk result (AsksFor (map string_bytes words.entry.now)) }
     ensures err { IfErr result (IsFaultOf (map string_bytes words.entry.now)) }
 {
-    let matches = command(alloc)?.try_get_matches_from(words)?;
-    request_of(&matches)
+    match parse_files(alloc, words) {
+        Ok(request) => one_file(alloc, request),
+        Err(fault) => Err(fault),
+    }
+}
+
+/// Returns the request for one file, if it is for one.
+fn one_file(alloc: Global, request: FilesRequest<'_>) -> Result<Request<'_>, UsageFault>
+    ensures ok { IfOk result (IsForOne request.entry) }
+    ensures err { IfErr result (IsForOthers request.entry) }
+{
+    let FilesRequest { files, job } = request;
+    match files {
+        Files::One(file) => Ok(Request { file, job }),
+        Files::Many(_) | Files::Listed(_) => {
+            Err(fault_of(alloc, ErrorKind::TooManyValues, NOT_ONE_FILE))
+        }
+    }
 }

@@ -4,7 +4,7 @@ ghost use Rattle.std.specs.Prelude.{◌≡◌, ◌++◌, [], ◌∷◌, if◌the
 ghost use Rattle.iim_dataset.specs.Format.Datasets.{escape};
 ghost use Rattle.iim_request.specs.Format.{is_hidden, shown_name, spell_control};
 
-use iim_dataset::push_escape;
+use iim_dataset::internals::push_escape;
 use std::alloc::AllocError;
 
 /// Whether these two octets are a control character from U+0080 to U+009F.

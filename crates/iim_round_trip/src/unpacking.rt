@@ -11,17 +11,61 @@ use iim_fields::Limits;
 use iim_unpack::laws::place_laws;
 use iim_unpack::{Refusal, Unpacked, Unpacker, unpack_pieces};
 use std::alloc::Global;
+use std::error::Error;
+use std::fmt;
+use std::fmt::{Display, Formatter};
 use wire_story::laws::{story_laws, texts_are_delivered_as_lines};
 use wire_story::{Lines, StorySink};
 
 /// Why nothing is unpacked.
-#[derive(Drop)]
+#[derive(Debug, Drop)]
 pub enum UnpackFault {
     /// Memory was refused for the unpacker.
     OutOfMemory,
     /// The stream is refused, or the sink stopped ([`iim_unpack::Cause::SINK`]).
     Refused(Refusal),
 }
+
+impl UnpackFault {
+    ghost use Rattle.iim_round_trip.specs.Format.Faults.{fault_number, fault_name};
+
+    /// Returns the number of the cause, as it is printed: for a refusal, that of its cause.
+    pub fn number(&self) -> u8
+        ensures { result ≡ fault_number self.now }
+    {
+        match self {
+            UnpackFault::OutOfMemory => 70,
+            UnpackFault::Refused(refusal) => refusal.cause.number(),
+        }
+    }
+
+    /// Returns the name of the cause, as it is printed: for a refusal, that of its cause.
+    pub fn name(&self) -> &'static str
+        ensures { result.now ≡ fault_name self.now }
+    {
+        match self {
+            UnpackFault::OutOfMemory => "OutOfMemory",
+            UnpackFault::Refused(refusal) => refusal.cause.name(),
+        }
+    }
+}
+
+/// Writes the refusal, or `out of memory`.
+impl Display for UnpackFault {
+    ghost use Rattle.std.specs.Prelude.{Some};
+    ghost use Rattle.iim_round_trip.specs.Format.Faults.{fault_text};
+
+    ghost output = { λ fault. Some (fault_text fault) };
+
+    fn fmt<W: fmt::Write>(&self, f: &mut Formatter<W>) -> fmt::Result {
+        match self {
+            UnpackFault::OutOfMemory => f.write_str("out of memory"),
+            UnpackFault::Refused(refusal) => write!(f, "{refusal}"),
+        }
+    }
+}
+
+impl Error for UnpackFault {}
 
 /// Unpacks the envelope that a stream begins with, whatever pieces it comes in, and answers how many octets it has. It takes
 /// memory for just what the limits allow.

@@ -12,3 +12,4 @@ pub mod Whole
 pub mod Runs
 pub mod Single
 pub mod Put
+pub mod Refusals

@@ -7,6 +7,8 @@ ghost use Rattle.iim_script.specs.Format.Scripts.{max_script};
 
 use iim_fields::FieldCause;
 use std::alloc::AllocError;
+use std::fmt;
+use std::fmt::{Display, Formatter};
 use thiserror::Error;
 
 /// What is wrong with a line of a script.
@@ -55,6 +57,17 @@ impl ScriptCause {
         }
     }
 }
+
+/// Writes the number and the name, as `91 ScriptLine`.
+impl Display for ScriptCause {
+    fn fmt<W: fmt::Write>(&self, f: &mut Formatter<W>) -> fmt::Result {
+        let number = self.number();
+        let name = self.name();
+        write!(f, "{number} {name}")
+    }
+}
+
+impl std::error::Error for ScriptCause {}
 
 /// A line of a script, counted from 1, and what is wrong with it.
 #[derive(Clone, Copy, Debug, PartialEq, Eq, Error, Drop)]

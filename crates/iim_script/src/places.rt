@@ -5,7 +5,8 @@ ghost use Rattle.iim_dataset.specs.Format.Datasets.{dataset_name, shown, shown_o
 ghost use Rattle.iim_script.specs.Format.Scripts.{after_space, field_line};
 
 use crate::plain::{are_plain, plain_in_16};
-use iim_dataset::{DatasetName, escaped, is_plain};
+use iim_dataset::DatasetName;
+use iim_dataset::internals::{escaped, is_plain};
 
 /// Puts octets there, and answers where they end.
 #[inline(always)]

@@ -4,7 +4,7 @@ ghost use Rattle.std.specs.Prelude.{◌≡◌, ◌≤◌, length, take};
 ghost use Rattle.std.specs.List.{list_all};
 ghost use Rattle.iim_dataset.specs.Format.Datasets.{is_plain};
 
-use iim_dataset::is_plain;
+use iim_dataset::internals::is_plain;
 use std::simd::prelude::*;
 
 /// Whether each lane stands for itself, as `is_plain` says of an octet.

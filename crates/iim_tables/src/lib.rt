@@ -2,14 +2,15 @@
 //! profile: which octets each dataset of the records 1, 2, 7, 8 and 9 may have, the numbers that octets
 //! spell, and the days and instants that dates and times name.
 //!
-//! The crates above ask two questions: `row`, what the table says of a dataset, or `line`, where it lies; and
-//! `admits`, whether octets are as a row says, or `has_kind` where their number is known to fit. Nothing here
+//! The crates above ask two questions: [`row`], what the table says of a dataset; and [`admits`], whether octets
+//! are as a row says. (The crate of records asks them in the forms of [`internals`].) Nothing here
 //! takes memory. It stands on `iim_dataset` for octets and datasets, on `jiff` for days and instants, and on
 //! `byteorder` for numbers.
 #![tactic(auto)]
 
 mod dates;
 mod instants;
+pub mod internals;
 mod kinds;
 pub mod laws;
 mod numbers;
@@ -20,7 +21,7 @@ mod table;
 
 pub use crate::dates::date_of;
 pub use crate::instants::instant_of;
-pub use crate::kinds::{admits, has_kind};
+pub use crate::kinds::admits;
 pub use crate::numbers::{SIZE_OCTETS, number_of};
 pub use crate::shape::{Duty, Kind, Row};
-pub use crate::table::{line, row};
+pub use crate::table::row;

@@ -34,7 +34,7 @@ module _ {S : Type 0} (goes : S → List story.StoryEvent → S → Type 0) (fai
   same_room (Ok used) old octets new a b taken bad = taken.told.told.3
   same_room (Err fault) old octets new a b taken bad = by (tag_cause_of fault.cause) bad.refused
     where
-      by : (cause : Option HeadCause) → RefusesFor (Routes goes failures) (RefusesRoute goes failures) cause old octets fault.taken new a b
+      by : (cause : Option HeadCause) → RefusesFor (Routes goes failures) (RefusesRoute goes failures) cause old octets fault.used new a b
           → room_of b.parts.now.fields ≡ room_of a.parts.now.fields
       by None h = h.0.stopped.3
       by (Some cause) h = h.0.told.3

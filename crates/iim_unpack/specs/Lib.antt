@@ -7,3 +7,4 @@ pub mod Laws
 -- What only proofs and private clauses cite.
 pub mod Steps
 pub mod Routes
+pub mod TicketOuts

@@ -38,6 +38,32 @@ pub enum IntakeFault {
     Interrupted,
 }
 
+impl IntakeFault {
+    ghost use Rattle.iim_unpack.specs.Format.Faults.{intake_number, intake_name};
+
+    /// Returns the number of the cause, as it is printed: for a refusal, that of its cause.
+    pub fn number(self) -> u8
+        ensures { result ≡ intake_number self }
+    {
+        match self {
+            IntakeFault::Refused(refusal) => refusal.cause.number(),
+            IntakeFault::Read => 71,
+            IntakeFault::Interrupted => 72,
+        }
+    }
+
+    /// Returns the name of the cause, as it is printed: for a refusal, that of its cause.
+    pub fn name(self) -> &'static str
+        ensures { result.now ≡ intake_name self }
+    {
+        match self {
+            IntakeFault::Refused(refusal) => refusal.cause.name(),
+            IntakeFault::Read => "Read",
+            IntakeFault::Interrupted => "Interrupted",
+        }
+    }
+}
+
 /// Sees to it that a block has octets: reads once where it has none. Answers false at the end of the source.
 fn next_piece<R: Source>(block: &mut Block, reader: &mut R) -> Result<bool, IoFault>
     ensures given { OnOk result (HasGiven (with_held block.old (R.state reader.old))

@@ -1,6 +1,6 @@
 //! The streaming unpacker.
 
-ghost use Rattle.std.specs.Prelude.{◌≡◌, ◌+◌, ◌*◌, ◌^◌, [], is_some, ◌<◌, ◌≤◌, ◌⊎◌, ◌||◌, ℕ, List, Option, Some, None, Ok, Err, false, length, take, IsTrue, ◌↔◌, IsSome, IfSome, IfOk, IfErr, OnOk, OnErr};
+ghost use Rattle.std.specs.Prelude.{◌≡◌, ◌+◌, ◌*◌, ◌^◌, [], is_some, ◌<◌, ◌≤◌, ◌⊎◌, ◌||◌, ℕ, List, Option, Some, None, Ok, Err, false, length, IsTrue, ◌↔◌, IsSome, IsOk, IfSome, IfOk, IfErr, OnOk, OnErr};
 ghost use Rattle.iim_dataset.specs.States.Reading.{to_come, TakesCalls, tag_cause_of};
 ghost use Rattle.iim_fields.specs.States.Standing.{StandsAfter, limits_of, room_of, room_for};
 ghost use Rattle.wire_story.specs.Format.Texts as story;
@@ -25,8 +25,9 @@ use iim_dataset::{Fault as TagFault, FaultCause, HeadReader};
 use iim_fields::{Envelope, EnvelopeRef, Fields, Limits};
 use iim_object::laws::readers_tell_sizes;
 use iim_object::{ObjectReader, Sizes};
+use iim_places::internals::TokenFault;
 use iim_places::laws::{lower_laws, place_laws};
-use iim_places::{Cause, Layer, Refusal, TokenFault};
+use iim_places::{Cause, Layer, Refusal};
 use std::alloc::{AllocError, Global};
 use std::marker::Model;
 use wire_message::{MessageHead, MessageReader};
@@ -54,10 +55,10 @@ fn feed_router<'p, 's, S: StorySink>(
     ensures taken { IfOk result (HasAdvanced S.goes S.failures
         (reader.old.place, router.old.parts.now, router.old.sink.now) piece.now
         (reader.new, router.new.parts.now, router.new.sink.now)) }
-    ensures before { IfErr result (λ fault. fault.taken < length piece.now) }
+    ensures before { IfErr result (λ fault. fault.used < length piece.now) }
     ensures fails { IfErr result (λ fault.
         IsStoppedBy S.goes S.failures (tag_cause_of fault.cause) router.new.refused
-        (reader.old.place, router.old.parts.now, router.old.sink.now) piece.now fault.taken
+        (reader.old.place, router.old.parts.now, router.old.sink.now) piece.now fault.used
         (reader.new.place, router.new.parts.now, router.new.sink.now)) }
     ensures room { room_of router.new.parts.now.fields ≡ room_of router.old.parts.now.fields }
 {
@@ -116,7 +117,7 @@ fn advance<S: StorySink>(
                 },
             };
             Err(Halt {
-                taken: fault.taken,
+                taken: fault.used,
                 fault: why,
             })
         }
@@ -153,7 +154,8 @@ pub struct UnpackedRef<'u> {
 ///
 /// It holds the data of records 1 and 2, at most `Limits.octets` octets in at most `Limits.fields` entries, and less than 256
 /// octets more: those of a begun tag (12 at most), a begun number of record 7 or 9 (8), the header and the trailer of the message
-/// (163), and CR that no LF has followed yet (2). [`Unpacker::new`] makes room for all of them; no other call takes memory, and the room stays as it was made.
+/// (163), and CR that no LF has followed yet (2). [`Unpacker::new`] and [`Unpacker::restore`] allocate all of it. Of the calls on an
+/// unpacker, [`Unpacker::save`] alone allocates more, for the ticket that it returns.
 #[derive(Drop)]
 pub struct Unpacker {
     reader: HeadReader,
@@ -208,15 +210,6 @@ pub(crate) fn raised(octets: u64, more: u64) -> u64
     ensures { result ≡ raised octets more }
 {
     octets.saturating_add(more)
-}
-
-/// Writes octets at the front of a buffer, where that has room for them.
-fn put_where_room(octets: &[u8], out: &mut [u8])
-    ensures { length octets.now ≤ length out.new → take (length octets.now) out.new ≡ octets.now }
-{
-    if octets.len() <= out.len() {
-        out[..octets.len()].copy_from_slice(octets);
-    }
 }
 
 /// Whether an octet has come, after a piece.
@@ -419,28 +412,24 @@ impl Unpacker {
         lower_laws();
         self.stands_somewhere();
         match spell_ticket(alloc, &self.reader, &self.parts) {
-            Ok(ticket) => Ok(ticket),
-            Err(_) => Err(SaveFault::OutOfMemory),
+            Some(ticket) => Ok(ticket),
+            None => Err(SaveFault::OutOfMemory),
         }
     }
 
-    /// Writes the same ticket at the front of a buffer, where that has room for it, and answers how many octets it has. It takes no
-    /// memory where the buffer has room.
-    pub fn save_at(&self, alloc: Global, out: &mut [u8]) -> Result<usize, SaveFault>
+    /// Writes the same ticket to the front of a buffer, exactly if that has room for it, and returns how many octets the ticket has. It
+    /// takes no memory, and fails only if something was refused before.
+    pub fn save_at(&self, out: &mut [u8]) -> Result<usize, SaveFault>
         ensures failed { (octet : ℕ) → self.now.refused ≡ Some octet → result ≡ Err SaveFault.Failed }
-        ensures memory { self.now.refused ≡ None → IfErr result (λ fault. fault ≡ SaveFault.OutOfMemory) }
+        ensures saved { self.now.refused ≡ None → IsOk result }
         ensures ticket { IfOk result (HasTicketIn self.now out.new) }
     {
+        if self.refused.is_some() {
+            return Err(SaveFault::Failed);
+        }
         lower_laws();
         self.stands_somewhere();
-        if self.refused.is_none() {
-            if let Some(count) = spell_at(out, &self.reader, &self.parts) {
-                return Ok(count);
-            }
-        }
-        let ticket = self.save(alloc)?;
-        put_where_room(ticket.as_slice(), out);
-        Ok(ticket.len())
+        Ok(spell_at(out, &self.reader, &self.parts))
     }
 
     /// The value of the envelope where it lies, where one has ended. It stays there until the unpacker begins again.

@@ -1,7 +1,7 @@
 //! The command `iimwire`: checks files of envelopes, shows their parts, writes their stories, audits them, and packs scripts.
 //!
-//! Stands on `iim_commands`, which reads the words and carries out what they ask for, on the crates below it for their types and
-//! definitions, on `clap` and `jiff`.
+//! Stands on `iim_commands`, which reads the words and carries out what they ask for, on `iim_files`, which does so over more than one
+//! file, on the crates below them for their types and definitions, and on `clap`.
 //! [`serve::serve`] does the work, over any source and targets of octets; what is here gives it the words, files and streams
 //! of a process.
 #![tactic(auto)]
@@ -10,7 +10,7 @@ mod serve;
 mod start;
 mod words;
 
-ghost use Rattle.std.specs.Prelude.{◌≡◌, ◌≢◌, ◌⊎◌, IfSome, None};
+ghost use Rattle.std.specs.Prelude.{◌≡◌, ◌≢◌, ◌⊎◌, IfSome, None, true};
 ghost use Rattle.iim_output.specs.States.Devices.{Devices};
 ghost use Rattle.iim_commands.specs.Format.{Ran};
 ghost use Rattle.std.specs.IoError.{error_kind};
@@ -18,8 +18,10 @@ ghost use Rattle.std.specs.Process.{exit_status};
 ghost use Rattle.iim_output.specs.Format.{status_failed};
 ghost use Rattle.iimwire.specs.Format.{status_of_start};
 
-use iim_commands::request::{Request, parse};
-use iim_dataset::{FromRead, FromWrite};
+use iim_commands::{Files, FilesRequest, Job, Request, parse_files};
+use iim_dataset::{FromRead, FromWrite, Source, Target};
+use iim_files::file::{SoFar, no_files, run_next, tell_fault, tell_unopened, tell_untext};
+use iim_files::names::Names;
 use serve::serve;
 use start::RunFault;
 use std::fs::File;
@@ -34,7 +36,7 @@ fn main(rt: HostRuntime) -> ExitCode {
         Err(error) => return give_up(&rt, fault_of(&error, RunFault::NoText)),
     };
     let words = words.as_slice();
-    match parse(rt.alloc(), words) {
+    match parse_files(rt.alloc(), words) {
         Ok(request) => begin(&rt, request),
         Err(fault) => give_up(
             &rt,
@@ -48,8 +50,21 @@ fn given_words(rt: &HostRuntime) -> io::Result<Vec<String>> {
     Ok(env::args(rt)?.collect(rt.alloc())?)
 }
 
+/// Reads the files that are asked for: one, or standard input, or more.
+fn begin(rt: &HostRuntime, request: FilesRequest<'_>) -> ExitCode
+    ensures standard { request.entry.files ≡ Files.One None
+        → (old : Devices) × (new : Devices) × Ran request.entry.job old new (exit_status result) }
+{
+    let FilesRequest { files, job } = request;
+    match files {
+        Files::One(file) => begin_one(rt, Request { file, job }),
+        Files::Many(names) => over_names(rt, job, names.as_slice()),
+        Files::Listed(list) => over_list(rt, job, list),
+    }
+}
+
 /// Opens the file that the request names, or else takes standard input.
-fn begin(rt: &HostRuntime, request: Request<'_>) -> ExitCode
+fn begin_one(rt: &HostRuntime, request: Request<'_>) -> ExitCode
     ensures standard { request.entry.file ≡ None
         → (old : Devices) × (new : Devices) × Ran request.entry.job old new (exit_status result) }
     ensures named { IfSome request.entry.file
@@ -63,6 +78,97 @@ fn begin(rt: &HostRuntime, request: Request<'_>) -> ExitCode
         Ok(file) => carry_out(rt, request, file),
         Err(error) => give_up(rt, fault_of(&error, RunFault::CannotOpen(name))),
     }
+}
+
+/// Carries out a job over the next file, of this name, unless a write has failed.
+fn over_file<W: Target, E: Target>(
+    rt: &HostRuntime,
+    job: Job,
+    name: &str,
+    so_far: SoFar<W, E>,
+) -> SoFar<W, E> {
+    if so_far.broken {
+        return so_far;
+    }
+    match File::open(rt, name) {
+        Ok(file) => run_next(rt.alloc(), name, job, FromRead::new(file), so_far),
+        Err(error) => tell_unopened(rt.alloc(), name, is_memory(&error), so_far),
+    }
+}
+
+/// Checks whether an error says that memory was refused.
+fn is_memory(error: &io::Error) -> bool
+    ensures { result ≡ true → error_kind error.now ≡ ErrorKind.OutOfMemory }
+{
+    matches!(error.kind(), ErrorKind::OutOfMemory)
+}
+
+/// Carries out a job over files that are named as arguments.
+fn over_names(rt: &HostRuntime, job: Job, names: &[&str]) -> ExitCode {
+    let output = FromWrite::new(rt.stdout());
+    let errors = FromWrite::new(rt.stderr());
+    let mut so_far = no_files(output, errors);
+    for name in names {
+        so_far = over_file(rt, job, *name, so_far);
+    }
+    ended(so_far)
+}
+
+/// Carries out a job over the files that a list names: the file of this name, or standard input if it is `-`.
+fn over_list(rt: &HostRuntime, job: Job, list: &str) -> ExitCode {
+    if list == "-" {
+        return over_listed(rt, job, FromRead::new(rt.stdin()));
+    }
+    match File::open(rt, list) {
+        Ok(file) => over_listed(rt, job, FromRead::new(file)),
+        Err(error) => give_up(rt, fault_of(&error, RunFault::CannotOpen(list))),
+    }
+}
+
+/// Carries out a job over the files whose names a reader gives.
+fn over_listed<R: Source + Drop>(rt: &HostRuntime, job: Job, reader: R) -> ExitCode {
+    let output = FromWrite::new(rt.stdout());
+    let errors = FromWrite::new(rt.stderr());
+    let mut so_far = no_files(output, errors);
+    let mut names = Names::new(reader);
+    let mut name = Vec::new(rt.alloc());
+    'names: for _ in 0..u64::MAX {
+        if so_far.broken {
+            return ended(so_far);
+        }
+        match names.next_name(&mut name) {
+            Ok(true) => so_far = over_listed_file(rt, job, name.as_slice(), so_far),
+            Ok(false) => return ended(so_far),
+            Err(fault) => return ended(tell_fault(fault, so_far)),
+        }
+    }
+    ended(so_far)
+}
+
+/// Carries out a job over the next file, whose name is these octets.
+fn over_listed_file<W: Target, E: Target>(
+    rt: &HostRuntime,
+    job: Job,
+    name: &[u8],
+    so_far: SoFar<W, E>,
+) -> SoFar<W, E> {
+    match str::from_utf8(name) {
+        Ok(name) => over_file(rt, job, name, so_far),
+        Err(_) => tell_untext(rt.alloc(), name, so_far),
+    }
+}
+
+/// Returns the status that a command over files ends with.
+fn ended<W: Drop, E: Drop>(so_far: SoFar<W, E>) -> ExitCode
+    ensures { exit_status result ≡ so_far.status }
+{
+    let SoFar {
+        status,
+        broken: _,
+        output: _,
+        errors: _,
+    } = so_far;
+    ExitCode::from(status)
 }
 
 /// Refused memory is told as that, and any other error as the given fault.

@@ -2,13 +2,13 @@
 
 ghost use Rattle.iimwire.specs.Format.{Served};
 
-use crate::start::{RunFault, hinder};
-use iim_commands::request::Request;
-use iim_commands::run::run;
+use crate::start::{RunFault, answer};
+use iim_commands::{Request, run};
 use iim_dataset::{Source, Target};
 use std::alloc::Global;
 
-/// Carries out a request over its reader, or tells why there is none: the status, and both writers.
+/// Carries out a request over its reader; or shows the text that is asked for, or tells why there is no request. Returns the status, and
+/// both writers.
 pub fn serve<R: Source + Drop, W: Target, E: Target>(
     alloc: Global,
     begun: Result<(Request<'_>, R), RunFault<'_>>,
@@ -21,8 +21,9 @@ pub fn serve<R: Source + Drop, W: Target, E: Target>(
     match begun {
         Ok((request, reader)) => run(alloc, request, reader, output, errors),
         Err(fault) => {
+            let mut output = output;
             let mut errors = errors;
-            let status = hinder(alloc, fault, &mut errors);
+            let status = answer(alloc, fault, &mut output, &mut errors);
             (status, output, errors)
         }
     }

@@ -2,12 +2,14 @@
 
 ghost use Rattle.std.specs.Prelude.{◌≡◌, ◌++◌, IfOk, codes};
 
+use clap::Error;
+use clap::error::ErrorKind;
+use iim_commands::UsageFault;
 use iim_commands::fault::CommandFault;
 use iim_commands::lines::tell;
-use iim_commands::request::UsageFault;
 use iim_commands::shown::push_name;
-use iim_commands::status::{FAILED, USAGE};
-use iim_dataset::Target;
+use iim_commands::status::{ACCEPTED, FAILED, USAGE};
+use iim_dataset::{Target, put};
 use std::alloc::{AllocError, Global};
 
 /// Why there is nothing to run.
@@ -24,14 +26,45 @@ pub enum RunFault<'a> {
 }
 
 ghost use Rattle.iim_request.specs.Format.{shown_name};
-ghost use Rattle.iimwire.specs.Format.{status_of_start, IsHindered, TellsRunFault};
+ghost use Rattle.iimwire.specs.Format.{asks_for_text, is_text_asked, status_of_start, IsAnswered, IsHindered, IsShown, IsTextShown, TellsRunFault};
+
+/// Checks whether an error of `clap` is the text of `--help` or `--version`.
+pub fn asks_for_text(error: &Error) -> bool
+    ensures { result ≡ asks_for_text error.now }
+{
+    match error.kind() {
+        ErrorKind::DisplayHelp | ErrorKind::DisplayVersion => true,
+        _ => false,
+    }
+}
+
+/// Checks whether the arguments ask for the text of `--help` or `--version` alone.
+fn is_text_asked(fault: &RunFault<'_>) -> bool
+    ensures { result ≡ is_text_asked fault.now }
+{
+    match fault {
+        RunFault::Usage(UsageFault::Words(error)) => asks_for_text(error),
+        _ => false,
+    }
+}
+
+/// Returns the status for an error of `clap`.
+fn words_status(error: &Error) -> u8
+    ensures { result ≡ status_of_start (RunFault.Usage (UsageFault.Words error.now)) }
+{
+    match error.kind() {
+        ErrorKind::DisplayHelp | ErrorKind::DisplayVersion => ACCEPTED,
+        _ => USAGE,
+    }
+}
 
 /// The status for a fault of the words.
 fn usage_status(fault: &UsageFault) -> u8
     ensures { result ≡ status_of_start (RunFault.Usage fault.now) }
 {
     match fault {
-        UsageFault::Words(_) | UsageFault::MaxNeedsUnknown | UsageFault::BadNow => USAGE,
+        UsageFault::Words(error) => words_status(error),
+        UsageFault::MaxNeedsUnknown | UsageFault::BadNow => USAGE,
         UsageFault::OutOfMemory => FAILED,
     }
 }
@@ -89,11 +122,54 @@ fn text(alloc: Global, fault: &RunFault<'_>) -> Result<Vec<u8>, AllocError>
 }
 
 /// Tells why a run can't begin, and answers the status.
-pub fn hinder<E: Target>(alloc: Global, fault: RunFault<'_>, errors: &mut E) -> u8
+fn hinder<E: Target>(alloc: Global, fault: RunFault<'_>, errors: &mut E) -> u8
     ensures { IsHindered fault.entry (E.state errors.old) (E.state errors.new) result }
 {
     match text(alloc, &fault) {
         Ok(text) => tell(errors, text.as_slice(), status(&fault)),
         Err(_) => tell(errors, CommandFault::OutOfMemory.line().as_bytes(), FAILED),
     }
+}
+
+/// Writes a text to the output, and returns the wanted status. If the output fails, the errors are told that it can't be written.
+fn show<W: Target, E: Target>(text: &[u8], status: u8, output: &mut W, errors: &mut E) -> u8
+    ensures { IsShown text.now status (W.state output.old, E.state errors.old) (W.state output.new, E.state errors.new)
+        result }
+{
+    match put(output, text) {
+        Ok(()) => status,
+        Err(_) => tell(errors, CommandFault::CannotWrite.line().as_bytes(), FAILED),
+    }
+}
+
+/// Writes the text of `--help` or `--version` to the output, and returns the status.
+fn show_text<W: Target, E: Target>(
+    alloc: Global,
+    fault: &RunFault<'_>,
+    output: &mut W,
+    errors: &mut E,
+) -> u8
+    ensures { IsTextShown fault.now (W.state output.old, E.state errors.old) (W.state output.new, E.state errors.new)
+        result }
+{
+    match text(alloc, fault) {
+        Ok(text) => show(text.as_slice(), status(fault), output, errors),
+        Err(_) => tell(errors, CommandFault::OutOfMemory.line().as_bytes(), FAILED),
+    }
+}
+
+/// Shows the text that the arguments ask for, or tells why a run can't begin. Returns the status.
+pub fn answer<W: Target, E: Target>(
+    alloc: Global,
+    fault: RunFault<'_>,
+    output: &mut W,
+    errors: &mut E,
+) -> u8
+    ensures { IsAnswered (is_text_asked fault.entry) fault.entry (W.state output.old, E.state errors.old)
+        (W.state output.new, E.state errors.new) result }
+{
+    if is_text_asked(&fault) {
+        return show_text(alloc, &fault, output, errors);
+    }
+    hinder(alloc, fault, errors)
 }

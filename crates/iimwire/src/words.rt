@@ -2,10 +2,12 @@
 
 ghost use Rattle.std.specs.Prelude.{◌≡◌, IfOk, IsUtf8, string_bytes};
 ghost use Rattle.iim_request.specs.Format.{shown_name};
-ghost use Rattle.iimwire.specs.Format.{IsPrintedAs};
+ghost use Rattle.iimwire.specs.Format.{IsMistakeOf, IsPrintedAs};
 
-use iim_commands::request::{UsageFault, parse};
+use crate::start::asks_for_text;
+use clap::Error;
 use iim_commands::shown::push_name;
+use iim_commands::{UsageFault, parse_files};
 use std::alloc::{AllocError, Global};
 
 /// A word without its control characters and backslashes. What is shown of a text is a text; if it were none, the word is as it was.
@@ -29,19 +31,46 @@ fn shown_words(alloc: Global, words: &[String]) -> Result<Vec<String>, AllocErro
     Ok(shown)
 }
 
-/// The fault of the words as it is printed: what `clap` says of them, it says of the words as they are shown.
-pub fn printed_fault(alloc: Global, words: &[String], fault: UsageFault) -> UsageFault
-    ensures { IsPrintedAs fault result }
+/// Returns the other error, or this one if the other is a text that is asked for.
+fn mistake_or(other: Error, error: Error) -> UsageFault
+    ensures { IsMistakeOf error result }
 {
-    let UsageFault::Words(_) = &fault else {
-        return fault;
-    };
+    if asks_for_text(&other) {
+        return UsageFault::Words(error);
+    }
+    UsageFault::Words(other)
+}
+
+/// Returns a mistake in the words as it is printed: what `clap` says of them, it says of the words as they are shown.
+fn printed_mistake(alloc: Global, words: &[String], error: Error) -> UsageFault
+    ensures { IsMistakeOf error result }
+{
     let Ok(shown) = shown_words(alloc, words) else {
         return UsageFault::OutOfMemory;
     };
-    match parse(alloc, shown.as_slice()) {
-        Err(UsageFault::Words(error)) => UsageFault::Words(error),
+    match parse_files(alloc, shown.as_slice()) {
+        Err(UsageFault::Words(other)) => mistake_or(other, error),
         Err(UsageFault::OutOfMemory) => UsageFault::OutOfMemory,
-        _ => fault,
+        _ => UsageFault::Words(error),
+    }
+}
+
+/// Returns what `clap` says of the words as it is printed: a text that is asked for as it is.
+fn printed_error(alloc: Global, words: &[String], error: Error) -> UsageFault
+    ensures { IsPrintedAs (UsageFault.Words error) result }
+{
+    if asks_for_text(&error) {
+        return UsageFault::Words(error);
+    }
+    printed_mistake(alloc, words, error)
+}
+
+/// The fault of the words as it is printed: of a mistake, what `clap` says of the words as they are shown.
+pub fn printed_fault(alloc: Global, words: &[String], fault: UsageFault) -> UsageFault
+    ensures { IsPrintedAs fault result }
+{
+    match fault {
+        UsageFault::Words(error) => printed_error(alloc, words, error),
+        other => other,
     }
 }

@@ -1,12 +1,13 @@
 //! The limits of wire copy, and causes and faults as they are printed.
 
 use crate::told::Told;
-use iim_dataset::{IoFault, Stop};
+use iim_dataset::{Fault, FaultCause, IoFault, Stop};
 use iim_fields::laws::wire_limits_are_told;
 use iim_fields::{CopyFault, FieldCause, FieldFault, Limits};
-use iim_object::{ObjectFault, PackCause, SizeCause};
-use std::fmt::{Debug, Display};
-use wire_story::TextCause;
+use iim_object::{ObjectFault, PackCause, SizeCause, StartFault};
+use std::error::Error;
+use wire_message::{MessageCause, MessageFault};
+use wire_story::{TextCause, TextFault};
 
 /// Each cause of the texts.
 const TEXT_CAUSES: [TextCause; 3] = [
@@ -20,6 +21,9 @@ pub(crate) fn tell(told: &mut Told) {
     causes_of_texts_are_printed(told);
     faults_of_records_are_printed(told);
     faults_of_objects_are_printed(told);
+    faults_of_datasets_are_printed(told);
+    faults_of_texts_are_printed(told);
+    a_fault_of_a_writer_is_printed(told);
 }
 
 fn limits_of_wire_copy(told: &mut Told) {
@@ -31,7 +35,7 @@ fn limits_of_wire_copy(told: &mut Told) {
 }
 
 /// Tells the name of each value, and the value as it is printed.
-fn tell_printed<T: Debug + Display>(told: &mut Told, trial: &str, values: &[T]) {
+fn tell_printed<T: Error>(told: &mut Told, trial: &str, values: &[T]) {
     for value in values {
         told.begin(trial, " ", value);
         told.end_shown(": ", value);
@@ -70,4 +74,41 @@ fn faults_of_objects_are_printed(told: &mut Told) {
     tell_printed(told, FAULTS, &[PackCause::BadTrailer]);
     tell_printed(told, FAULTS, &[SizeCause::ModeClash]);
     tell_printed(told, FAULTS, &[IoFault::Interrupted, IoFault::Failed]);
+}
+
+fn faults_of_datasets_are_printed(told: &mut Told) {
+    let causes = [
+        FaultCause::Marker,
+        FaultCause::CountForm,
+        FaultCause::Stopped,
+    ];
+    tell_printed(told, FAULTS, &causes);
+    let form = Fault {
+        cause: FaultCause::CountForm,
+        used: 4,
+    };
+    tell_printed(told, FAULTS, &[form]);
+    tell_printed(told, FAULTS, &[Stop { taken: 3 }]);
+}
+
+fn faults_of_texts_are_printed(told: &mut Told) {
+    let text = TextFault {
+        taken: 5,
+        cause: TextCause::LoneReturn,
+    };
+    tell_printed(told, FAULTS, &[text]);
+    let message = MessageFault {
+        taken: 6,
+        cause: MessageCause::BadOctet,
+    };
+    tell_printed(told, FAULTS, &[message]);
+}
+
+fn a_fault_of_a_writer_is_printed(told: &mut Told) {
+    let fault = StartFault {
+        cause: PackCause::Write,
+        writer: 7u8,
+        written: 10,
+    };
+    tell_printed(told, FAULTS, &[fault]);
 }

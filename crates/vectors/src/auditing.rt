@@ -1,6 +1,6 @@
 //! Streams of envelopes, audited.
 
-use iim_audit::{AuditCause, AuditFault, Report, audit, report_text};
+use iim_audit::{AuditFault, Report, audit, report_text};
 use iim_dataset::FromRead;
 use iim_fields::Limits;
 use iim_unpack::Intake;
@@ -33,10 +33,7 @@ fn print_fault(out: &mut Answers, fault: AuditFault) {
     out.put("  ");
     out.show(&fault.envelope);
     out.put(" ");
-    match fault.cause {
-        AuditCause::Refused(refusal) => out.show(&refusal),
-        cause => out.show(&cause),
-    }
+    out.show(&fault.cause);
     out.end();
 }
 

@@ -2,22 +2,21 @@
 
 use crate::values::limits_of;
 use iim_fields::Limits;
-use iim_unpack::{
-    SaveFault, TicketFault, TicketFields, TicketParts, TicketPhase, Unpacker, split_ticket,
-};
+use iim_unpack::{TicketFault, TicketFields, TicketParts, TicketPhase, Unpacker, split_ticket};
 use std::alloc::Global;
 use vectors_layers::{Answers, MOST_ARGUMENTS, Names, Words};
 
-/// The number and the name of a fault.
-pub(crate) fn fault_name(fault: TicketFault) -> &'static str {
-    match fault {
-        TicketFault::Form => "100 TicketForm",
-        TicketFault::Version => "101 TicketVersion",
-        TicketFault::Impossible => "102 Impossible",
-        TicketFault::HeaderFull => "50 HeaderFull",
-        TicketFault::TooManyFields => "51 TooManyFields",
-        TicketFault::OutOfMemory => "70 OutOfMemory",
-    }
+/// Adds the number and the name of a cause after some text.
+fn put_cause(out: &mut Answers, label: &str, number: u8, name: &str) {
+    out.number(label, u64::from(number));
+    out.put(" ");
+    out.put(name);
+}
+
+/// Prints the number and the name of a fault.
+pub(crate) fn print_fault(out: &mut Answers, fault: TicketFault) {
+    put_cause(out, "  ", fault.number(), fault.name());
+    out.end();
 }
 
 /// Prints octets in hexadecimal digits.
@@ -44,8 +43,10 @@ pub(crate) fn print_ticket(
 ) {
     match unpacker.save(alloc) {
         Ok(ticket) => print_saved(out, ticket.as_slice(), wanted),
-        Err(SaveFault::Failed) => out.line("61 Failed"),
-        Err(SaveFault::OutOfMemory) => out.line("70 OutOfMemory"),
+        Err(fault) => {
+            put_cause(out, "  ", fault.number(), fault.name());
+            out.end();
+        }
     }
 }
 
@@ -68,15 +69,15 @@ fn print_again(out: &mut Answers, alloc: Global, unpacker: &Unpacker, wanted: &[
 fn print_restored(out: &mut Answers, alloc: Global, limits: Limits, ticket: &[u8], wanted: &[u8]) {
     match Unpacker::restore(alloc, limits, ticket, 0) {
         Ok(unpacker) => print_again(out, alloc, &unpacker, wanted),
-        Err(fault) => out.line(fault_name(fault)),
+        Err(fault) => print_fault(out, fault),
     }
 }
 
-/// What restoring a ticket answers.
-fn restoring(alloc: Global, limits: Limits, ticket: &[u8]) -> &'static str {
+/// Adds whether a ticket is restored: `restored`, or the number and the name of the fault.
+fn put_restored(out: &mut Answers, alloc: Global, limits: Limits, ticket: &[u8]) {
     match Unpacker::restore(alloc, limits, ticket, 0) {
-        Ok(_) => "restored",
-        Err(fault) => fault_name(fault),
+        Ok(_) => out.put("restored"),
+        Err(fault) => put_cause(out, "", fault.number(), fault.name()),
     }
 }
 
@@ -112,7 +113,7 @@ impl OpenTicket<'_> {
         };
         out.number("  ", number);
         out.put(" ");
-        out.put(restoring(alloc, limits, ticket.as_slice()));
+        put_restored(out, alloc, limits, ticket.as_slice());
         out.end();
     }
 
@@ -194,7 +195,7 @@ fn print_all(out: &mut Answers, mut parts: TicketParts, len: usize) {
 fn print_parts(out: &mut Answers, ticket: &[u8]) {
     match split_ticket(ticket) {
         Ok(parts) => print_all(out, parts, ticket.len()),
-        Err(fault) => out.line(fault_name(fault)),
+        Err(fault) => print_fault(out, fault),
     }
 }
 

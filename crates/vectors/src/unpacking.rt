@@ -4,7 +4,7 @@ use crate::causes::{print_causes, print_layers};
 use crate::cuts::{Cuts, feed_cut};
 use crate::intakes::print_next;
 use crate::lines::print_lines;
-use crate::tickets::{self, fault_name, print_ticket};
+use crate::tickets::{self, print_ticket};
 use crate::values::{limits_of, print_done, print_value};
 use iim_fields::Limits;
 use iim_unpack::{Progress, Refusal, Unpacker};
@@ -138,7 +138,7 @@ impl Bench {
                 self.limits = limits;
                 out.line("restored");
             }
-            Err(fault) => out.line(fault_name(fault)),
+            Err(fault) => tickets::print_fault(out, fault),
         }
     }
 

@@ -1,6 +1,6 @@
 //! What an envelope shows.
 
-use iim_fields::{DataIter, Envelope, FieldIter, instants};
+use iim_fields::{DataIter, Envelope, FieldIter};
 use jiff::Timestamp;
 use vectors_layers::Answers;
 
@@ -65,15 +65,15 @@ fn print_mandatory(out: &mut Answers, envelope: &Envelope) {
     print_octets(out, "format_version", envelope.format_version());
     print_octets(out, "record_version", envelope.record_version());
     out.put("  date_sent ");
-    out.show(&instants::date_sent(&envelope.borrowed()));
+    out.show(&envelope.date_sent());
     out.end();
 }
 
 /// Prints what may be absent.
 fn print_optional(out: &mut Answers, envelope: &Envelope) {
-    print_instant(out, "sent", instants::sent(&envelope.borrowed()));
-    print_instant(out, "release", instants::release(&envelope.borrowed()));
-    print_instant(out, "expires", instants::expires(&envelope.borrowed()));
+    print_instant(out, "sent", envelope.sent());
+    print_instant(out, "release", envelope.release());
+    print_instant(out, "expires", envelope.expires());
     match envelope.priority() {
         Some(digit) => print_octets(out, "priority", &[digit]),
         None => print_some(out, "priority", None),

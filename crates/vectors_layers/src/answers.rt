@@ -1,6 +1,6 @@
 //! The answers to a question.
 
-use iim_dataset::{DatasetName, NumberOrDash, push_shown};
+use iim_dataset::{DatasetName, push_shown};
 use std::alloc::Global;
 use std::fmt::{Debug, Display};
 use std::io::Write;
@@ -108,7 +108,10 @@ impl Answers {
     /// Adds text, and after it a number or a dash.
     pub fn number_or_dash(&mut self, label: &str, number: Option<u64>) {
         self.put(label);
-        self.show(&NumberOrDash(number));
+        match number {
+            Some(number) => self.show(&number),
+            None => self.put("-"),
+        }
     }
 
     /// Adds text, and `true` or `false` after it.

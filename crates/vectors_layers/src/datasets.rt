@@ -114,7 +114,7 @@ fn feed_pieces(reader: &mut HeadReader, record: &mut Record, octets: &[u8], cut:
         }
         match reader.feed(piece, record) {
             Ok(taken) => used = before.saturating_add(taken),
-            Err(fault) => record.refuse(before.saturating_add(fault.taken), fault.cause),
+            Err(fault) => record.refuse(before.saturating_add(fault.used), fault.cause),
         }
     }
     if !reader.is_failed() {

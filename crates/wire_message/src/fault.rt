@@ -1,7 +1,7 @@
 //! Why an object is refused.
 
 ghost use Rattle.std.specs.Prelude.{◌≡◌, Some};
-ghost use Rattle.wire_message.specs.Format.Causes.{number_of_message, name_of_message, print_of_message};
+ghost use Rattle.wire_message.specs.Format.Causes.{number_of_message, name_of_message, print_of_message, print_of_fault};
 
 use std::error::Error;
 use std::fmt;
@@ -66,3 +66,16 @@ pub struct MessageFault {
     /// Why it was refused.
     pub cause: MessageCause,
 }
+
+/// Writes the number of octets before the refused one, and the cause, as `refused after 5 octets, cause 40 LoneReturn`.
+impl Display for MessageFault {
+    ghost output = { λ fault. Some (print_of_fault fault) };
+
+    fn fmt<W: fmt::Write>(&self, f: &mut Formatter<W>) -> fmt::Result {
+        let taken = self.taken;
+        let cause = self.cause;
+        write!(f, "refused after {taken} octets, cause {cause}")
+    }
+}
+
+impl Error for MessageFault {}

@@ -1,7 +1,7 @@
 //! Why a text is refused.
 
 ghost use Rattle.std.specs.Prelude.{◌≡◌, ◌<◌, ◌+◌, ◌^◌, Some};
-ghost use Rattle.wire_story.specs.Format.Texts.{number_of_text, name_of_text, print_of_text};
+ghost use Rattle.wire_story.specs.Format.Texts.{number_of_text, name_of_text, print_of_text, print_of_fault};
 
 use std::error::Error;
 use std::fmt;
@@ -59,6 +59,19 @@ pub struct TextFault {
     /// Why it was refused.
     pub cause: TextCause,
 }
+
+/// Writes the number of octets before the refused one, and the cause, as `refused after 5 octets, cause 40 LoneReturn`.
+impl Display for TextFault {
+    ghost output = { λ fault. Some (print_of_fault fault) };
+
+    fn fmt<W: fmt::Write>(&self, f: &mut Formatter<W>) -> fmt::Result {
+        let taken = self.taken;
+        let cause = self.cause;
+        write!(f, "refused after {taken} octets, cause {cause}")
+    }
+}
+
+impl Error for TextFault {}
 
 impl TextFault {
     /// The fault as it is told of a run that begins `octets` octets earlier.

@@ -1,15 +1,18 @@
 //! Calls of scripts.
 
+ghost use Rattle.iim_script.specs.Format.Scripts.{text_lines};
+ghost use Rattle.wire_story.specs.Format.Texts.{IsText};
+
 use crate::given::LIMITS;
 use crate::outcome::Trouble;
 use iim_fields::Envelope;
 use iim_script::{Script, ScriptCause, ScriptFault, read_script};
 use std::alloc::Global;
-use wire_story::{Lines, TextCause, TextReader};
+use wire_story::Lines;
 use worked::{FIRST_LINE, LAST_LINE};
 
 /// The script of the worked envelope.
-const SCRIPT: &[u8] = b"1:00 \\x00\\x04
+pub(crate) const SCRIPT: &[u8] = b"1:00 \\x00\\x04
 1:20 \\x00\\x02
 1:22 \\x00\\x01
 1:30 TST
@@ -36,20 +39,12 @@ fn are_worked(lines: &Lines) -> bool {
     lines.iter().eq([FIRST_LINE, LAST_LINE])
 }
 
-/// The lines of a text.
-fn collected(alloc: Global, text: &[u8]) -> Result<Lines, Trouble> {
-    let mut lines = Lines::new(alloc);
-    match TextReader::new().run(text, &mut lines) {
-        Ok(()) => Ok(lines),
-        Err(fault) if fault.cause == TextCause::Sink => Err(Trouble::OutOfMemory),
-        Err(_) => Err(Trouble::Wrong),
-    }
-}
-
 /// The lines of a script, where it tells this envelope and the worked lines.
-fn lines_of(alloc: Global, script: Script<'_>, envelope: &Envelope) -> Result<Lines, Trouble> {
+fn lines_of(alloc: Global, script: Script<'_>, envelope: &Envelope) -> Result<Lines, Trouble>
+    requires { IsText script.text.now (text_lines script.text.now) }
+{
     let is_same = script.envelope.same(envelope) && script.text_line == 18;
-    let lines = collected(alloc, script.text)?;
+    let lines = script.lines(alloc)?;
     if is_same && are_worked(&lines) {
         return Ok(lines);
     }

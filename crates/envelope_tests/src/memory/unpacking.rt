@@ -99,8 +99,8 @@ fn unpacker_of(alloc: Global, ticket: &[u8]) -> Result<(Unpacker, bool), Trouble
 fn refuses_tickets(alloc: Global, ticket: &[u8]) -> bool {
     let few = |octets, fields| Limits { octets, fields };
     let rows: [(&[u8], Limits, TicketFault); 5] = [
-        (b"IIM", LIMITS, TicketFault::Form),
-        (b"IIMT\x09", LIMITS, TicketFault::Version),
+        (b"IIM", LIMITS, TicketFault::TicketForm),
+        (b"IIMT\x09", LIMITS, TicketFault::TicketVersion),
         (&IMPOSSIBLE, LIMITS, TicketFault::Impossible),
         (ticket, few(77, 16), TicketFault::HeaderFull),
         (ticket, few(78, 15), TicketFault::TooManyFields),

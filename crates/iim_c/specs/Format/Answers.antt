@@ -3,7 +3,8 @@ use Rattle.std.specs.Prelude.{ℕ, ◌≡◌, ◌≤◌, List, ◌++◌, length,
 use Rattle.iim_places.specs.{Format.Causes.cause_number, Format.Streams.raised, declared.refusal.Refusal.Refusal}
 use Rattle.iim_places.specs.{declared.refusal.Layer.Layer, declared.ticket.fault.TicketFault.TicketFault}
 use Rattle.iim_places.specs.declared.refusal.Layer.TheVariants.{Dataset, Record, Limits, Object, Message, Story, Outside}
-use Rattle.iim_places.specs.declared.ticket.fault.TicketFault.TheVariants.{Form, Version, Impossible, HeaderFull, TooManyFields, OutOfMemory}
+use Rattle.iim_places.specs.declared.ticket.fault.TicketFault.TheVariants.{OutOfMemory}
+use Rattle.iim_places.specs.Format.Faults.{ticket_number}
 use Rattle.iim_c.specs.Format.Statuses as status
 use Rattle.wire_story.specs.Format.Texts.{StoryEvent, octet_for}
 pub use Rattle.iim_c.specs.declared.answer.IimAnswer.{IimAnswer}
@@ -28,8 +29,7 @@ abbrev pub short_answer : ℕ → ℕ → IimAnswer
 short_answer written ticket = record (status_answer status.short) { written = written; ticket = ticket }
 
 -- the layers by their numbers
--- twins (with ticket_number): `tells_each_value_as_it_is_written`, `checks_each_changed_octet_of_the_smallest_envelope`; 70 is never told,
---   since refused memory has a status of its own
+-- twin: `tells_each_value_as_it_is_written`, `checks_each_changed_octet_of_the_smallest_envelope`
 abbrev pub layer_number : Layer → ℕ
 layer_number Dataset = 1
 layer_number Record = 2
@@ -48,15 +48,6 @@ refusal_answer status e = record (status_answer status) {
   set = e.set;
   octet = e.octet;
 }
-
--- the numbers of the causes for which a ticket is refused
-abbrev pub ticket_number : TicketFault → ℕ
-ticket_number Form = 100
-ticket_number Version = 101
-ticket_number Impossible = 102
-ticket_number HeaderFull = 50
-ticket_number TooManyFields = 51
-ticket_number OutOfMemory = 70
 
 -- the answer for a ticket that is refused; refused memory has a status of its own
 abbrev pub ticket_answer : TicketFault → IimAnswer

@@ -143,14 +143,14 @@ IsAnswered o array array_new ticket_out old new told = (array_new ≡ o.rows ++ 
     ⊎ ((length ticket_out < length o.next) × (new ≡ old) × (told ≡ short_answer (length o.rows) (length o.next))))
 
 -- The piece is audited at an instant, from the place of the ticket on, and what it comes to is answered. So a buffer of the length that
--- the limits allow is never too short. Or there is no such place: an envelope has ended there, or the ticket is refused, or memory, for
--- want of which rows may be left that are told of nowhere.
+-- the limits allow is never too short. Or there is no such place: an envelope has ended there, or the ticket is refused, or memory. Then
+-- no row is written.
 abbrev pub IsAuditedAt : Limits → List ℕ → IimSoFar → List ℕ → ℤ → List IimAuditRow → List IimAuditRow → List ℕ → IimSoFar → IimAnswer → Type 0
 IsAuditedAt limits ticket old piece now array array_new ticket_out new told =
     ((o : Outcome) × IsOutcome limits now ticket old piece (length array) o × (length o.next ≤ most_of_ticket limits)
     × IsAnswered o array array_new ticket_out old new told)
     ⊎ (IsSaid limits ticket old.octets (λ p a. ⊥) (λ p a. ⊤) × (array_new ≡ array) × (new ≡ old) × (told ≡ status_answer status.bad_ticket))
-    ⊎ (IsNowhere limits ticket told × ((array_new ≡ array) ⊎ (told ≡ status_answer status.no_memory)) × (new ≡ old))
+    ⊎ (IsNowhere limits ticket told × (array_new ≡ array) × (new ≡ old))
 
 -- What is given as an instant is none, and all stays as it was.
 pub record IsNoInstant (now : IimInstant) (array array_new : List IimAuditRow) (old new : IimSoFar) (told : IimAnswer) : Type 0 where

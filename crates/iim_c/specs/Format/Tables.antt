@@ -5,7 +5,8 @@ use Rattle.iim_object.specs.Format.Causes.{pack_number}
 use Rattle.iim_places.specs.Format.Causes.{cause_name, cause_number, layer_name}
 use Rattle.iim_places.specs.declared.refusal.{Cause.Cause, Layer.Layer}
 use Rattle.iim_script.specs.Format.Causes as script_words
-use Rattle.iim_c.specs.Format.Answers.{ticket_number, layer_number}
+use Rattle.iim_c.specs.Format.Answers.{layer_number}
+use Rattle.iim_places.specs.Format.Faults.{ticket_number, ticket_name}
 use Rattle.iim_c.specs.declared.{rule.IimRule.IimRule, instant.IimInstant.IimInstant}
 use Rattle.jiff.specs.Words.{IsTimestampNanos}
 use Rattle.iim_tables.specs.Format.Dates.{nanoseconds_in_second}
@@ -113,9 +114,9 @@ causes_told =
     ∷ told 90 (codes "TooManyEnvelopes") (codes "an input has more than 1,000,000 envelopes; the command prints `too many envelopes`")
     ∷ of_script script.ScriptLine (codes "a line has no form that may stand there, or a line is missing")
     ∷ of_script script.ScriptTooLong (codes "the script has more than 16,777,216 octets; it is told of line 0")
-    ∷ told (ticket_number tickets.Form) (codes "TicketForm") (codes "the octets have not the form of a ticket")
-    ∷ told (ticket_number tickets.Version) (codes "TicketVersion") (codes "the ticket is of a version other than 1 and 2")
-    ∷ told (ticket_number tickets.Impossible) (codes "Impossible") (codes "no envelope can be at the place that the ticket tells; of version 1, none by the sizes of that version")
+    ∷ told (ticket_number tickets.TicketForm) (ticket_name tickets.TicketForm) (codes "the octets have not the form of a ticket")
+    ∷ told (ticket_number tickets.TicketVersion) (ticket_name tickets.TicketVersion) (codes "the ticket is of a version other than 1 and 2")
+    ∷ told (ticket_number tickets.Impossible) (ticket_name tickets.Impossible) (codes "no envelope can be at the place that the ticket tells; of version 1, none by the sizes of that version")
     ∷ []
 
 -- the first one with that number

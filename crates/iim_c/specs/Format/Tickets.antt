@@ -1,5 +1,5 @@
 -- What a ticket tells: its parts and where they stand, what is begun at its place, and which octets can come next.
-use Rattle.std.specs.Prelude.{◌≡◌, ℕ, ◌+◌, ◌≤◌, ◌⊎◌, Bool, false, List, [], ◌∷◌, length, get_or, take, drop, None, is_some, ◌≢◌, ◌-◌, ◌==◌, if◌then◌else◌, ◌++◌, ◌<◌, ◌/◌, ◌%◌, ◌↔◌, replicate, ⊤}
+use Rattle.std.specs.Prelude.{◌≡◌, ℕ, ◌+◌, ◌≤◌, ◌⊎◌, Bool, false, List, [], ◌∷◌, length, get_or, take, drop, None, is_some, ◌≢◌, ◌-◌, ◌==◌, if◌then◌else◌, ◌++◌, ◌<◌, ◌/◌, ◌%◌, ◌↔◌, replicate, ⊤, nat_le}
 use Rattle.std.specs.{Option.unwrap_or, Int.bit_at}
 use Rattle.iim_dataset.specs.Format.Datasets.{Dataset, SpellsTag, count_octets, head_of, Begun, InTag, InData, Reads}
 use Rattle.iim_places.specs.Format.TicketForm.{Split, SplitsTicket, IsFaultOf}
@@ -51,6 +51,23 @@ IsField ticket n found told =
     ((s : Split) × SplitsTicket ticket s × IsFieldAt ticket s n found × (told ≡ status_answer status.done))
     ⊎ ((s : Split) × SplitsTicket ticket s × (length s.fields ≤ n) × (found ≡ no_dataset) × (told ≡ status_answer status.none))
     ⊎ (IsNoTicket ticket told × (found ≡ no_dataset))
+
+-- The array has the first `count` datasets after the first `from`, as far as it has room for them; its other entries are as they were.
+pub record ArrayHasFields (ticket : List ℕ) (s : Split) (from count : ℕ) (old new : List IimDataset) : Type 0 where
+  pub each : (k : ℕ) → k < count → k < length old → IsFieldAt ticket s (from + k) (get_or new k no_dataset)
+  pub others : drop count new ≡ drop count old
+
+-- the answer for so many datasets, of which the array has room for so many
+abbrev pub fields_answer : (count room : ℕ) → IimAnswer
+fields_answer count room = record (status_answer (if nat_le count room then status.done else status.short)) { written = count }
+
+-- The array has the datasets after the first `from`, and the answer counts all of those; or the octets are no ticket, and the array is as
+-- it was.
+abbrev pub ReturnsFields : List ℕ → ℕ → List IimDataset → List IimDataset → IimAnswer → Type 0
+ReturnsFields ticket from old new told =
+    ((s : Split) × SplitsTicket ticket s × ArrayHasFields ticket s from (length s.fields - from) old new
+    × (told ≡ fields_answer (length s.fields - from) (length old)))
+    ⊎ (IsNoTicket ticket told × (new ≡ old))
 
 -- ---- header and trailer
 

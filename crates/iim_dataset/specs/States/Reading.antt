@@ -126,7 +126,7 @@ RefusesFor goes stops None old piece k new a b = Stops stops old piece k a b × 
 RefusesFor goes stops (Some cause) old piece k new a b = TellsSink goes old (take k piece) new a b × TagDies new (slice_index piece k) cause
 
 abbrev pub Refuses : {D : Type 0} → (D → List DatasetEvent → D → Type 0) → (D → List DatasetEvent → DatasetEvent → D → Type 0) → DatasetPlace → List ℕ → Fault → DatasetPlace → D → D → Type 0
-Refuses goes stops old piece fault new a b = RefusesFor goes stops (tag_cause_of fault.cause) old piece fault.taken new a b
+Refuses goes stops old piece fault new a b = RefusesFor goes stops (tag_cause_of fault.cause) old piece fault.used new a b
 
 -- Where no tag can continue with the refused octet, the sink takes what comes next: it has not ended.
 abbrev pub StillStands : {D : Type 0} → (D → Option ℕ → Type 0) → Option HeadCause → DatasetPlace → D → Type 0
@@ -173,6 +173,6 @@ pub record TakesPiece {D : Type 0} (goes : D → List DatasetEvent → D → Typ
 -- after.)
 pub record RefusesOne {D : Type 0} (goes : D → List DatasetEvent → D → Type 0) (stops : D → List DatasetEvent → DatasetEvent → D → Type 0) (stands : D → Option ℕ → Type 0) (old : DatasetPlace × D) (octets : List ℕ) (fault : Fault) (new : DatasetPlace × D) : Type 0 where
   pub is_place : IsPlace new.0
-  pub before : fault.taken < length octets
+  pub before : fault.used < length octets
   pub refused : Refuses goes stops old.0 octets fault new.0 old.1 new.1
   pub onward : StillStands stands (tag_cause_of fault.cause) new.0 new.1

@@ -149,3 +149,8 @@ pack_name Failed = codes "Failed"
 -- a cause's number and name, as they are printed
 abbrev pub pack_text : PackCause → List ℕ
 pack_text cause = decimal (pack_number cause) ++ (codes " " ++ pack_name cause)
+
+-- A cause, and the number of octets written, as they are printed.
+-- twin: `faults_are_printed`
+abbrev pub start_text : PackCause → ℕ → List ℕ
+start_text cause written = codes "cause " ++ (pack_text cause ++ (codes ", octets written " ++ decimal written))

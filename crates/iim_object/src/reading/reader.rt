@@ -103,53 +103,6 @@ impl ObjectReader {
         Ok(())
     }
 
-    /// The reader that a number of dataset 7:`set` leads to, or None where the object layer dies with it. This one has not failed, and
-    /// stays what it is.
-    #[inline(always)]
-    pub fn with_number(&self, set: u8, number: u64) -> Option<ObjectReader>
-        requires { IsSome self.now }
-        ensures takes_calls { IfSome result IsSome }
-        ensures leads_on { IfSome result (λ reader. LeadsOn self.now (NumberRead set number) reader) }
-        ensures refused { IfNone result ((cause : SizeCause) × Refuses self.now (NumberRead set number) cause) }
-    {
-        match take_number(self.state.unwrap(), set, number) {
-            Ok(state) => Some(ObjectReader { state: Some(state) }),
-            Err(_cause) => None,
-        }
-    }
-
-    /// The reader that the head of a subfile of `count` octets leads to, or None where the object layer dies with it. This one has
-    /// not failed, and stays what it is.
-    #[inline(always)]
-    pub fn with_subfile(&self, count: u64) -> Option<ObjectReader>
-        requires { IsSome self.now }
-        ensures takes_calls { IfSome result IsSome }
-        ensures leads_on { IfSome result (λ reader. LeadsOn self.now (SubfileBegun count) reader) }
-        ensures refused { IfNone result ((cause : SizeCause) × Refuses self.now (SubfileBegun count) cause) }
-    {
-        match take_subfile(self.state.unwrap(), count) {
-            Ok(state) => Some(ObjectReader { state: Some(state) }),
-            Err(_cause) => None,
-        }
-    }
-
-    /// The reader that the end of the object leads to, and this number of 9:10 after it, the confirmed size; or None where the
-    /// object layer dies with one of them. This one has not failed, and stays what it is.
-    pub fn with_end(&self, number: u64) -> Option<ObjectReader>
-        requires { IsSome self.now }
-        ensures takes_calls { IfSome result IsSome }
-        ensures leads_on { IfSome result (λ reader. EndsAs self.now number reader) }
-        ensures refused { IfNone result (RefusesToEnd self.now number) }
-    {
-        let Ok(ended) = take_end(self.state.unwrap()) else {
-            return None;
-        };
-        match take_confirmed(ended, number) {
-            Ok(state) => Some(ObjectReader { state: Some(state) }),
-            Err(_cause) => None,
-        }
-    }
-
     /// Whether a number of dataset 7:`set` may come, and the object layer lives with it. The reader has not failed.
     #[inline(always)]
     pub fn accepts_number(&self, set: u8, number: u64) -> bool

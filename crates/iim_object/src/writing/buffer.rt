@@ -4,7 +4,7 @@ ghost use Rattle.std.specs.Prelude.{◌≡◌, IfOk};
 ghost use Rattle.iim_object.specs.States.Writing.{room_of};
 
 use crate::plan::Plan;
-use iim_dataset::ReservedOctets;
+use iim_dataset::internals::ReservedOctets;
 use std::alloc::{AllocError, Global};
 use std::marker::Model;
 

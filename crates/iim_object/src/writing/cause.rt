@@ -1,11 +1,11 @@
 //! Why a packer refuses a call.
 
 ghost use Rattle.std.specs.Prelude.{◌≡◌, Some};
-ghost use Rattle.iim_object.specs.Format.Causes.{pack_number, pack_name, pack_text};
+ghost use Rattle.iim_object.specs.Format.Causes.{pack_number, pack_name, pack_text, start_text};
 
 use std::error::Error;
 use std::fmt;
-use std::fmt::{Display, Formatter};
+use std::fmt::{Debug, Display, Formatter};
 
 /// Why a packer refuses a call, each with its number.
 #[derive(Clone, Copy, Debug, PartialEq, Eq)]
@@ -73,3 +73,16 @@ pub struct StartFault<W> {
     /// How many octets are out.
     pub written: u64,
 }
+
+/// Writes the cause and the number of octets written, as `cause 84 Write, octets written 10`.
+impl<W> Display for StartFault<W> {
+    ghost output = { λ fault. Some (start_text fault.cause fault.written) };
+
+    fn fmt<F: fmt::Write>(&self, f: &mut Formatter<F>) -> fmt::Result {
+        let cause = self.cause;
+        let written = self.written;
+        write!(f, "cause {cause}, octets written {written}")
+    }
+}
+
+impl<W: Debug + Drop> Error for StartFault<W> {}

@@ -11,8 +11,9 @@ use crate::laws::objects_are_cut_one_way;
 use crate::plan::Plan;
 use crate::writing::cause::PackCause;
 use crate::writing::output::Output;
+use iim_dataset::Target;
 use iim_dataset::device_laws::texts_join;
-use iim_dataset::{ReservedOctets, Target};
+use iim_dataset::internals::ReservedOctets;
 use iim_tables::records::{CONFIRMED_SIZE, OBJECT, POST_OBJECT, SUBFILE};
 
 /// The octets of an object that are not out, and how many are.

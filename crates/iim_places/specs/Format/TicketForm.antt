@@ -4,7 +4,7 @@ use Rattle.std.specs.List.{AllByRecursion, flat_map}
 use Rattle.iim_dataset.specs.Format.Datasets.{Dataset}
 use Rattle.iim_places.specs.Format.Tickets.{width, Phase, TagBegun, DataBegun, AllEnded, first_version, second_version, layout, text_octets}
 use Rattle.iim_places.specs.declared.ticket.fault.TicketFault.{TicketFault}
-pub use Rattle.iim_places.specs.declared.ticket.fault.TicketFault.TheVariants.{Form, Version, HeaderFull, Impossible, OutOfMemory, TooManyFields}
+pub use Rattle.iim_places.specs.declared.ticket.fault.TicketFault.TheVariants.{TicketForm, TicketVersion, HeaderFull, Impossible, OutOfMemory, TooManyFields}
 
 -- a dataset whose length four octets tell
 -- twins (with AreFields) that nothing finds: no test has a ticket of 4 GB. Heads of up to 65,536 octets: "Long tickets"
@@ -110,6 +110,6 @@ pub record HasOtherVersion (ticket : List ℕ) : Type 0 where
 
 -- The version is told exactly where a ticket's name is followed by another one. The form is told exactly of all else without parts.
 abbrev pub IsFaultOf : List ℕ → TicketFault → Type 0
-IsFaultOf ticket Version = HasOtherVersion ticket
-IsFaultOf ticket Form = (HasOtherVersion ticket → ⊥) × ((s : Split) → SplitsTicket ticket s → ⊥)
+IsFaultOf ticket TicketVersion = HasOtherVersion ticket
+IsFaultOf ticket TicketForm = (HasOtherVersion ticket → ⊥) × ((s : Split) → SplitsTicket ticket s → ⊥)
 IsFaultOf ticket _ = ⊥

@@ -2,7 +2,7 @@
 use Rattle.std.specs.Prelude.{◌≡◌, ℕ, ◌+◌, ◌<◌, ◌≤◌, List, length, map}
 use Rattle.iim_fields.specs.{Format.Causes.joined, declared.limits.Limits.Limits}
 use Rattle.iim_places.specs.States.Possible.{IsPossibleIn, AreHeadsWithin, begun_count, begun_fields}
-use Rattle.iim_places.specs.Format.TicketForm.{Split, IsVersion, SplitsTicket, IsFaultOf, Form, Version, Impossible, HeaderFull, TooManyFields, OutOfMemory}
+use Rattle.iim_places.specs.Format.TicketForm.{Split, IsVersion, SplitsTicket, IsFaultOf, TicketForm, TicketVersion, Impossible, HeaderFull, TooManyFields, OutOfMemory}
 use Rattle.iim_places.specs.Format.Tickets.{Place, ticket_in, Phase, TagBegun, DataBegun, AllEnded}
 use Rattle.iim_places.specs.declared.ticket.split.TicketPhase.TheVariants.{Tag, Data, Ended}
 use Rattle.iim_places.specs.declared.ticket.{fault.TicketFault.TicketFault, split.TicketParts.TicketParts}
@@ -33,8 +33,8 @@ IsLimitFault limits octets fields _ = ⊥
 -- allow, or else are more datasets. Or all is well but for memory.
 -- twin: law `possible_places_are_taken`; "The order of refusals: the name, the version", "Limits: 7 datasets of 27 octets together"
 abbrev pub IsRestoreFault : Limits → List ℕ → TicketFault → Type 0
-IsRestoreFault limits ticket Form = IsFaultOf ticket Form
-IsRestoreFault limits ticket Version = IsFaultOf ticket Version
+IsRestoreFault limits ticket TicketForm = IsFaultOf ticket TicketForm
+IsRestoreFault limits ticket TicketVersion = IsFaultOf ticket TicketVersion
 IsRestoreFault limits ticket Impossible = ((s : Split) × SplitsTicket ticket s) × ((place : Place) → IsTicketAt ticket place → ⊥)
 IsRestoreFault limits ticket HeaderFull = (place : Place) × IsTicketAt ticket place × (limits.octets < octets_told place)
 IsRestoreFault limits ticket TooManyFields = (place : Place) × IsTicketAt ticket place × (octets_told place ≤ limits.octets) × (limits.fields < fields_told place)

@@ -1,5 +1,8 @@
 //! Why a ticket is refused.
 
+ghost use Rattle.std.specs.Prelude.{◌≡◌};
+ghost use Rattle.iim_places.specs.Format.Faults.{ticket_number, ticket_name};
+
 use thiserror::Error;
 
 /// Why no unpacker is made from a ticket.
@@ -7,10 +10,10 @@ use thiserror::Error;
 pub enum TicketFault {
     /// The octets have not the form of a ticket (100).
     #[error("the octets have not the form of a ticket")]
-    Form,
+    TicketForm,
     /// They are a ticket of another version (101).
     #[error("the ticket is of another version")]
-    Version,
+    TicketVersion,
     /// They have the form of a ticket, and no octets that an envelope can continue from or end with lead to its place (102).
     #[error("the ticket tells a place where no envelope can be")]
     Impossible,
@@ -23,4 +26,34 @@ pub enum TicketFault {
     /// Memory was refused (70).
     #[error("memory was refused")]
     OutOfMemory,
+}
+
+impl TicketFault {
+    /// Returns the number of the cause, as it is printed.
+    pub fn number(self) -> u8
+        ensures { result ≡ ticket_number self }
+    {
+        match self {
+            TicketFault::TicketForm => 100,
+            TicketFault::TicketVersion => 101,
+            TicketFault::Impossible => 102,
+            TicketFault::HeaderFull => 50,
+            TicketFault::TooManyFields => 51,
+            TicketFault::OutOfMemory => 70,
+        }
+    }
+
+    /// Returns the name of the cause, as it is printed.
+    pub fn name(self) -> &'static str
+        ensures { result.now ≡ ticket_name self }
+    {
+        match self {
+            TicketFault::TicketForm => "TicketForm",
+            TicketFault::TicketVersion => "TicketVersion",
+            TicketFault::Impossible => "Impossible",
+            TicketFault::HeaderFull => "HeaderFull",
+            TicketFault::TooManyFields => "TooManyFields",
+            TicketFault::OutOfMemory => "OutOfMemory",
+        }
+    }
 }

@@ -82,14 +82,14 @@ fn after_name(ticket: &[u8]) -> Result<(u8, &[u8]), TicketFault>
     ensures fault { IfErr result (λ fault. IsFaultOf ticket.now fault) }
 {
     let Some(rest) = ticket.strip_prefix(NAME) else {
-        return Err(TicketFault::Form);
+        return Err(TicketFault::TicketForm);
     };
     match rest.split_first() {
         Some((version, rest)) if [FIRST_VERSION, PRESENT_VERSION].contains(version) => Ok((
             *version, rest,
         )),
-        Some(_) => Err(TicketFault::Version),
-        None => Err(TicketFault::Form),
+        Some(_) => Err(TicketFault::TicketVersion),
+        None => Err(TicketFault::TicketForm),
     }
 }
 
@@ -261,8 +261,8 @@ fn read_body(version: u8, octets: &[u8]) -> Option<TicketParts<'_>>
 }
 
 /// Takes a ticket's octets apart. Whether some octets lead to the place that they tell is not asked, and no memory is taken.
-/// Octets that begin with a ticket's name and another version are refused by [`TicketFault::Version`], and all others that have
-/// not the form of a ticket by [`TicketFault::Form`]: a part cut short or octets left over; what is begun other than 0, 1 or 2;
+/// Octets that begin with a ticket's name and another version are refused by [`TicketFault::TicketVersion`], and all others that have
+/// not the form of a ticket by [`TicketFault::TicketForm`]: a part cut short or octets left over; what is begun other than 0, 1 or 2;
 /// more octets of a tag than the version has room for; more octets of data to come than their count; and a number of record 7 marked other than by 0 or 1.
 pub fn split_ticket(ticket: &[u8]) -> Result<TicketParts<'_>, TicketFault>
     ensures parts { IfOk result (λ parts. SplitsTicket ticket.now (split_told parts)) }
@@ -271,6 +271,6 @@ pub fn split_ticket(ticket: &[u8]) -> Result<TicketParts<'_>, TicketFault>
     let (version, body) = after_name(ticket)?;
     match read_body(version, body) {
         Some(parts) => Ok(parts),
-        None => Err(TicketFault::Form),
+        None => Err(TicketFault::TicketForm),
     }
 }

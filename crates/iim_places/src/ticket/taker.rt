@@ -13,7 +13,8 @@ ghost use Rattle.iim_places.specs.Restoring.{AreKept, TookDatasets, numbers_told
 
 use crate::ticket::fields::TicketFields;
 use iim_dataset::{Head, number_bytes};
-use iim_fields::{Fields, RecordCheck, is_kept};
+use iim_fields::internals::is_kept;
+use iim_fields::{Fields, RecordCheck};
 use iim_tables::records::{
     ANNOUNCED_SIZE, CONFIRMED_SIZE, MAX_SUBFILE_SIZE, MAXIMUM_SIZE, OBJECT, POST_OBJECT,
     PRE_OBJECT, SIZE_MODE, SUBFILE,

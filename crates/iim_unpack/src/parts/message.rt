@@ -8,7 +8,7 @@ ghost use Rattle.iim_unpack.specs.Routes.{TellsMessage, MessageRefuses, PassesTo
 
 use iim_dataset::{Head, Stop};
 use iim_object::{ObjectFault, ObjectReader, ObjectSink};
-use iim_places::{TokenFault, message_on, size_on};
+use iim_places::internals::{TokenFault, message_on, size_on};
 use wire_message::{MessageCause, MessageFault, MessageReader};
 use wire_story::StorySink;
 

@@ -6,7 +6,7 @@ ghost use Rattle.iim_unpack.specs.Routes.{tells_parts_nothing, tells_parts_joine
 
 use crate::parts::Parts;
 use iim_dataset::{DatasetSink, Head, Step, Stop};
-use iim_places::TokenFault;
+use iim_places::internals::TokenFault;
 use wire_story::StorySink;
 
 /// A sink of datasets: they go to the parts of an unpacker, and what is delivered of the text to a sink of stories. A refusal

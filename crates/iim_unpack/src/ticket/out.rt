@@ -1,62 +1,75 @@
 //! Where the octets of a ticket go: memory that grows, or the front of a buffer.
 
-ghost use Rattle.std.specs.Prelude.{◌≡◌, ◌++◌, List, ℕ, take, OnOk};
+ghost use Rattle.std.specs.Prelude.{[], ◌++◌, List, ℕ};
 
-/// Nothing more is written: memory was refused, or the buffer has no room.
-#[derive(Clone, Copy)]
-pub(crate) struct Full;
-
-/// What octets are written to, one after another.
+/// What octets are written to, one slice after another. A call always returns: where there is no memory or no room for the octets, what
+/// is written to keeps that in mind.
 pub(crate) trait TicketOut {
-    /// The octets that were written.
-    ghost octets: { Self → List ℕ };
+    /// From one value to another by these octets.
+    ghost puts: { Self → List ℕ → Self → Type 0 };
 
-    /// Where they are written, which stays.
-    ghost place: { Self → ℕ };
+    /// Writes octets after those that were written.
+    fn put(&mut self, more: &[u8])
+        ensures { puts self.old more.now self.new };
 
-    /// Writes octets after those that were written; or tells that there is no room.
-    fn put(&mut self, more: &[u8]) -> Result<(), Full>
-        ensures octets { OnOk result (octets self.new ≡ octets self.old ++ more.now) }
-        ensures place { place self.new ≡ place self.old };
+    /// No octets lead from each value to itself.
+    ghost nothing: { (out : Self) → puts out [] out };
+
+    /// Octets and then others lead where all of them joined lead.
+    ghost joined: { (a b c : Self) (xs ys : List ℕ) → puts a xs b → puts b ys c → puts a (xs ++ ys) c };
 }
 
-impl TicketOut for Vec<u8> {
-    ghost octets = { λ ticket. ticket.items };
+/// Memory that grows.
+#[derive(Drop)]
+pub(crate) struct Grown {
+    /// The octets.
+    pub ticket: Vec<u8>,
+    /// Whether memory was refused: then some octets are missing.
+    pub is_refused: bool,
+}
 
-    ghost place = { λ _. 0 };
+impl TicketOut for Grown {
+    ghost use Rattle.iim_unpack.specs.TicketOuts.{GrowsBy, grows_by_nothing, grows_joined};
 
-    fn put(&mut self, more: &[u8]) -> Result<(), Full> {
-        match self.extend_from_slice(more) {
-            Ok(()) => Ok(()),
-            Err(_) => Err(Full),
+    ghost puts = { GrowsBy };
+
+    ghost nothing = { grows_by_nothing };
+
+    ghost joined = { grows_joined };
+
+    fn put(&mut self, more: &[u8]) {
+        if self.is_refused {
+            return;
+        }
+        if self.ticket.extend_from_slice(more).is_err() {
+            self.is_refused = true;
         }
     }
 }
 
-/// The front of a buffer.
+/// The front of a buffer: octets are written as long as they have room, and all of them are counted.
 pub(crate) struct Front<'o> {
     /// The buffer.
     pub out: &'o mut [u8],
-    /// How many octets of it were written.
-    pub used: usize,
+    /// How many octets came; the greatest number of 64 bits stands for more.
+    pub count: usize,
 }
 
 impl<'o> TicketOut for Front<'o> {
-    ghost octets = { λ front. take front.used front.out.now };
+    ghost use Rattle.iim_unpack.specs.TicketOuts.{WritesFront, front_of_nothing, fronts_joined};
 
-    ghost place = { λ front. front.out.ghost_name };
+    ghost puts = { WritesFront };
+
+    ghost nothing = { front_of_nothing };
+
+    ghost joined = { fronts_joined };
 
     #[inline(always)]
-    fn put(&mut self, more: &[u8]) -> Result<(), Full> {
-        let from = self.used;
-        let Some(to) = from.checked_add(more.len()) else {
-            return Err(Full);
-        };
-        if to > self.out.len() {
-            return Err(Full);
+    fn put(&mut self, more: &[u8]) {
+        let from = self.count;
+        self.count = from.saturating_add(more.len());
+        if self.count <= self.out.len() {
+            self.out[from..self.count].copy_from_slice(more);
         }
-        self.out[from..to].copy_from_slice(more);
-        self.used = to;
-        Ok(())
     }
 }

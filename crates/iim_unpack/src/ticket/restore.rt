@@ -13,8 +13,9 @@ use crate::parts::Parts;
 use crate::unpacker::Unpacker;
 use iim_fields::Limits;
 use iim_object::laws::readers_tell_sizes;
+use iim_places::internals::{Readers, fields_at, readers_at};
 use iim_places::laws::{lower_laws, place_laws};
-use iim_places::{Readers, TicketFault, TicketParts, fields_at, readers_at, split_ticket};
+use iim_places::{TicketFault, TicketParts, split_ticket};
 use std::alloc::{AllocError, Global};
 
 /// The unpacker that these readers and the kept datasets of the ticket make, with memory for just what the limits allow. An error
@@ -60,8 +61,8 @@ impl Unpacker {
     /// A ticket is of version 1 or 2. One of version 1 tells a place where an envelope can be by the sizes that there were when that
     /// version was made; the unpacker continues by those that there are.
     ///
-    /// Refused are, in this order: octets that begin with no name of a ticket (`Form`); another version (`Version`); what else has
-    /// not the form of a ticket (`Form`); a place where no envelope can be (`Impossible`); one that passes a limit (`HeaderFull`,
+    /// Refused are, in this order: octets that begin with no name of a ticket (`TicketForm`); another version (`TicketVersion`); what else has
+    /// not the form of a ticket (`TicketForm`); a place where no envelope can be (`Impossible`); one that passes a limit (`HeaderFull`,
     /// else `TooManyFields`); and memory (`OutOfMemory`). Before that no memory is asked for.
     pub fn restore(
         alloc: Global,

@@ -124,7 +124,7 @@ fn feed_by_octets(
             Err(fault) => {
                 return Err(Fault {
                     cause: fault.cause,
-                    taken: at.saturating_add(fault.taken),
+                    used: at.saturating_add(fault.used),
                 });
             }
         }

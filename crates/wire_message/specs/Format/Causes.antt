@@ -3,6 +3,7 @@ use Rattle.std.specs.Prelude.{List, ℕ, ◌++◌, codes, decimal, ◌≡◌, �
 use Rattle.wire_story.specs.Format.Texts.{number_of_text, name_of_text, Holds, Octet}
 use Rattle.wire_story.specs.declared.fault.TextCause.TheVariants as texts
 use Rattle.wire_message.specs.declared.fault.MessageCause.{MessageCause}
+use Rattle.wire_message.specs.declared.fault.MessageFault.{MessageFault}
 use Rattle.wire_message.specs.declared.fault.MessageCause.TheVariants.{BadOctet, Unfinished, LoneReturn, ControlOctet, Sink}
 use Rattle.iim_dataset.specs.Format.Octets.{cr}
 use Rattle.wire_message.specs.Format.Messages.{MessageLivesWith, MessageDiesAt, text_so_far, StoryLivesIn}
@@ -25,6 +26,11 @@ name_of_message Sink = name_of_text texts.Sink
 -- a cause's number and name, as they are printed
 abbrev pub print_of_message : MessageCause → List ℕ
 print_of_message cause = decimal (number_of_message cause) ++ (codes " " ++ name_of_message cause)
+
+-- The number of octets before the refused one, and the cause, as they are printed.
+-- twin: `faults_are_printed`
+abbrev pub print_of_fault : MessageFault → List ℕ
+print_of_fault fault = codes "refused after " ++ (decimal fault.taken ++ (codes " octets, cause " ++ print_of_message fault.cause))
 
 -- The story can continue from the octets, and not from them with one more.
 abbrev pub StoryDiesWith : List ℕ → ℕ → Type 0

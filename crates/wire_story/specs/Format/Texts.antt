@@ -3,6 +3,7 @@ use Rattle.std.specs.Prelude.{◌≡◌, ℕ, ◌<◌, ◌≤◌, Bool, not, ◌
 use Rattle.std.specs.List.{list_all, sum_by}
 use Rattle.iim_dataset.specs.Format.Octets.{soh, stx, etx, eot, lf, cr, IsAlive, DiesAt, greatest_u64, tab, sp}
 use Rattle.wire_story.specs.declared.fault.TextCause.{TextCause}
+use Rattle.wire_story.specs.declared.fault.TextFault.{TextFault}
 use Rattle.wire_story.specs.declared.fault.TextCause.TheVariants.{LoneReturn, ControlOctet, Sink}
 
 -- any octet but SOH, STX, ETX, EOT, LF and CR
@@ -197,3 +198,8 @@ name_of_text Sink = codes "Sink"
 -- a cause's number and name, as they are printed
 abbrev pub print_of_text : TextCause → List ℕ
 print_of_text cause = decimal (number_of_text cause) ++ (codes " " ++ name_of_text cause)
+
+-- The number of octets before the refused one, and the cause, as they are printed.
+-- twin: `faults_are_printed`
+abbrev pub print_of_fault : TextFault → List ℕ
+print_of_fault fault = codes "refused after " ++ (decimal fault.taken ++ (codes " octets, cause " ++ print_of_text fault.cause))

@@ -81,21 +81,20 @@ module _
       answer = record (status_answer state) { octet = audit.unpacker.octets; used = used; written = length (take found.rows array_new); ticket = length next };
     }
 
-    -- the ticket is saved, and has room or not; or there is no memory for it
+    -- the ticket is saved, and has room or not
     went_on : {end : Ending} (state used : ℕ) → Came limits ticket old piece now array array_new audit found end
         → IsKept audit found (state, used) (length array) old new out told
-        → state ≢ status.short → state ≢ status.no_memory → limits_in audit.unpacker ≡ limits
+        → state ≢ status.short → limits_in audit.unpacker ≡ limits
         → ((next : List ℕ) → ((p : List ℕ) (a : ℕ) → Stands audit.unpacker p a ⊎ IsDoneWith audit.unpacker p a → IsTicketOf p next)
         → IsOutcome limits now ticket old piece (length array) (outcome state used next))
         → IsAuditedAt limits ticket old piece now array array_new out new told
-    went_on state used c k unshort unrefused same is_outcome = by k.saved
+    went_on state used c k unshort same is_outcome = by k.saved
       where
         other : (s : ℕ) (answer : IimAnswer) → told ≡ answer → answer.status ≡ s → (state ≡ s → ⊥) → new ≡ old
         other s answer is has apart = k.stays (λ same. apart (sym same ∙ (ap (λ (x : IimAnswer). x.status) is ∙ has)))
 
         by : IsSaved audit.unpacker (state, used) found.rows (length array) out told → IsAuditedAt limits ticket old piece now array array_new out new told
-        by (inr none) = inr (inr (inr none, inr none, other status.no_memory _ none refl unrefused))
-        by (inl (count, h, inl fits)) = inl (
+        by (count, h, inl fits) = inl (
           outcome state used h.ticket,
           is_outcome h.ticket h.is_ticket,
           rw (h.counts, same) at h.few,
@@ -108,7 +107,7 @@ module _
             ),
           ),
         )
-        by (inl (count, h, inr short)) = inl (
+        by (count, h, inr short) = inl (
           outcome state used h.ticket,
           is_outcome h.ticket h.is_ticket,
           rw (h.counts, same) at h.few,
@@ -127,7 +126,7 @@ module _
         → IsAuditedAt limits ticket old piece now array array_new out new told
     all_used c k =
         let same : limits_in audit.unpacker ≡ limits = c.stops.2 ∙ c.begun.same in
-        went_on status.more (length piece) c k (λ is. omega (arith, is)) (λ is. omega (arith, is)) same (λ next is_ticket. inl (
+        went_on status.more (length piece) c k (λ is. omega (arith, is)) same (λ next is_ticket. inl (
           said_of c (UsesAll limits now piece (outcome status.more (length piece) next)) (λ hand had.
               let on = goes_on (with_more had.last (drop found.used piece)) next had.ends same had.at_is is_ticket in
               (found.used, c.within.used, (had.last, had.rows_are, on))),
@@ -140,7 +139,7 @@ module _
         → IsAuditedAt limits ticket old piece now array array_new out new told
     room_used c k =
         let same : limits_in audit.unpacker ≡ limits = c.stops.2 ∙ c.begun.same in
-        went_on status.done found.used c k (λ is. omega (arith, is)) (λ is. omega (arith, is)) same (λ next is_ticket. inr (inl (
+        went_on status.done found.used c k (λ is. omega (arith, is)) same (λ next is_ticket. inr (inl (
           found.used,
           said_of c (UsesSome limits now piece found.used (outcome status.done found.used next)) (λ hand had.
               (had.last, had.rows_are, goes_on had.last next had.ends same had.at_is is_ticket)),
@@ -173,7 +172,7 @@ module _
         )
 
 pub returns-in-Err : goal.returns-in-Err
-returns-in-Err c = inr (inr (subst (IsNowhere c.args.limits c.args.ticket.now) (sym c.ticket_answer.ensures) c.in-Err.ensures.fault, inl refl, refl))
+returns-in-Err c = inr (inr (subst (IsNowhere c.args.limits c.args.ticket.now) (sym c.ticket_answer.ensures) c.in-Err.ensures.fault, refl, refl))
 
 pub returns-then-is_done : goal.returns-then-is_done
 returns-then-is_done c =

@@ -150,9 +150,7 @@ fed_ok : DatasetLaws → (q : Progress) {limits : Limits} {ticket : List ℕ} {a
     → HasFedText u v piece text_out count q → limits_in v ≡ limits_in u → (IsDone u → (q ≡ progress.Done 0) × (v ≡ u) × (count ≡ 0)) → room ≡ length text_out
     → room < 2 ^ 63
     → pair ≡ used_in q (length piece) → IsSaved v pair count room ticket_out told → IsFed limits ticket at piece text_out ticket_out told
-fed_ok laws q {limits} {ticket} {at} {piece = piece} {text_out = text_out} ticket_out room pair told b fed same again of_out few is (inr memory) =
-    fed_nowhere limits ticket at piece text_out ticket_out told (inr memory)
-fed_ok laws q {u = u} {v} {piece} {text_out} {count} ticket_out room pair told b fed same again of_out few is (inl (ticket_count, h, answered)) =
+fed_ok laws q {u = u} {v} {piece} {text_out} {count} ticket_out room pair told b fed same again of_out few is (ticket_count, h, answered) =
     let text = map octet_for fed.more in
     let o = fed_outcome v (used_in q (length piece)) text h.ticket in (
       o,

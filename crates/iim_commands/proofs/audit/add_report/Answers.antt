@@ -1,4 +1,4 @@
-use Rattle.iim_commands.proofs.Words.{◌≡◌, ◌<◌, ◌+◌, ◌++◌, List, length, take, ap, arith, take_all, handed_on, lines_from, AuditRow, cut_on}
+use Rattle.iim_commands.proofs.Imports.{◌≡◌, ◌<◌, ◌+◌, ◌++◌, List, length, take, ap, arith, take_all, handed_on, lines_from, AuditRow, cut_on}
 use Rattle.std.proofs.lemmas.Result.{IfErr-weaker}
 use Rattle.iim_object.proofs.Outputs.{on_ok}
 use Rattle.iim_audit.proofs.Lines.{lines_more}

@@ -1,4 +1,4 @@
-use Rattle.iim_commands.proofs.Words.{take, lines_from, HasPut}
+use Rattle.iim_commands.proofs.Imports.{take, lines_from, HasPut}
 use Rattle.iim_commands.proofs.audit.add_report.Given as goal
 
 abbrev pub invariant-rows : goal.invariant-rows

@@ -1,4 +1,4 @@
-use Rattle.iim_commands.proofs.Words.{rules, refl, inl, inr, handed_on, FailsAt, printed_report, in_line, limits, all_out}
+use Rattle.iim_commands.proofs.Imports.{rules, refl, inl, inr, handed_on, FailsAt, printed_report, in_line, limits, all_out}
 use Rattle.iim_commands.proofs.Audits.{unsaid, untold}
 use Rattle.iim_output.specs.States.Holding.{device_of}
 use Rattle.iim_commands.proofs.audit.report_input.Given.{Over}

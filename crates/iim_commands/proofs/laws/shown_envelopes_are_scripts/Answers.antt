@@ -1,4 +1,4 @@
-use Rattle.iim_commands.proofs.Scripts.{shown_as_scripts}
+use Rattle.iim_commands.proofs.ShownScripts.{shown_as_scripts}
 use Rattle.iim_commands.proofs.laws.shown_envelopes_are_scripts.Goals as goal
 
 pub returns : goal.returns

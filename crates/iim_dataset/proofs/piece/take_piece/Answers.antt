@@ -48,7 +48,7 @@ returns-in-Err-clause-refused g c =
       is_place = front.is_place;
       before = omega (arith, front.before, ap length (take_rest c.args.octets.now c.loop-at.at), length-drop c.loop-at.at c.args.octets.now);
       refused =
-          refuses_front g.met.D.DatasetSink.joined c.args.octets.now c.loop-at.at fault.taken g.met.D.DatasetSink.joined_stop
+          refuses_front g.met.D.DatasetSink.joined c.args.octets.now c.loop-at.at fault.used g.met.D.DatasetSink.joined_stop
           (tag_cause_of fault.cause) c.in-Err.place c.take_front.new.sink
           c.loop-at.invariant.told front.refused;
       onward = front.onward;

@@ -15,8 +15,8 @@ feeding-init g c =
       leads = g.met.R.Source.stays c.args.intake.now.reader;
     }
 
-pub next_piece-requires : goal.next_piece-requires
-next_piece-requires g c = record { ready = is_ready g.met.S.StorySink.joined c.feeding.invariant.taken }
+pub next_piece-requires-clause-ready : goal.next_piece-requires-clause-ready
+next_piece-requires-clause-ready g c = is_ready g.met.S.StorySink.joined c.feeding.invariant.taken
 
 pub feeding-smaller : goal.feeding-smaller
 feeding-smaller g c =

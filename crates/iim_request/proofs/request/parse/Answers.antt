@@ -1,22 +1,14 @@
 use Rattle.std.proofs.Common.{map, string_bytes}
-use Rattle.iim_request.proofs.Requests.{were_found}
+use Rattle.iim_request.proofs.Requests.{one_asked, others_fault, same_fault}
 use Rattle.iim_request.proofs.request.parse.Goals as goal
 
-pub request_of-requires : goal.request_of-requires
-request_of-requires c =
-    let words = map string_bytes c.args.words.now in (
-      words,
-      were_found words _ c.in_ok-matches.matches c.in_ok-command.ensures c.in_ok-matches.ensures.kinds (λ simple. (c.in_ok-matches.ensures.matches simple).1),
-    )
+pub returns-in-Ok-clause-ok : goal.returns-in-Ok-clause-ok
+returns-in-Ok-clause-ok c =
+    one_asked (map string_bytes c.args.words.now) c.in-Ok.request c.one_file.result c.in-Ok.ensures.ok c.one_file.ensures.ok
 
-pub returns-clause-ok : goal.returns-clause-ok
-returns-clause-ok c =
-    let words = map string_bytes c.args.words.now in
-    c.request_of.ensures.ok words
-    (were_found words _ c.in_ok-matches.matches c.in_ok-command.ensures c.in_ok-matches.ensures.kinds (λ simple. (c.in_ok-matches.ensures.matches simple).1))
+pub returns-in-Ok-clause-err : goal.returns-in-Ok-clause-err
+returns-in-Ok-clause-err c =
+    others_fault (map string_bytes c.args.words.now) c.in-Ok.request c.one_file.result c.in-Ok.ensures.ok c.one_file.ensures.err
 
-pub returns-clause-err : goal.returns-clause-err
-returns-clause-err c =
-    let words = map string_bytes c.args.words.now in
-    c.request_of.ensures.err words
-    (were_found words _ c.in_ok-matches.matches c.in_ok-command.ensures c.in_ok-matches.ensures.kinds (λ simple. (c.in_ok-matches.ensures.matches simple).1))
+pub returns-in-Err-clause-err : goal.returns-in-Err-clause-err
+returns-in-Err-clause-err c = same_fault (map string_bytes c.args.words.now) c.in-Err.fault c.in-Err.ensures.err

@@ -1,9 +1,8 @@
 use Rattle.std.proofs.Common.{◌≡◌, Some, refl, sym, ◌∙◌, codes}
 use Rattle.iim_dataset.proofs.Lists.{handed_on}
 use Rattle.clap.specs.{Matches.found_of, Walk.rows_of}
-use Rattle.clap.proofs.WalkLemmas.{first_value-rows}
-use Rattle.iim_request.specs.{Format.IsFaultOf, Verbs.verb_name}
-use Rattle.iim_request.proofs.Requests.{fault_of_job, names, names_one, names_verb}
+use Rattle.iim_request.specs.{Format.IsFilesFaultOf, Verbs.verb_name}
+use Rattle.iim_request.proofs.Requests.{fault_of_files, fault_of_job, names, names_one, names_verb}
 use Rattle.iim_request.proofs.request.request_of.Goals as goal
 
 pub unreachable-requires : goal.unreachable-requires
@@ -16,22 +15,29 @@ unreachable-requires-in_default-verb_named c =
     let both : Some c.in-Some.name.now ≡ Some (verb_name named.0) = c.in-Some.ensures.name ∙ named.1 in
     c.in_default-verb_named.ensures.other refl named.0 (let e : c.in-Some.name.now ≡ verb_name named.0 = cc in e)
 
-pub returns-in_err-job_of-clause-err : goal.returns-in_err-job_of-clause-err
-returns-in_err-job_of-clause-err c words found =
+pub returns-in_err-job-clause-err : goal.returns-in_err-job-clause-err
+returns-in_err-job-clause-err c words found =
     let f = found_of c.in-Some.found.now in
     let name = c.in-Some.name.now in
     let named = names words c.args.matches.now f name found.faultless found.command (sym c.in-Some.ensures.rows) (sym c.in-Some.ensures.name) in
-    handed_on (IsFaultOf words) c.from_residual.result c.in_err-job_of.field-0.0 c.from_residual.ensures.1
-    (fault_of_job words c.in-Some-verb_named.verb name (rows_of f) c.in_err-job_of.field-0.0 named c.in-Some-verb_named.ensures.named
-    c.in_err-job_of.ensures.err)
+    handed_on (IsFilesFaultOf words) c.from_residual.result c.in_err-job.field-0.0 c.from_residual.ensures.1
+    (fault_of_job words c.in-Some-verb_named.verb name (rows_of f) c.in_err-job.field-0.0 named c.in-Some-verb_named.ensures.named
+    c.in_err-job.ensures.err)
 
-pub returns-clause-ok : goal.returns-clause-ok
-returns-clause-ok c words found =
+pub returns-in-Ok-clause-ok : goal.returns-in-Ok-clause-ok
+returns-in-Ok-clause-ok c words found =
     let f = found_of c.in-Some.found.now in
     let name = c.in-Some.name.now in (
       name,
       rows_of f,
       names words c.args.matches.now f name found.faultless found.command (sym c.in-Some.ensures.rows) (sym c.in-Some.ensures.name),
-      rw c.in-Some-verb_named.ensures.named c.in_ok-job_of.ensures.ok,
-      c.get_str.ensures ∙ first_value-rows f (codes "FILE"),
+      rw c.in-Some-verb_named.ensures.named c.in_ok-job.ensures.ok,
+      c.in-Ok.ensures.ok,
     )
+
+pub returns-in-Err-clause-err : goal.returns-in-Err-clause-err
+returns-in-Err-clause-err c words found =
+    let f = found_of c.in-Some.found.now in
+    let name = c.in-Some.name.now in
+    fault_of_files words name (rows_of f) c.in-Err.fault
+    (names words c.args.matches.now f name found.faultless found.command (sym c.in-Some.ensures.rows) (sym c.in-Some.ensures.name)) c.in-Err.ensures.err

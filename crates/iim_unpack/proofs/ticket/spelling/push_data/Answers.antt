@@ -1,7 +1,6 @@
-use Rattle.iim_unpack.proofs.Words.{append_assoc, on_ok_weaker, ◌∙◌}
 use Rattle.iim_unpack.proofs.ticket.spelling.push_data.Goals as goal
 
-pub returns-clause-octets : goal.returns-clause-octets
-returns-clause-octets g c =
-    on_ok_weaker c.put-2.result
-    (λ is. is ∙ simp (c.in_ok-push_wide-2.ensures.octets, c.in_ok-push_wide.ensures.octets, c.in_ok-put.ensures.octets, append_assoc)) c.put-2.ensures.octets
+pub returns : goal.returns
+returns g c =
+    let joined = g.met.T.TicketOut.joined in
+    joined _ _ _ _ _ c.put.ensures (joined _ _ _ _ _ c.push_wide.ensures (joined _ _ _ _ _ c.push_wide-2.ensures c.put-2.ensures))

@@ -7,8 +7,7 @@ abbrev pub invariant-loop-rec : goal.invariant-loop-rec
 invariant-loop-rec g l = record {
   done : List Dataset;
   parts : l.fn.fields.kept ≡ done ++ rest_of l.kept;
-  spelled : g.T.TicketOut.octets l.ticket ≡ (g.T.TicketOut.octets l.fn.ticket ++ four (length l.fn.fields.kept)) ++ flat_map field_octets done;
-  place : g.T.TicketOut.place l.ticket ≡ g.T.TicketOut.place l.fn.ticket;
+  put : g.T.TicketOut.puts l.fn.ticket (four (length l.fn.fields.kept) ++ flat_map field_octets done) l.ticket;
 }
 
 abbrev pub decreases-loop-rec : goal.decreases-loop-rec

@@ -1,29 +1,28 @@
-use Rattle.iim_unpack.proofs.Words.{IsDoneWith, IsTicketOf, List, Stands, Unpacking, ap, arith, length, length-take-le, limits_in, no_some, not, refl, subst, sym, take, ℕ, ◌*◌, ◌+◌, ◌∙◌, ◌≡◌, ◌≤◌, ◌⊎◌}
+use Rattle.iim_unpack.proofs.Words.{List, Unpacking, arith, length, limits_in, no_some, subst, sym, ℕ, ◌*◌, ◌+◌, ◌<◌, ◌^◌, ◌∙◌, ◌≡◌, ◌≤◌}
+use Rattle.iim_places.specs.Format.Streams.{raised}
 use Rattle.iim_unpack.specs.States.Restored.{HasTicketIn}
 use Rattle.iim_unpack.proofs.Held.{short_ticket, ticket_by}
 use Rattle.iim_unpack.proofs.unpacker.Unpacker.save_at.Goals as goal
 
--- a ticket that was put where there is room
-has_put : (u : Unpacking) (ticket out : List ℕ) (n : ℕ) → n ≡ length ticket → (length ticket ≤ length out → take (length ticket) out ≡ ticket)
-    → ((p : List ℕ) (a : ℕ) → Stands u p a ⊎ IsDoneWith u p a → IsTicketOf p ticket) → length ticket ≤ (limits_in u).octets + 6 * (limits_in u).fields + 256
-    → HasTicketIn u out n
-has_put u ticket out n is stands tells few =
-    subst (λ (k : ℕ). HasTicketIn u out k) (sym is) (record { ticket = ticket; is_ticket = tells; counts = refl; few = few; stands = stands })
-
-pub returns-in-Some-clause-ticket : goal.returns-in-Some-clause-ticket
-returns-in-Some-clause-ticket c =
-    let stood = (c.self.invariant (no_some c.self.inside.refused (c.is_none.ensures ∙ ap not c.if-is_none.true))).stood in
-    let ticket : List ℕ = take c.in-Some.count c.spell_at.new.out in
-    let counts = length-take-le c.in-Some.count c.spell_at.new.out c.in-Some.ensures.0 in
-    subst (λ (w : Unpacking). HasTicketIn w c.spell_at.new.out c.in-Some.count) c.self.view_is
-    (has_put _ ticket c.spell_at.new.out c.in-Some.count (sym counts) (λ fits. ap (λ (n : ℕ). take n c.spell_at.new.out) counts)
-    (λ p a at. ticket_by c.lower_laws.ensures.events_tell _ p ticket a c.in-Some.ensures.1 at)
-    (short_ticket c.lower_laws.ensures.events_tell _ ticket c.in-Some.ensures.1 stood))
+-- a ticket has no more octets than a number of 64 bits tells
+counted : (count n octets fields : ℕ) → count ≡ raised 0 n → n ≤ octets + 6 * fields + 256 → octets < 2 ^ 32 → fields < 2 ^ 32 → count ≡ n
+counted count n octets fields is few o f = omega (arith, is, few, o, f)
 
 pub returns-clause-ticket : goal.returns-clause-ticket
 returns-clause-ticket c =
-    let items : List ℕ = c.in_ok-ticket.ticket.items in
-    let out : List ℕ = c.put_where_room.new.out in
-    has_put c.args.self.now items out c.len.result (omega (arith, c.len.ensures))
-    (subst (λ (xs : List ℕ). length xs ≤ length out → take (length xs) out ≡ xs) c.as_slice.ensures.value c.put_where_room.ensures)
-    c.in_ok-ticket.ensures.ticket c.in_ok-ticket.ensures.short
+    let tell = c.lower_laws.ensures.events_tell in
+    let stood = (c.self.invariant (no_some c.self.inside.refused (sym c.is_some.ensures ∙ c.if-is_some.false))).stood in
+    let ticket : List ℕ = c.spell_at.ensures.0 in
+    let spelled = c.spell_at.ensures.1 in
+    let few = short_ticket tell _ ticket spelled stood in
+    let here = subst (λ (w : Unpacking). length ticket ≤ (limits_in w).octets + 6 * (limits_in w).fields + 256) c.self.view_is few in
+    let counts = counted c.spell_at.result (length ticket) _ _ c.spell_at.ensures.2.0 here c.stands_somewhere.ensures.octets
+    c.stands_somewhere.ensures.fields in
+    subst (λ (w : Unpacking). HasTicketIn w c.spell_at.new.out c.spell_at.result) c.self.view_is
+    (record {
+      ticket = ticket;
+      is_ticket = λ p a at. ticket_by tell _ p ticket a spelled at;
+      counts = counts;
+      few = rw counts few;
+      stands = rw counts c.spell_at.ensures.2.1;
+    })

@@ -1,0 +1,143 @@
+//! Does what a request asks for.
+
+ghost use Rattle.std.specs.Prelude.{◌≡◌, ℕ, List, IfOk, IfErr};
+ghost use Rattle.iim_unpack.specs.States.Blocks.{with_held};
+ghost use Rattle.iim_commands.specs.Format.{Complained, EndsListing, Ran};
+ghost use Rattle.iim_output.specs.States.Devices.{devices};
+ghost use Rattle.iim_output.specs.Format.{status_failed};
+
+use crate::audit::write_audit;
+use iim_dataset::{Source, Target, put};
+use iim_listing::check::Check;
+use iim_listing::input::Input;
+use iim_listing::list::{EnvelopeLines, list};
+use iim_listing::show::Show;
+use iim_listing::story::narrate;
+use iim_output::fault::CommandFault;
+use iim_output::status::FAILED;
+use iim_pack_script::packing::{PackRequest, pack_script};
+use iim_request::instant::Instant;
+use iim_request::request::{Job, Request};
+use iim_unpack::Intake;
+use std::alloc::Global;
+
+/// Tells a fault. The status is the same whether the line of it could be written or not.
+fn complain<E: Target>(errors: &mut E, fault: CommandFault) -> u8
+    ensures status { result ≡ status_failed }
+    ensures told { Complained (E.state errors.old) (E.state errors.new) fault }
+{
+    let _ = put(errors, fault.line().as_bytes());
+    FAILED
+}
+
+/// Ends a run with its answer: the status, after a fault was told.
+fn finish<E: Target>(errors: &mut E, answer: Result<u8, CommandFault>) -> u8
+    ensures ok { IfOk answer (λ want. (result ≡ want) × (E.state errors.new ≡ E.state errors.old)) }
+    ensures fault { IfErr answer (λ fault. (result ≡ status_failed)
+        × Complained (E.state errors.old) (E.state errors.new) fault) }
+{
+    match answer {
+        Ok(status) => status,
+        Err(fault) => complain(errors, fault),
+    }
+}
+
+/// Lists the envelopes of a reader: the status, and both writers.
+fn write_listing<P: EnvelopeLines, R: Source + Drop, W: Target, E: Target>(
+    alloc: Global,
+    texts: &P,
+    reader: R,
+    output: W,
+    errors: E,
+) -> (u8, W, E)
+    ensures { (last : R) × (held : List ℕ) × R.leads reader last
+        × EndsListing P.written (devices (R.state reader) (W.state output) (E.state errors))
+        (devices (with_held held (R.state last)) (W.state result.1) (E.state result.2)) result.0 }
+{
+    let mut intake = Input::new(reader);
+    let mut output = output;
+    let mut errors = errors;
+    let answer = list(alloc, texts, &mut intake, &mut output);
+    let status = finish(&mut errors, answer);
+    (status, output, errors)
+}
+
+/// Tells the stories of a reader: the status, and both writers.
+fn write_stories<R: Source + Drop, W: Target, E: Target>(
+    alloc: Global,
+    reader: R,
+    output: W,
+    errors: E,
+) -> (u8, W, E)
+    ensures { (last : R) × (held : List ℕ) × R.leads reader last
+        × Ran Job.Story (devices (R.state reader) (W.state output) (E.state errors))
+        (devices (with_held held (R.state last)) (W.state result.1) (E.state result.2)) result.0 }
+{
+    let mut intake = Input::new(reader);
+    let mut output = output;
+    let mut errors = errors;
+    let answer = narrate(alloc, &mut intake, &mut output, &mut errors);
+    let status = finish(&mut errors, answer);
+    (status, output, errors)
+}
+
+/// Reports the audit of a reader: the status, and both writers.
+fn review<R: Source + Drop, W: Target, E: Target>(
+    alloc: Global,
+    now: Instant,
+    reader: R,
+    output: W,
+    errors: E,
+) -> (u8, W, E)
+    ensures { (last : R) × (held : List ℕ) × R.leads reader last
+        × Ran (Job.Audit now) (devices (R.state reader) (W.state output) (E.state errors))
+        (devices (with_held held (R.state last)) (W.state result.1) (E.state result.2)) result.0 }
+{
+    let mut intake = Intake::new(reader);
+    let mut output = output;
+    let mut errors = errors;
+    let answer = write_audit(alloc, now, &mut intake, &mut output);
+    let status = finish(&mut errors, answer);
+    (status, output, errors)
+}
+
+/// Packs the envelope of a reader's script: the status, and both writers.
+fn pack<R: Source + Drop, W: Target, E: Target>(
+    alloc: Global,
+    request: PackRequest,
+    reader: R,
+    output: W,
+    errors: E,
+) -> (u8, W, E)
+    ensures { (last : R) × R.leads reader last
+        × Ran (Job.Pack request) (devices (R.state reader) (W.state output) (E.state errors))
+        (devices (R.state last) (W.state result.1) (E.state result.2)) result.0 }
+{
+    let mut reader = reader;
+    let mut errors = errors;
+    let (answer, output) = pack_script(alloc, request, &mut reader, output, &mut errors);
+    let status = finish(&mut errors, answer);
+    (status, output, errors)
+}
+
+/// Does what a request asks for: the status, and both writers.
+pub fn run<R: Source + Drop, W: Target, E: Target>(
+    alloc: Global,
+    request: Request<'_>,
+    reader: R,
+    output: W,
+    errors: E,
+) -> (u8, W, E)
+    // The reader came to `last`, of whose octets some were read and not used.
+    ensures { (last : R) × (held : List ℕ) × R.leads reader last
+        × Ran request.entry.job (devices (R.state reader) (W.state output) (E.state errors))
+        (devices (with_held held (R.state last)) (W.state result.1) (E.state result.2)) result.0 }
+{
+    match request.job {
+        Job::Check => write_listing(alloc, &Check, reader, output, errors),
+        Job::Show => write_listing(alloc, &Show, reader, output, errors),
+        Job::Story => write_stories(alloc, reader, output, errors),
+        Job::Pack(request) => pack(alloc, request, reader, output, errors),
+        Job::Audit { now } => review(alloc, now, reader, output, errors),
+    }
+}

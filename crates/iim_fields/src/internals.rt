@@ -1,0 +1,3 @@
+//! Internals for the layers above, in this repository: no part of the public interface, and free to change with any release.
+
+pub use crate::records::is_kept;

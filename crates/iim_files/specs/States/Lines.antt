@@ -1,0 +1,48 @@
+-- A writer of prefixed lines, as contracts see it.
+use Rattle.std.specs.Prelude.{◌≡◌, ℕ, ◌-◌, Bool, true, List, [], ◌∷◌, ◌++◌, length, take, drop, if◌then◌else◌, ◌==◌, zero, suc, ◌&&◌, ◌||◌, Option, Some, None}
+use Rattle.std.specs.Str.{bytes_eq}
+use mathlib.Core.Bool.{beq}
+use Rattle.iim_dataset.specs.{Format.Octets.lf, States.Devices.Device}
+use Rattle.iim_files.specs.Format.{begins_line, prefixed}
+
+-- twins (with own, before, text_of, started, seen_octets, is_laid, seen_of, ended): `shows_several_files`, `tells_stories_of_several_files`
+-- the octets without those of prefixes: the first `skip` are such, and the first `size` after each LF
+abbrev pub stripped : ℕ → ℕ → List ℕ → List ℕ
+stripped size skip [] = []
+stripped size zero (octet ∷ octets) = octet ∷ stripped size (if octet == lf then size else 0) octets
+stripped size (suc skip) (octet ∷ octets) = stripped size skip octets
+
+-- the last `count` octets, and those before them
+abbrev pub own : ℕ → List ℕ → List ℕ
+own count octets = drop (length octets - count) octets
+
+abbrev pub before : ℕ → List ℕ → List ℕ
+before count octets = take (length octets - count) octets
+
+-- the text of the last `count` octets, which have a prefix of this size in each line
+abbrev pub text_of : ℕ → ℕ → List ℕ → List ℕ
+text_of size count octets = stripped size size (own count octets)
+
+-- The prefix and the octets, each after its length: what contracts see where nothing was written yet.
+abbrev pub started : List ℕ → List ℕ → List ℕ
+started prefix octets = length prefix ∷ (prefix ++ (length octets ∷ octets))
+
+-- What contracts see of octets of which the last `count` have a prefix in each line: those before them, and then their text.
+abbrev pub seen_octets : List ℕ → ℕ → List ℕ → List ℕ
+seen_octets prefix count octets = started prefix (before count octets) ++ text_of (length prefix) count octets
+
+-- The last `count` octets are a text with this prefix in each line, and then the first `cut` octets of the prefix; a line begins after the
+-- text, or not. There are such only where it is broken.
+abbrev pub is_laid : List ℕ → ℕ → ℕ → Bool → Bool → List ℕ → Bool
+is_laid prefix count cut fresh broken octets =
+    bytes_eq (own count octets) (prefixed prefix true (text_of (length prefix) count octets) ++ take cut prefix)
+    && (beq fresh (begins_line true (text_of (length prefix) count octets)) && (broken || cut == 0))
+
+-- what contracts see of the octets: nothing where these are no such lines
+abbrev pub seen_of : List ℕ → ℕ → ℕ → Bool → Bool → List ℕ → Option (List ℕ)
+seen_of prefix count cut fresh broken octets =
+    if is_laid prefix count cut fresh broken octets then Some (seen_octets prefix count octets) else None
+
+-- the text, with an LF after its last line where that has none
+abbrev pub ended : List ℕ → List ℕ
+ended text = text ++ (if begins_line true text then [] else lf ∷ [])

@@ -1,0 +1,293 @@
+//! A command over one of several files.
+
+ghost use Rattle.std.specs.Prelude.{◌≡◌, ◌<◌, ◌⊎◌, ◌||◌, ℕ, IfOk, length, if◌then◌else◌, max};
+ghost use Rattle.iim_output.specs.Format.{fault_line, status_failed};
+ghost use Rattle.iim_files.specs.States.Runs.{HasRun, HasRunFile, IsStarved, IsTold, line_prefix, unopened_line, untext_line, untext_prefix};
+ghost use Rattle.iim_files.specs.States.Seen.{fresh_device, seen};
+
+use crate::prefixed::Prefixed;
+use iim_commands::fault::CommandFault;
+use iim_commands::lines::tell;
+use iim_commands::shown::push_name;
+use iim_commands::status::{ACCEPTED, FAILED};
+use iim_commands::{Job, Request, run};
+use iim_dataset::internals::ReservedOctets;
+use iim_dataset::{BLOCK, Source, Target, push_shown, put};
+use std::alloc::{AllocError, Global};
+
+/// What a command over files has come to so far.
+pub struct SoFar<W, E> {
+    /// The greatest status.
+    pub status: u8,
+    /// Whether a write has failed: then nothing more is to be written.
+    pub broken: bool,
+    /// The output.
+    pub output: W,
+    /// The errors.
+    pub errors: E,
+}
+
+/// Returns what a command over no files has come to.
+pub fn no_files<W, E>(output: W, errors: E) -> SoFar<W, E>
+    ensures status { (result.status ≡ 0) }
+    ensures targets { (result.output ≡ output) × (result.errors ≡ errors) }
+{
+    SoFar {
+        status: ACCEPTED,
+        broken: false,
+        output,
+        errors,
+    }
+}
+
+/// Returns what each line of a file's output begins with: its printed name, a colon and a space.
+fn prefix_of(alloc: Global, name: &str) -> Result<Vec<u8>, AllocError>
+    ensures { IfOk result (λ prefix. prefix.items ≡ line_prefix name.now) }
+{
+    let mut prefix = Vec::new(alloc);
+    push_name(&mut prefix, name)?;
+    prefix.extend_from_slice(b": ")?;
+    Ok(prefix)
+}
+
+/// Takes room for lines with a prefix.
+fn room_for(alloc: Global, prefix: &[u8]) -> Result<ReservedOctets, AllocError>
+    ensures { IfOk result (λ block. length prefix.now < block.room) }
+{
+    match prefix.len().checked_add(BLOCK) {
+        Some(room) => ReservedOctets::new(alloc, room),
+        None => Err(AllocError),
+    }
+}
+
+/// Tells that memory was refused for the lines of a file.
+fn starve<W: Target, E: Target>(output: W, errors: E) -> SoFar<W, E>
+    ensures { IsStarved (W.state output, E.state errors) (W.state result.output, E.state result.errors) result.status }
+{
+    let mut errors = errors;
+    let status = tell(
+        &mut errors,
+        CommandFault::OutOfMemory.line().as_bytes(),
+        FAILED,
+    );
+    SoFar {
+        status,
+        broken: false,
+        output,
+        errors,
+    }
+}
+
+/// Checks whether one of two is true, or both.
+fn either(first: bool, second: bool) -> bool
+    ensures { result ≡ (first || second) }
+{
+    first || second
+}
+
+/// Returns the status, or that of a failure if a write has failed.
+fn status_after(status: u8, broken: bool) -> u8
+    ensures { result ≡ (if broken then status_failed else status) }
+{
+    if broken { FAILED } else { status }
+}
+
+/// Carries out a job over a file, with a prefix before each line of its output and its errors.
+fn run_prefixed<R: Source + Drop, W: Target, E: Target>(
+    alloc: Global,
+    job: Job,
+    reader: R,
+    output: Prefixed<'_, W>,
+    errors: Prefixed<'_, E>,
+) -> SoFar<W, E>
+    ensures { HasRun R.state R.leads job reader (seen W.state output.entry, seen E.state errors.entry)
+        ((W.state result.output).octets, (E.state result.errors).octets) result.broken result.status }
+{
+    let request = Request { file: None, job };
+    let (status, output, errors) = run(alloc, request, reader, output, errors);
+    let (output, output_broken) = output.finish();
+    let (errors, errors_broken) = errors.finish();
+    let broken = either(output_broken, errors_broken);
+    let status = status_after(status, broken);
+    SoFar {
+        status,
+        broken,
+        output,
+        errors,
+    }
+}
+
+/// What the lines of a file need: their prefix, and room for those of the output and of the errors.
+type Parts = (Vec<u8>, ReservedOctets, ReservedOctets);
+
+/// Takes what the lines of a file need.
+fn parts_for(alloc: Global, name: &str) -> Result<Parts, AllocError>
+    ensures { IfOk result (λ parts. (parts.0.items ≡ line_prefix name.now) × (length parts.0.items < parts.1.room)
+        × (length parts.0.items < parts.2.room)) }
+{
+    let prefix = prefix_of(alloc, name)?;
+    let output = room_for(alloc, prefix.as_slice())?;
+    let errors = room_for(alloc, prefix.as_slice())?;
+    Ok((prefix, output, errors))
+}
+
+/// Carries out a job over the file of this name.
+fn run_file<R: Source + Drop, W: Target, E: Target>(
+    alloc: Global,
+    name: &str,
+    job: Job,
+    reader: R,
+    output: W,
+    errors: E,
+) -> SoFar<W, E>
+    ensures { HasRunFile R.state R.leads name.now job reader (W.state output, E.state errors)
+        (W.state result.output, E.state result.errors) result.broken result.status }
+{
+    match parts_for(alloc, name) {
+        Ok((prefix, output_room, errors_room)) => {
+            let output = Prefixed::new(output, prefix.as_slice(), output_room);
+            let errors = Prefixed::new(errors, prefix.as_slice(), errors_room);
+            run_prefixed(alloc, job, reader, output, errors)
+        }
+        Err(_) => starve(output, errors),
+    }
+}
+
+/// Carries out a job over the next file, of this name, and returns what it has come to with those before.
+pub fn run_next<R: Source + Drop, W: Target, E: Target>(
+    alloc: Global,
+    name: &str,
+    job: Job,
+    reader: R,
+    so_far: SoFar<W, E>,
+) -> SoFar<W, E>
+    ensures { (status : ℕ)
+        × HasRunFile R.state R.leads name.now job reader (W.state so_far.output, E.state so_far.errors)
+        (W.state result.output, E.state result.errors) result.broken status
+        × (result.status ≡ max so_far.status status) }
+{
+    let SoFar {
+        status,
+        broken: _,
+        output,
+        errors,
+    } = so_far;
+    let ran = run_file(alloc, name, job, reader, output, errors);
+    worsen(ran, status)
+}
+
+/// Returns what it has come to, with the greater status.
+fn worsen<W, E>(so_far: SoFar<W, E>, status: u8) -> SoFar<W, E>
+    ensures { result ≡ record so_far { status = max status so_far.status } }
+{
+    let SoFar {
+        status: last,
+        broken,
+        output,
+        errors,
+    } = so_far;
+    SoFar {
+        status: status.max(last),
+        broken,
+        output,
+        errors,
+    }
+}
+
+/// Tells the errors a line, after which the status is that of a failure.
+fn tell_line<W, E: Target>(text: &[u8], so_far: SoFar<W, E>) -> SoFar<W, E>
+    ensures told { IsTold text.now (E.state so_far.errors) (E.state result.errors) }
+    ensures status { result.status ≡ status_failed }
+    ensures output { result.output ≡ so_far.output }
+{
+    let SoFar {
+        status: _,
+        broken,
+        output,
+        errors,
+    } = so_far;
+    let mut errors = errors;
+    let lost = put(&mut errors, text).is_err();
+    SoFar {
+        status: FAILED,
+        broken: broken || lost,
+        output,
+        errors,
+    }
+}
+
+/// Tells the errors a fault that is of no file alone.
+pub fn tell_fault<W, E: Target>(fault: CommandFault, so_far: SoFar<W, E>) -> SoFar<W, E>
+    ensures told { IsTold (fault_line fault) (E.state so_far.errors) (E.state result.errors) }
+    ensures status { result.status ≡ status_failed }
+    ensures output { result.output ≡ so_far.output }
+{
+    tell_line(fault.line().as_bytes(), so_far)
+}
+
+/// Returns the line that tells that a file can't be opened, or that memory was refused for it.
+fn unopened_line(alloc: Global, name: &str, starved: bool) -> Result<Vec<u8>, AllocError>
+    ensures { IfOk result (λ line. line.items ≡ unopened_line name.now starved) }
+{
+    let mut line = prefix_of(alloc, name)?;
+    if starved {
+        line.extend_from_slice(CommandFault::OutOfMemory.line().as_bytes())?;
+        return Ok(line);
+    }
+    line.extend_from_slice(b"cannot open ")?;
+    push_name(&mut line, name)?;
+    line.push(b'\n')?;
+    Ok(line)
+}
+
+/// Tells the errors that the file of this name can't be opened, or that memory was refused for it.
+pub fn tell_unopened<W, E: Target>(
+    alloc: Global,
+    name: &str,
+    starved: bool,
+    so_far: SoFar<W, E>,
+) -> SoFar<W, E>
+    ensures told { IsTold (unopened_line name.now starved) (E.state so_far.errors) (E.state result.errors)
+        ⊎ IsTold (fault_line CommandFault.OutOfMemory) (E.state so_far.errors) (E.state result.errors) }
+    ensures status { result.status ≡ status_failed }
+    ensures output { result.output ≡ so_far.output }
+{
+    match unopened_line(alloc, name, starved) {
+        Ok(line) => tell_line(line.as_slice(), so_far),
+        Err(_) => tell_fault(CommandFault::OutOfMemory, so_far),
+    }
+}
+
+/// Returns what the line of a file begins with whose name is no text.
+fn untext_prefix(alloc: Global, name: &[u8]) -> Result<Vec<u8>, AllocError>
+    ensures { IfOk result (λ prefix. prefix.items ≡ untext_prefix name.now) }
+{
+    let mut prefix = Vec::new(alloc);
+    push_shown(&mut prefix, name)?;
+    prefix.extend_from_slice(b": ")?;
+    Ok(prefix)
+}
+
+/// Returns the line that tells that a file whose name is no text can't be opened.
+fn untext_line(alloc: Global, name: &[u8]) -> Result<Vec<u8>, AllocError>
+    ensures { IfOk result (λ line. line.items ≡ untext_line name.now) }
+{
+    let mut line = untext_prefix(alloc, name)?;
+    line.extend_from_slice(b"cannot open ")?;
+    push_shown(&mut line, name)?;
+    line.push(b'\n')?;
+    Ok(line)
+}
+
+/// Tells the errors that a file whose name is no text can't be opened.
+pub fn tell_untext<W, E: Target>(alloc: Global, name: &[u8], so_far: SoFar<W, E>) -> SoFar<W, E>
+    ensures told { IsTold (untext_line name.now) (E.state so_far.errors) (E.state result.errors)
+        ⊎ IsTold (fault_line CommandFault.OutOfMemory) (E.state so_far.errors) (E.state result.errors) }
+    ensures status { result.status ≡ status_failed }
+    ensures output { result.output ≡ so_far.output }
+{
+    match untext_line(alloc, name) {
+        Ok(line) => tell_line(line.as_slice(), so_far),
+        Err(_) => tell_fault(CommandFault::OutOfMemory, so_far),
+    }
+}

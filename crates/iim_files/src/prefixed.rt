@@ -1,0 +1,206 @@
+//! A target that begins each line with a prefix.
+
+ghost use Rattle.std.specs.Prelude.{◌≡◌, ◌+◌, ◌<◌, ◌≤◌, [], ◌++◌, true, length, take};
+ghost use Rattle.iim_files.specs.Format.{begins_line, front, prefixed};
+
+use iim_dataset::internals::ReservedOctets;
+use iim_dataset::octets::LF;
+use iim_dataset::{IoFault, Target, put};
+
+/// Begins each line that it writes to a target with a prefix. Contracts see it as a device that takes the text alone: after the octets
+/// that stood there before, with their number in front. Once a write has failed it writes nothing more.
+#[derive(Drop)]
+pub struct Prefixed<'p, W> {
+    /// What the lines go to.
+    writer: W,
+    /// What each line begins with.
+    prefix: &'p [u8],
+    /// Lines while they are laid out.
+    block: ReservedOctets,
+    /// Whether a line begins next.
+    fresh: bool,
+    /// Whether a write has failed.
+    broken: bool,
+    /// How many octets of a prefix are out where a write failed inside it.
+    cut: usize,
+    /// How many octets are out since it was made.
+    count: u64,
+    /// How often a write has failed.
+    failures: u64,
+    ghost room: { length prefix.now < block.room },
+}
+
+/// Returns the prefix, if a line begins.
+fn front_of(prefix: &[u8], fresh: bool) -> &[u8]
+    ensures { result.now ≡ front prefix.now fresh }
+{
+    if fresh { prefix } else { &[] }
+}
+
+/// Adds a piece to an empty block, each line with its prefix, as far as there is room. Returns how many octets of the piece it has
+/// added, and whether a line begins after them.
+fn lay_out(block: &mut ReservedOctets, prefix: &[u8], fresh: bool, piece: &[u8]) -> (usize, bool)
+    requires empty { block.old.items ≡ [] }
+    requires room { length prefix.now < block.old.room }
+    requires more { 0 < length piece.now }
+    ensures some { 0 < result.0 × result.0 ≤ length piece.now }
+    ensures laid { block.new.items ≡ prefixed prefix.now fresh (take result.0 piece.now) }
+    ensures fresh { result.1 ≡ begins_line fresh (take result.0 piece.now) }
+    ensures room { block.new.room ≡ block.old.room }
+{
+    let mut begins = fresh;
+    let mut taken = 0;
+    for octet in piece {
+        let front = front_of(prefix, begins);
+        if block.room() - block.len() <= front.len() {
+            return (taken, begins);
+        }
+        block.take(front);
+        block.take(&[*octet]);
+        begins = *octet == LF;
+        taken += 1;
+    }
+    (taken, begins)
+}
+
+/// Returns how many octets of a piece are whole in the first `out` octets of it with prefixes, and how many octets of a prefix follow
+/// them there; and whether a line begins after the whole ones.
+fn whole_in(prefix: &[u8], fresh: bool, piece: &[u8], out: usize) -> (usize, usize, bool)
+    requires { out ≤ length (prefixed prefix.now fresh piece.now) }
+    ensures within { result.0 ≤ length piece.now × result.1 ≤ length prefix.now }
+    ensures parts { take out (prefixed prefix.now fresh piece.now)
+        ≡ prefixed prefix.now fresh (take result.0 piece.now) ++ take result.1 prefix.now }
+    ensures begins { result.2 ≡ begins_line fresh (take result.0 piece.now) }
+    ensures front { 0 < result.1 → result.2 ≡ true }
+{
+    let mut begins = fresh;
+    let mut left = out;
+    let mut whole = 0;
+    for octet in piece {
+        let front = front_of(prefix, begins);
+        if left <= front.len() {
+            return (whole, left, begins);
+        }
+        left -= front.len() + 1;
+        begins = *octet == LF;
+        whole += 1;
+    }
+    (whole, 0, begins)
+}
+
+impl<'p, W: Target> Prefixed<'p, W> {
+    ghost use Rattle.std.specs.Prelude.{◌≡◌, IfOk, IfErr, Err, length};
+    ghost use Rattle.iim_dataset.specs.Format.Octets.{Rose};
+    ghost use Rattle.iim_dataset.specs.States.Devices.{Accepted, Faulted};
+    ghost use Rattle.iim_files.specs.States.Seen.{fresh_device, seen, IsFinished, IsParted, IsSameButFailures};
+
+    /// Makes one that has written nothing, with room for the prefix and an octet at least.
+    pub fn new(writer: W, prefix: &'p [u8], block: ReservedOctets) -> Prefixed<'p, W>
+        requires { length prefix.now < block.room }
+        ensures { seen W.state result ≡ fresh_device prefix.entry.now (W.state writer) }
+    {
+        Prefixed {
+            writer,
+            prefix,
+            block,
+            fresh: true,
+            broken: false,
+            cut: 0,
+            count: 0,
+            failures: 0,
+        }
+    }
+
+    /// Returns the target, and whether a write has failed.
+    fn into_parts(self) -> (W, bool)
+        ensures parts { IsParted (seen W.state self.entry).octets self.entry.fresh (W.state result.0).octets result.1 }
+        ensures broken { result.1 ≡ self.entry.broken }
+    {
+        let Prefixed {
+            writer,
+            prefix: _,
+            block: _,
+            fresh: _,
+            broken,
+            cut: _,
+            count: _,
+            failures: _,
+        } = self;
+        (writer, broken)
+    }
+
+    /// Ends the last line, and returns the target, and whether a write has failed.
+    pub fn finish(self) -> (W, bool)
+        ensures { IsFinished (seen W.state self.entry).octets (W.state result.0).octets result.1 }
+    {
+        if self.fresh || self.broken {
+            return self.into_parts();
+        }
+        let mut ending = self;
+        match put(&mut ending, &[LF]) {
+            Ok(()) => ending.into_parts(),
+            Err(_) => {
+                let (writer, _) = ending.into_parts();
+                (writer, true)
+            }
+        }
+    }
+
+    /// Counts a failure.
+    fn refuse(&mut self) -> IoFault
+        ensures fault { result ≡ IoFault.Failed }
+        ensures same { IsSameButFailures self.old self.new }
+        ensures counted { Rose self.old.failures self.new.failures }
+    {
+        self.failures = self.failures.saturating_add(1);
+        IoFault::Failed
+    }
+
+    /// Takes octets of a piece that is not empty.
+    fn write_some(&mut self, piece: &[u8]) -> Result<usize, IoFault>
+        requires { 0 < length piece.now }
+        ensures ok { IfOk result (Accepted (seen W.state self.old) (seen W.state self.new) piece.now) }
+        ensures err { IfErr result (Faulted (seen W.state self.old) (seen W.state self.new)) }
+    {
+        if self.broken {
+            return Err(self.refuse());
+        }
+        self.block.clear();
+        let (taken, begins) = lay_out(&mut self.block, self.prefix, self.fresh, piece);
+        let Some(count) = self.count.checked_add(self.block.len() as u64) else {
+            return Err(self.refuse());
+        };
+        match put(&mut self.writer, self.block.as_slice()) {
+            Ok(()) => {
+                self.count = count;
+                self.fresh = begins;
+                self.cut = 0;
+                Ok(taken)
+            }
+            Err(out) => {
+                let (whole, cut, begins) = whole_in(self.prefix, self.fresh, piece, out);
+                self.broken = true;
+                self.count += out as u64;
+                self.fresh = begins;
+                self.cut = cut;
+                if whole == 0 {
+                    return Err(self.refuse());
+                }
+                Ok(whole)
+            }
+        }
+    }
+}
+
+impl<'p, W: Target> Target for Prefixed<'p, W> {
+    ghost use Rattle.iim_files.specs.States.Seen.{seen};
+
+    ghost state = { seen W.state };
+
+    fn write(&mut self, piece: &[u8]) -> Result<usize, IoFault> {
+        match piece {
+            [] => Ok(0),
+            _ => self.write_some(piece),
+        }
+    }
+}

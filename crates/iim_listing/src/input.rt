@@ -1,0 +1,66 @@
+//! An input that is read only when all that came of it before is out.
+
+ghost use Rattle.std.specs.Prelude.{◌≡◌, ◌↔◌, ◌<◌, [], None, IsTrue, IfOk, IfErr, OnOk, length};
+ghost use Rattle.iim_unpack.specs.States.Intakes.{FedPiece, GivesNothing, IsReady, ReadsWhereEmpty, in_line};
+
+use iim_dataset::Source;
+use iim_output::outlet::Outlet;
+use iim_unpack::{Fed, Intake, IntakeFault, Unpacker};
+use std::marker::Model;
+
+/// The input of a listing or of stories: an [`Intake`] that can be read only when the sink holds nothing back. A command has no other way
+/// to read what it is given, so that it can't wait for input with output that it has not written.
+///
+/// Contracts see it as the intake.
+#[derive(Drop)]
+pub struct Input<R> {
+    intake: Intake<R>,
+}
+
+impl<R> Model for Input<R> {
+    ghost use Rattle.iim_unpack.specs.declared.intake.Intake.{Intake};
+
+    ghost Value = { Intake R };
+
+    ghost view = { λ input. input.intake };
+}
+
+impl<R: Source> Input<R> {
+    /// Returns an input of which nothing has been read.
+    pub fn new(reader: R) -> Input<R>
+        ensures reader { result.reader ≡ reader }
+        ensures block { result.block ≡ [] }
+        ensures failed { result.failed ≡ None }
+    {
+        Input {
+            intake: Intake::new(reader),
+        }
+    }
+
+    /// Checks whether octets were read and not used yet: then [`Input::next_piece`] reads nothing.
+    pub fn holds_octets(&self) -> bool
+        ensures { IsTrue result ↔ (0 < length self.now.block) }
+    {
+        self.intake.holds_octets()
+    }
+
+    /// Feeds an unpacker the octets that were read and not used yet. If there are none, reads once, as [`Intake::next_piece`] does, and
+    /// feeds it what came: the sink must hold nothing then.
+    pub fn next_piece<S: Outlet>(
+        &mut self,
+        unpacker: &mut Unpacker,
+        sink: &mut S,
+    ) -> Result<Fed, IntakeFault>
+        requires ready { IsReady unpacker.old }
+        requires out { self.old.block ≡ [] → S.settled sink.old }
+        ensures fed { self.old.failed ≡ None → IfOk result (FedPiece S.goes
+            (in_line R.state self.old, unpacker.old, sink.old) (in_line R.state self.new, unpacker.new, sink.new)) }
+        ensures calm { OnOk result ((self.new.failed ≡ None) × (S.failures sink.new ≡ S.failures sink.old)) }
+        ensures faults { self.old.failed ≡ None → IfErr result (GivesNothing S.goes S.failures R.state
+            (self.old, unpacker.old, sink.old) (self.new, unpacker.new, sink.new)) }
+        ensures reads { ReadsWhereEmpty self.old self.new unpacker.old unpacker.new sink.old sink.new result }
+        ensures leads { R.leads self.old.reader self.new.reader }
+    {
+        self.intake.next_piece(unpacker, sink)
+    }
+}

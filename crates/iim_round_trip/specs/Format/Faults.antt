@@ -1,0 +1,20 @@
+-- Why nothing is unpacked: the numbers and names of the causes, and how they are printed.
+use Rattle.std.specs.Prelude.{ℕ, List, codes}
+use Rattle.iim_places.specs.Format.Causes.{cause_number, cause_name, refusal_text}
+use Rattle.iim_round_trip.specs.Format.RoundTrip.{UnpackFault, OutOfMemory, Refused}
+
+-- The number of the cause for which nothing is unpacked: for a refusal, that of its cause.
+-- twins (with fault_name, fault_text): `upper_faults_are_printed`
+abbrev pub fault_number : UnpackFault → ℕ
+fault_number OutOfMemory = 70
+fault_number (Refused e) = cause_number e.cause
+
+-- The name of that cause.
+abbrev pub fault_name : UnpackFault → List ℕ
+fault_name OutOfMemory = codes "OutOfMemory"
+fault_name (Refused e) = cause_name e.cause
+
+-- The refusal, or that memory was refused, as they are printed.
+abbrev pub fault_text : UnpackFault → List ℕ
+fault_text OutOfMemory = codes "out of memory"
+fault_text (Refused e) = refusal_text e

@@ -1,0 +1,4 @@
+//! Internals for the layers above, in this repository: no part of the public interface, and free to change with any release.
+
+pub use crate::kinds::has_kind;
+pub use crate::table::line;

@@ -1,0 +1,27 @@
+-- The causes of an unpacker that gave no state, and of an intake that gave no envelope, by their numbers and names.
+use Rattle.std.specs.Prelude.{ℕ, List, codes}
+use Rattle.iim_places.specs.Format.Causes.{cause_number, cause_name}
+use Rattle.iim_unpack.specs.declared.{ticket.spelling.SaveFault.SaveFault, intake.IntakeFault.IntakeFault}
+use Rattle.iim_unpack.specs.declared.ticket.spelling.SaveFault.TheVariants.{Failed, OutOfMemory}
+use Rattle.iim_unpack.specs.declared.intake.IntakeFault.TheVariants.{Refused, Read, Interrupted}
+
+-- twins (with save_name): "An unpacker that refused something has no ticket"
+abbrev pub save_number : SaveFault → ℕ
+save_number Failed = 61
+save_number OutOfMemory = 70
+
+abbrev pub save_name : SaveFault → List ℕ
+save_name Failed = codes "Failed"
+save_name OutOfMemory = codes "OutOfMemory"
+
+-- A refusal has the number and the name of its cause.
+-- twins (with intake_name): `upper_faults_are_printed`
+abbrev pub intake_number : IntakeFault → ℕ
+intake_number (Refused refusal) = cause_number refusal.cause
+intake_number Read = 71
+intake_number Interrupted = 72
+
+abbrev pub intake_name : IntakeFault → List ℕ
+intake_name (Refused refusal) = cause_name refusal.cause
+intake_name Read = codes "Read"
+intake_name Interrupted = codes "Interrupted"
