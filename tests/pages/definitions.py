@@ -46,9 +46,8 @@ Every definition that the contract of `unpack_packed` cites, directly or through
 other: {count} definitions of {lines:,} lines, from {files} files. [`THEOREM.md`](../THEOREM.md) has
 the contract, and says what it rests on besides.
 
-This page is generated from `crates/CRATE/specs` by `tests/documents --write`. Imports and the notes
-on tests are left out. Each definition cites only definitions above it, and the list below it links
-to them. Names without a link are those of std (`Prelude`, lists), or types of the sources: those
+This page is generated from `crates/CRATE/specs` by `tests/documents --write`, without imports. Each
+definition cites only definitions above it, and the list below it links to them. Names without a link are those of std (`Prelude`, lists), or types of the sources: those
 are listed [at the end](#types-of-the-sources).
 """
 FOREWORD_BELOW = """# Definitions of the contracts below the headline
@@ -62,13 +61,8 @@ This page is generated from `crates/CRATE/specs` by `tests/documents --write`, a
 
 
 def own_comment(lines: List[str]) -> List[str]:
-    """Return what a comment says of a definition, without its notes on tests and without the titles of parts."""
-    said, note = [], False
-    for line in lines:
-        note = bool(re.match(r"-- (no )?twins?\b", line)) or note and line.startswith("--   ")
-        if not note and not line.startswith("-- ----"):
-            said.append(line)
-    return said
+    """Return what a comment says of a definition, without the titles of parts."""
+    return [line for line in lines if not line.startswith("-- ----")]
 
 
 def texts_of(file: str) -> Dict[str, Tuple[List[str], List[str]]]:

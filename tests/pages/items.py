@@ -57,8 +57,8 @@ def record_of_laws(crate):
 
 
 def words_of(comment):
-    """What a comment says, without what it says of twins."""
-    return " ".join(line.strip()[3:] for line in re.sub(r"^ *-- (?:no )?twins?\b.*", "", comment, flags=re.M | re.S).splitlines())
+    """Return the words of a comment, without its marks."""
+    return " ".join(line.strip()[3:] for line in comment.splitlines())
 
 
 def laws_of(crate):

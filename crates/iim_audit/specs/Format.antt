@@ -22,13 +22,10 @@ pub use Rattle.iim_places.specs.declared.refusal.Refusal.{Refusal}
 use Rattle.iim_audit.specs.declared.fault.AuditCause.TheVariants as causes
 
 -- the whole seconds in `nanoseconds` nanoseconds, rounded down
--- twins (with IsFloor): law `whole_seconds_are_floors`; "The age is the greatest whole number of seconds";
---   `takes_the_instants_that_jiff_reads`
 abbrev pub whole_seconds : ℤ → ℤ
 whole_seconds nanoseconds = int_div_euclid nanoseconds (pos nanoseconds_in_second)
 
 -- the whole seconds from the instant sent to now, where these data name one
--- twin: "The age is the greatest whole number of seconds"
 abbrev pub age_at : ℤ → List Dataset → Option ℤ
 age_at now fields = option_map (λ sent. whole_seconds (now -ℤ sent)) (instant_sent fields)
 
@@ -42,8 +39,6 @@ abbrev pub WholeSecondsAreFloors : Type 0
 WholeSecondsAreFloors = (nanoseconds : ℤ) → IsFloor nanoseconds (whole_seconds nanoseconds)
 
 -- held where the release is to come; else expired where the expiration is past; else free
--- twin: "Copy is held before its release", "Copy whose release is still to come is held"; `tells_copy_that_is_held`,
---   `tells_copy_that_has_expired`
 abbrev pub copy_at : ℤ → List Dataset → CopyState
 copy_at now fields =
     if option_map_or (λ release. not (int_le release now)) (instant_of_release fields) false then Held
@@ -53,7 +48,6 @@ copy_at now fields =
 -- ---- The rows of a report, by the values of the envelopes.
 
 -- what an envelope is known by: 1:30 Service Identifier, 1:40 Envelope Number and 1:70 Date Sent
--- twin: "A repeated one names the first of the same service, number and day"
 abbrev pub id_of : Value → Identity
 id_of v = record {
   service = unwrap_or (first_data 1 30 v.fields) [];
@@ -62,18 +56,14 @@ id_of v = record {
 }
 
 -- the digit of 1:60 Envelope Priority, its first octet
--- twin: "The worked stream, and an empty one"; `audits_a_stream`
 abbrev pub priority_of : Value → Option ℕ
 priority_of v = option_and_then (λ digit. slice_get digit 0) (first_data 1 60 v.fields)
 
 -- the words of the lines, counted up to the greatest number of 64 bits
--- twins (with row_with): "Words: a tab ends one, and so does a line; two spaces are no word"; `audits_streams`
 abbrev pub counted_words : Value → ℕ
 counted_words v = capped (words v.lines)
 
 -- the number of the first of these ids that is the same; they are numbered from n
--- twins (with rows_after, report_of): "A repeated one names the first of the same service, number and day";
---   `lists_a_million_envelopes_and_no_more`
 abbrev pub first_same : ℕ → Identity → List Identity → Option ℕ
 first_same n id [] = None
 first_same n id (other ∷ others) = if id_eq id other then Some n else first_same (n + 1) id others
@@ -180,7 +170,6 @@ abbrev pub FailsLeaving : Limits → Device × ℕ → Device × Option ℕ × �
 FailsLeaving limits (old, before) (new, kept, told) number cause = (why : FailsAt limits old new number cause) × Leaves limits old new number cause why before kept told
 
 -- The intake had answered a fault before, which is told with envelope 1; or there was no memory, and it was not asked.
--- twin: "From then on it is told again, with envelope 1"; `failing_readers`
 abbrev pub IsToldAgain : ℕ → ℕ → ℕ → ℕ → AuditCause → Type 0
 IsToldAgain octet before told number cause =
     (number ≡ 1) × (((cause ≡ causes.Refused (failed_at octet)) × (told ≡ 0)) ⊎ ((cause ≡ causes.OutOfMemory) × (told ≡ before)))
@@ -226,19 +215,15 @@ pub record Refuses (limits : Limits) (p : List ℕ) (a : ℕ) (piece : List ℕ)
 -- ---- The text of a report.
 
 -- a digit, or `-` where there is none
--- twin: "The worked stream, and an empty one"; `audits_a_stream`
 abbrev pub digit_or_dash : Option ℕ → ℕ
 digit_or_dash digit = unwrap_or digit minus
 
 -- a number of seconds, with `-` before one below zero, or `-` alone where there is none
--- twin: "The age is the greatest whole number of seconds", "There is none without a time"
 abbrev pub seconds_or_dash : Option ℤ → List ℕ
 seconds_or_dash None = codes "-"
 seconds_or_dash (Some n) = signed_decimal n
 
 -- service, number and date sent, after the row's number
--- twins (with sizes_of, copy_word, ages_of, row_line): "The worked stream, and an empty one", "Copy is held before its release";
---   `audits_a_stream`, `audits_the_sample`
 abbrev pub known_by : ℕ → AuditRow → List ℕ
 known_by number row = decimal number ++ (codes " " ++ (shown row.id.service ++ (codes " " ++ (row.id.number ++ (codes " " ++ row.id.date_sent)))))
 
@@ -266,7 +251,6 @@ lines_from n [] = []
 lines_from n (row ∷ rows) = row_line n row ++ lines_from (n + 1) rows
 
 -- how many rows repeat an earlier one
--- twins (with is_held, held_rows, sums_line): "Held rows are counted, repeated ones too"; `counts_the_copies_that_are_held`
 abbrev pub repeated_rows : List AuditRow → ℕ
 repeated_rows rows = count_by (λ row. is_some row.first) rows
 
@@ -287,7 +271,6 @@ abbrev pub printed_report : List AuditRow → List ℕ
 printed_report rows = lines_from 1 rows ++ sums_line rows
 
 -- The number of what stopped an audit: for a refusal, that of its cause.
--- twins (with audit_name): `upper_faults_are_printed`
 abbrev pub audit_number : AuditCause → ℕ
 audit_number (causes.Refused refusal) = cause_number refusal.cause
 audit_number causes.Read = 71

@@ -51,7 +51,6 @@ Ends answered fails errors status = answered
     ⊎ ((fault : CommandFault) × (before : Device) × fails fault before × Complained before errors fault × (status ≡ status_failed))
 
 -- The input was listed, without a word on the errors; or a fault came and was told there.
--- twins (with Ends, Ran): `tells_a_read_that_fails`, `tells_a_write_that_fails`, `leaves_the_front_of_an_envelope_that_can_t_be_written`
 abbrev pub EndsListing : (ℕ → Listed → List ℕ) → Devices → Devices → ℕ → Type 0
 EndsListing text old new status = Ends (WritesListing text old.input new.input old.output new.output status × (new.errors ≡ old.errors))
     (λ fault errors. FailsListing text old.input new.input old.output new.output fault × (errors ≡ old.errors)) new.errors status

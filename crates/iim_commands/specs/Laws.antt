@@ -8,7 +8,6 @@ use Rattle.iim_listing.specs.Format.{story_of, number_line, sizes_line, shown_of
 use Rattle.iim_pack_script.specs.Format.{ScriptContent, IsScriptOf}
 
 -- what a script tells of these values, where each dataset, the header and the trailer has a line
--- twins (with ShownEnvelopesAreScripts): law `shown_envelopes_are_scripts`; `gives_back_what_was_packed`, `gives_back_octets_of_every_kind`
 abbrev pub told_of : Value → ScriptContent
 told_of v = record { fields = v.fields; head = v.head; trailer = v.trailer; lines = v.lines; text_line = length v.fields + 3 }
 

@@ -70,7 +70,6 @@ pub record IsReadBack (n : ℕ) : Type 0 where
   pub back : number (written_number n) ≡ n
 
 -- What `number_bytes` writes of a number are as many octets as a count or a size may have, and spell that number.
--- no twin (with CanonicalTagsReadBack, HasSpellings): no code has these words
 abbrev pub NumbersAreReadBack : Type 0
 NumbersAreReadBack = (n : ℕ) → n < 2 ^ 64 → IsReadBack n
 

@@ -16,7 +16,6 @@ abbrev pub ValuesDieWithTheirFault : Type 0
 ValuesDieWithTheirFault = (ds : List Dataset) (d : Dataset) → SectionsLiveAt ds (head_of d) → Octets d.octets → (value_fault d ≡ None) ↔ SectionsLive (ds ++ d ∷ [])
 
 -- Datasets that can continue to those of an envelope are all of them exactly where the last is of record 9.
--- twin: law `envelopes_end_with_the_last_record`; "After the end of an envelope no octet is used"
 abbrev pub EnvelopesEndWithTheLastRecord : Type 0
 EnvelopesEndWithTheLastRecord = (ds : List Dataset) (d : Dataset) → SectionsLive (ds ++ d ∷ []) → (d.rec ≡ 9) ↔ AreSections (ds ++ d ∷ [])
 

@@ -3,7 +3,6 @@ use Rattle.std.specs.Prelude.{ℕ, Bool, List, [], ◌∷◌, ◌++◌, if◌the
 use Rattle.iim_dataset.specs.Format.Octets.{lf}
 
 -- whether a line begins after these octets, where one did before them, or not
--- twins (with front, prefixed): `shows_several_files`, `tells_stories_of_several_files`
 abbrev pub begins_line : Bool → List ℕ → Bool
 begins_line fresh [] = fresh
 begins_line fresh (octet ∷ octets) = begins_line (octet == lf) octets

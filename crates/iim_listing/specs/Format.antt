@@ -42,13 +42,11 @@ abbrev pub listing : (ℕ → Listed → List ℕ) → List Listed → InputEndi
 listing text envelopes ending = texts_from text 1 envelopes ++ ending_line (length envelopes) ending
 
 -- the status of a listing: 0 where the whole input is accepted, else 1
--- twin: `tells_a_refusal_after_envelopes`, `lists_a_million_envelopes_and_no_more`
 abbrev pub status_of : InputEnding → ℕ
 status_of Whole = status_accepted
 status_of _ = status_refused
 
 -- the first line
--- twins (with sizes_line, shown_of): `shows_worked_envelopes`, `shows_what_is_rare`, `packs_as_it_is_asked`
 abbrev pub number_line : ℕ → List ℕ
 number_line number = codes "envelope " ++ (decimal number ++ codes "\n")
 
@@ -86,7 +84,6 @@ FailsListing text source rest old new OutOfMemory = (input : List ℕ) × (envel
 -- ---- What `story` leaves: the text of each envelope on the output, and the lines of `check` on the errors.
 
 -- the text of an envelope: its lines, joined by LF
--- twins (with story_of): law `envelopes_are_delivered_as_lines`; `tells_stories_up_to_a_refusal`, `leaves_the_text_before_a_refusal`
 abbrev pub text_of : Listed → List ℕ
 text_of e = join_with_byte lf e.value.lines
 

@@ -12,8 +12,6 @@ use Rattle.iim_tables.specs.Format.Records.{IsGoodDataset, IsGoodRecord}
 -- ---- When the object layer can continue, by the numbers and lengths so far.
 
 -- The numbers don't clash: a size that isn't known is not announced, and the announced size is at most the maximum.
--- twins (with HasDuties, Fit, MeetsAnnounced): laws `numbers_live_without_clash`, `subfiles_live_while_they_fit`,
---   `objects_end_where_they_are_whole`, `totals_are_confirmed`
 pub record NoClash (ps : List Stated) : Type 0 where
   pub mode : number_at 10 ps ≡ Some 0 → number_at 90 ps ≡ None
   pub sizes : (a m : ℕ) → number_at 90 ps ≡ Some a → number_at 95 ps ≡ Some m → a ≤ m
@@ -89,7 +87,6 @@ abbrev pub DatasetsLiveWithTheirTokens : Type 0
 DatasetsLiveWithTheirTokens = (ds : List Dataset) → IsAlive AreObjectRecords ds → IsAlive AreSized ds ↔ IsAlive ObjectLanguage (object_tokens ds)
 
 -- With a dataset of record 9 they can exactly where the object layer can continue from the end of the object.
--- no twin: no code has these words
 abbrev pub DatasetsEndWithTheirTokens : Type 0
 DatasetsEndWithTheirTokens = (ds : List Dataset) (d : Dataset) → IsAlive AreObjectRecords (ds ++ d ∷ []) → d.rec ≡ 9
     → ((e : Dataset) × (e.rec ≡ 9) × IsAlive AreSized (ds ++ e ∷ [])) ↔ IsAlive ObjectLanguage (tokens_of (place_ended ds))
@@ -104,7 +101,6 @@ abbrev pub Leads : Place → ObjectToken → Place → Type 0
 Leads p token q = MayFollow p token × (place_after p token ≡ q)
 
 -- Datasets of the records before 7 change no place.
--- twins (with NumbersLead, SubfilesLead, EndsLead, AreByNumber): "Before the first octet, and an envelope in one piece", "Sizes: the mode"
 abbrev pub OthersLeadNowhere : Type 0
 OthersLeadNowhere = (ds : List Dataset) (d : Dataset) → d.rec < 7 → place_after_datasets (ds ++ d ∷ []) ≡ place_after_datasets ds
 
@@ -191,7 +187,6 @@ ObjectsAreCutOneWay = (size : ℕ) (object : List ℕ) (parts others : List (Lis
 -- ---- What a packer writes of an object by a plan: record 7, the subfiles and record 9.
 
 -- Records 7, 8 and 9 that are written of an object are good.
--- twin: "Before the first octet, and an envelope in one piece", "Sizes: the mode"
 pub record AreGoodRecords (subfile : ℕ) (size : Size) (object : List ℕ) (parts : List (List ℕ)) : Type 0 where
   pub seven : IsGoodRecord 7 (plan_datasets subfile size)
   pub eight : IsGoodRecord 8 (subfile_datasets parts)
@@ -203,7 +198,6 @@ PackedRecordsAreGood = (subfile : ℕ) (size : Size) (object : List ℕ) (parts 
     → IsCut subfile object parts → length object ≤ bound_of subfile size → AreGoodRecords subfile size object parts
 
 -- Each size, as it is written, meets the rows of sizes.
--- no twin: no code has these words
 pub record NumberDatasetsAreGood : Type 0 where
   pub largest : (n : ℕ) → 1 ≤ n → n ≤ greatest_size → IsGoodDataset (number_dataset 7 20 n)
   pub announced : (n : ℕ) → n ≤ greatest_size → IsGoodDataset (number_dataset 7 90 n)

@@ -7,12 +7,10 @@ pub use Rattle.iim_output.specs.declared.fault.CommandFault.{CommandFault}
 pub use Rattle.iim_output.specs.declared.fault.CommandFault.TheVariants.{CannotRead, CannotWrite, OutOfMemory}
 
 -- what the records 1 and 2 of an envelope may have: the limits of wire copy
--- twin: `keeps_so_much_of_records_one_and_two`, `keeps_so_much_of_a_script`
 abbrev pub limits : Limits
 limits = wire_limits
 
 -- the line of an accepted envelope: its number, and how many octets it has
--- twins (with refused_line): `checks_the_samples`, `tells_a_refusal_after_envelopes`
 abbrev pub accepted_line : ℕ → ℕ → List ℕ
 accepted_line number used = decimal number ++ (codes " accepted " ++ (decimal used ++ codes " octets\n"))
 
@@ -21,12 +19,10 @@ abbrev pub refused_line : ℕ → Refusal → List ℕ
 refused_line number e = decimal number ++ (codes " " ++ (refusal_text e ++ codes "\n"))
 
 -- the line in place of that of one envelope too many
--- twin: `lists_a_million_envelopes_and_no_more`
 abbrev pub too_many_line : List ℕ
 too_many_line = codes "too many envelopes\n"
 
 -- the line that tells a fault
--- twin: `tells_a_read_that_fails`, `tells_a_write_that_fails`, `takes_memory_for_a_subfile_of_an_unknown_size`
 abbrev pub fault_line : CommandFault → List ℕ
 fault_line CannotRead = codes "cannot read\n"
 fault_line CannotWrite = codes "cannot write\n"
@@ -41,7 +37,6 @@ abbrev pub status_refused : ℕ
 status_refused = 1
 
 -- the words ask for nothing
--- twins (with status_failed): `refuses_words_of_pack_and_audit`, `tells_a_read_that_fails`, `tells_a_write_that_fails`
 abbrev pub status_usage : ℕ
 status_usage = 2
 
@@ -52,7 +47,6 @@ status_failed = 3
 -- ---- How a text comes out at once.
 
 -- The text is out, and the status is the wanted one; or the device broke inside it, and the status is 3.
--- twin: `tells_a_write_that_fails`, `leaves_the_front_of_an_envelope_that_can_t_be_written`
 abbrev pub IsSaid : Device → Device → List ℕ → ℕ → ℕ → Type 0
 IsSaid old new text want status = (Wrote old new text × (status ≡ want)) ⊎ ((n : ℕ) × Stopped old new text n × (status ≡ status_failed))
 

@@ -15,7 +15,6 @@ datasets_of {fields} {head} {lines} {trailer} {plan} {octets} p = fields ++ obje
 
 -- The octets spell datasets that are the records 1, 2, 7, 8 and 9, each good; of these the first two are the fields, the data of
 -- record 8 are the object, and records 7 to 9 state the sizes.
--- no twin: no code has these words
 pub record Carries (octets : List ℕ) (datasets fields : List Dataset) (object : List ℕ) (sizes : Sizes) : Type 0 where
   pub spelled : SpellsStream count_octets datasets octets
   pub sections : AreSections datasets

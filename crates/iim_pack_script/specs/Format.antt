@@ -30,12 +30,10 @@ asked subfile unknown max = record { subfile = subfile; unknown = unknown; max =
 
 -- the most octets of an object: the maximum of an unknown size, or else the greatest size; and no more than the subfiles hold that there
 -- may be
--- twin that nothing finds: a script is too short for so long an object. The bound itself: "Plans: the most octets of an object"
 abbrev pub most_for : Asked → ℕ
 most_for a = min (if a.unknown then unwrap_or a.max greatest_size else greatest_size) (most_in a.subfile)
 
 -- The plan is the one that is asked for, of this object: its size is said to be what the maximum says, or how many octets it has.
--- twins (with most_for): `packs_great_sizes_in_eight_octets`, `packs_as_it_is_asked`
 pub record IsPlanOf (a : Asked) (object : List ℕ) (plan : Plan) : Type 0 where
   pub subfile_is : plan.subfile ≡ a.subfile
   pub size_is : plan.size ≡ (if a.unknown then Unknown a.max else Known (length object))
@@ -54,7 +52,6 @@ abbrev pub object_of : ScriptContent → List ℕ
 object_of t = canonical t.head t.lines t.trailer
 
 -- The object has more octets than are asked for.
--- twins (with IsScriptRefusal): `tells_what_is_wrong_with_a_script`, `takes_numbers_with_a_plus_and_zeros`
 abbrev pub IsPast : Asked → ScriptContent → Type 0
 IsPast a t = most_for a < length (object_of t)
 
@@ -69,7 +66,6 @@ pub record IsFormOf (a : Asked) (t : ScriptContent) (form : List ℕ) : Type 0 w
   pub packed : Packed t.fields t.head t.lines t.trailer plan form
 
 -- the line that tells a refusal: the number of a line of the script, and a cause's number and name
--- twin: `tells_what_is_wrong_with_a_script`, `tells_the_first_wrong_line`
 abbrev pub refusal_line : ℕ → ℕ → List ℕ → List ℕ
 refusal_line line number name =
     codes "refused: script line " ++ (decimal line ++ (codes " cause " ++ (decimal number ++ (codes " " ++ (name ++ codes "\n")))))
@@ -85,7 +81,6 @@ IsScriptRefusal a octets text = ((line : ℕ) × (cause : ScriptCause) × IsScri
 -- ---- the input
 
 -- These octets were read, and no read failed: all that the input has, or one more than a script may have.
--- twin: `reads_one_octet_of_a_script_too_many_at_most`
 abbrev pub IsRead : Device → Device → List ℕ → Type 0
 IsRead old new octets = HasGiven old new octets × ((IsAtEnd new.octets × (length octets ≤ max_script)) ⊎ (length octets ≡ max_script + 1))
 

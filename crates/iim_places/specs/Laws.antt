@@ -28,7 +28,6 @@ RefusalsTellTheLowestCause = (limits : Limits) (octets : List ℕ) (next : ℕ) 
 -- ---- The envelopes that an input begins with, and what stands after them.
 
 -- An input has one listing, its envelopes and what stands after them.
--- no twin (with ListingsAreLongest): no code has these words
 abbrev pub InputsHaveOneListing : Type 0
 InputsHaveOneListing = (limits : Limits) (input : List ℕ) (es fs : List Listed) (x y : InputEnding) → limits.octets < 2 ^ 32 → limits.fields < 2 ^ 32
     → IsListing limits input es x → IsListing limits input fs y → (es ≡ fs) × (x ≡ y)
@@ -58,7 +57,6 @@ abbrev pub StreamsHaveOneAnswer : Type 0
 StreamsHaveOneAnswer = (limits : Limits) (stream : List ℕ) (answer other : Answer) → Answers limits stream answer → Answers limits stream other → answer ≡ other
 
 -- Envelopes within their limits are shorter than a count of 64 bits tells.
--- no twin (with OpenOctetsAreBounded): no code has these words
 abbrev pub EnvelopesAreBounded : Type 0
 EnvelopesAreBounded = (limits : Limits) (octets : List ℕ) (value : Value) → limits.octets < 2 ^ 32 → limits.fields < 2 ^ 32 → IsEnvelopeWithin limits octets value → length octets < 2 ^ 64 - 1
 
@@ -162,7 +160,6 @@ abbrev pub TicketsHaveOneSplit : Type 0
 TicketsHaveOneSplit = (ticket : List ℕ) (s t : Split) → SplitsTicket ticket s → SplitsTicket ticket t → s ≡ t
 
 -- source, number, priority, category, words, info and trailer so far
--- twin: "With two CR held in the text; and with a whole header", "Part, counter and flag of the message"; `judges_each_part_of_a_message`
 abbrev pub texts_of : MessagePlace → List (List ℕ)
 texts_of m = m.source.items ∷ m.number.items ∷ m.priority.items ∷ m.category.items ∷ m.words.items ∷ m.info.items ∷ m.trailer.items ∷ []
 

@@ -18,13 +18,10 @@ pub use Rattle.iim_request.specs.declared.request.UsageFault.TheVariants.{Words,
 -- ---- the program's commands, as clap is told of them
 
 -- a command that may be given a FILE
--- twins (with unknown_rule, now_rule, pack_command, audit_command, wanting, program): `tells_the_whole_help`, `refuses_other_words`,
---   `tells_what_words_ask_wrongly`
 abbrev pub file_command : Text → App
 file_command name = with_rule (new_app name) (new_rule (codes "FILE"))
 
 -- the files of a command that may be given any number of them
--- twins (with list_rule, files_command): `checks_several_files`, `tells_the_whole_help`
 abbrev pub files_rule : Rule
 files_rule = record (new_rule (codes "FILE")) { action = Some Append }
 
@@ -37,7 +34,6 @@ abbrev pub files_command : Text → App
 files_command name = with_rule (with_rule (new_app name) files_rule) list_rule
 
 -- an option of this name, which takes a number from the least one to the greatest size
--- twin: `refuses_words_of_pack_and_audit`, `packs_great_sizes_in_eight_octets`, `takes_numbers_with_a_plus_and_zeros`
 abbrev pub number_rule : Text → ℕ → Rule
 number_rule name least = record (new_rule name) { long = Some name; value_names = 1; parser = Some (Unsigned least greatest_size) }
 
@@ -73,20 +69,17 @@ abbrev pub text_given : Option (Bor Text) → Option Text
 text_given given = option_map (λ text. text.now) given
 
 -- The option was given this number, from the least one to the greatest size. (Of any other text clap tells a fault.)
--- twin: `takes_numbers_with_a_plus_and_zeros`
 abbrev pub GivesNumber : ℕ → Option Text → Option ℕ → Type 0
 GivesNumber least None number = number ≡ None
 GivesNumber least (Some text) (Some n) = IsUnsignedIn least greatest_size text × (n ≡ digits_value 10 (without_leading_plus text))
 GivesNumber least (Some text) None = IsUnsignedIn least greatest_size text → ⊥
 
 -- The option was given. (What clap notes of one that takes no value.)
--- twins (with TellsPacking, AsksJob, AsksFor): `packs_as_it_is_asked`, `takes_any_name_for_a_file`, `audits_a_stream`
 abbrev pub IsFlag : Option Text → Bool → Type 0
 IsFlag None flag = flag ≡ false
 IsFlag (Some text) flag = (text ≡ codes "true" → flag ≡ true) × (text ≡ codes "false" → flag ≡ false)
 
 -- the most octets of a subfile where no number is given
--- twins (with IsSubfile): `packs_a_script`, `packs_as_it_is_asked`
 abbrev pub default_subfile : ℕ
 default_subfile = 1024
 
@@ -122,7 +115,6 @@ pub record NamesCommand (words : List Text) (name : Text) (rows : List Row) : Ty
   pub named : subcommand_of program words ≡ Some (name, rows)
 
 -- the names that are given as arguments
--- twins (with AreNamed, AsksFiles): `checks_several_files`, `reads_the_names_of_a_list`
 abbrev pub names_given : List Row → List Text
 names_given rows = unwrap_or (all_of (codes "FILE") rows) []
 
@@ -148,7 +140,6 @@ abbrev pub AsksFor : List Text → Request → Type 0
 AsksFor words request = AsksForFiles words (record { files = One request.file; job = request.job })
 
 -- The command with this name, and the values of its arguments, have the fault: a maximum of a known size, or no instant.
--- twins (with IsFaultOf): `refuses_words_of_pack_and_audit`, `tells_what_words_ask_wrongly`
 abbrev pub IsJobFault : Text → List Row → UsageFault → Type 0
 IsJobFault name rows MaxNeedsUnknown = (name ≡ codes "pack") × ((subfile : ℕ) × (max : Option ℕ) × TellsPacking rows subfile false max × IsSome max)
 IsJobFault name rows BadNow = (name ≡ codes "audit") × ((now : ℤ) → IsInstant (first_of (codes "now") rows) now → ⊥)
@@ -161,12 +152,10 @@ IsMade kind OutOfMemory = ⊤
 IsMade kind _ = ⊥
 
 -- The values of a command's arguments name a list of files and a file.
--- twin: `refuses_words_of_several_files`
 abbrev pub NamesBoth : List Row → Type 0
 NamesBoth rows = IsSome (first_of (codes "files-from") rows) × IsSome (all_of (codes "FILE") rows)
 
 -- The fault is that a list of files and a file are named.
--- twin: `refuses_words_of_several_files`
 abbrev pub IsFilesFault : List Row → UsageFault → Type 0
 IsFilesFault rows OutOfMemory = ⊤
 IsFilesFault rows fault = NamesBoth rows × IsMade ArgumentConflict fault
@@ -194,7 +183,6 @@ IsFaultOf words fault = IsFilesFaultOf words fault
 -- ---- Names, and words of a command line, as text that can be printed.
 
 -- the two octets of a control character from U+0080 to U+009F
--- twins (with is_hidden, shown_after, shown_name): `shows_each_character_of_a_name`, `shows_control_characters_of_words`
 abbrev pub spell_control : ℕ → ℕ → Bool
 spell_control first second = first == 0xc2 && (nat_le 0x80 second && nat_le second 0x9f)
 

@@ -45,7 +45,6 @@ OctetsHaveOneFault = (limits : Limits) (octets : List ℕ) (n m : ℕ) (a b : Sc
 
 -- What is printed of the datasets of an envelope within the limits, of a header and a trailer, and after that the line `text`
 -- and the lines of a story, is a script that tells just them, where it isn't too long.
--- no twin: no code has these words
 abbrev pub PrintedValuesAreScripts : Type 0
 PrintedValuesAreScripts = (limits : Limits) (fields : List Dataset) (head : Header) (trailer : List ℕ) (lines : List (List ℕ)) (story : List ℕ)
     → IsEnvelope fields → IsWithin limits (length (joined fields)) (length fields) → IsHeader head → IsTrailer trailer

@@ -9,7 +9,6 @@ use Rattle.wire_message.specs.declared.fault.MessageCause.TheVariants.{Sink}
 
 -- An unpacker that is restored from another's ticket, under its limits and with its count of octets, stands where the other
 -- stands, and is done with what the other is done with: each call on the one answers as on the other.
--- no twin: no code has these words
 abbrev pub RestoredStandAsSaved : Type 0
 RestoredStandAsSaved = (u v : Unpacking) (p ticket : List ℕ) (a : ℕ) → (limits_in u).octets < 2 ^ 32 → (limits_in u).fields < 2 ^ 32 → IsTicketOf p ticket → IsRestored (limits_in u) ticket a v
     → (Stands u p a → Stands v p a) × (IsDoneWith u p a → IsDoneWith v p a)
@@ -60,7 +59,6 @@ PiecesAreAnsweredAlike = (u v : Unpacking) (pieces : List (List ℕ)) (ones othe
     → ones ≡ others
 
 -- An unpacker that is restored from another's ticket, under its limits and with its count of octets, stands as the other.
--- no twin: no code has these words
 abbrev pub RestoredStandAlike : Type 0
 RestoredStandAlike = (u v : Unpacking) (p ticket : List ℕ) (a : ℕ) → (limits_in u).octets < 2 ^ 32 → (limits_in u).fields < 2 ^ 32 → Stands u p a ⊎ IsDoneWith u p a → IsTicketOf p ticket
     → IsRestored (limits_in u) ticket a v → StandAlike u v

@@ -19,7 +19,6 @@ use Rattle.iim_commands.specs.Format.{Ran}
 -- ---- Why a run can't begin, and what is left of it then.
 
 -- the error is the text of `--help` or `--version`
--- twin: `tells_its_usage`, `tells_the_whole_help`
 abbrev pub is_text : ErrorKind → Bool
 is_text kind.DisplayHelp = true
 is_text kind.DisplayVersion = true
@@ -48,8 +47,6 @@ IsPrintedAs (usage.Words error) _ = ⊥
 IsPrintedAs fault other = other ≡ fault
 
 -- The text tells why the run can't begin. What clap says of words is its own.
--- twin: `refuses_words_of_pack_and_audit`, `tells_words_that_are_no_text`, `tells_a_file_that_is_not_there`,
---   `shows_each_character_of_a_name`, `tells_refused_memory_at_each_request_of_a_command`
 abbrev pub TellsRunFault : RunFault → List ℕ → Type 0
 TellsRunFault (Usage (usage.Words error)) text = ⊤
 TellsRunFault (Usage usage.MaxNeedsUnknown) text = text ≡ codes "--max needs --unknown\n"
@@ -60,15 +57,12 @@ TellsRunFault (CannotOpen name) text = text ≡ codes "cannot open " ++ (shown_n
 TellsRunFault OutOfMemory text = text ≡ fault_line command.OutOfMemory
 
 -- the status for what clap says of the words
--- twin: `tells_its_usage`, `refuses_other_words`
 abbrev pub status_of_kind : ErrorKind → ℕ
 status_of_kind kind.DisplayHelp = status_accepted
 status_of_kind kind.DisplayVersion = status_accepted
 status_of_kind _ = status_usage
 
 -- the status for it: 0 where a text is asked for, 2 where the words ask for nothing, else 3
--- twin: `refuses_other_words`, `tells_words_that_are_no_text`, `tells_a_file_that_is_not_there`,
---   `tells_refused_memory_at_each_request_of_a_command`
 abbrev pub status_of_start : RunFault → ℕ
 status_of_start (Usage (usage.Words error)) = status_of_kind (kind_of error)
 status_of_start (Usage usage.OutOfMemory) = status_failed
@@ -77,7 +71,6 @@ status_of_start NoText = status_usage
 status_of_start fault = status_failed
 
 -- It was told why the run can't begin, or that there is no memory for that.
--- twin: `fails_where_faults_can_t_be_told`, `tells_a_full_device`
 abbrev pub IsHindered : RunFault → Device → Device → ℕ → Type 0
 IsHindered fault old new status = ((text : List ℕ) × TellsRunFault fault text × IsSaid old new text (status_of_start fault) status)
     ⊎ IsSaid old new (fault_line command.OutOfMemory) status_failed status
@@ -86,7 +79,6 @@ IsHindered fault old new status = ((text : List ℕ) × TellsRunFault fault text
 
 -- The text is out on the output, and the status is the wanted one. Or the output broke inside it, and the errors were told that it can't be
 -- written. (Output and errors, before and after.)
--- twin: `tells_its_usage`, `tells_the_whole_help`, `tells_a_full_device_of_help`
 abbrev pub IsShown : List ℕ → ℕ → Device × Device → Device × Device → ℕ → Type 0
 IsShown text want (old, errors_old) (new, errors_new) status = (Wrote old new text × (errors_new ≡ errors_old) × (status ≡ want))
     ⊎ ((n : ℕ) × Stopped old new text n × IsSaid errors_old errors_new (fault_line command.CannotWrite) status_failed status)

@@ -10,7 +10,6 @@ use Rattle.wire_story.specs.Format.Texts.{StoryEvent}
 -- ---- Test devices, as contracts see them.
 
 -- this number of good calls and then the trouble, and no fault so far
--- no twin: only tests use it
 abbrev pub new_plan : ℕ → Trouble → Plan
 new_plan good trouble = record { good = good; trouble = trouble; failures = 0; interruptions = 0 }
 

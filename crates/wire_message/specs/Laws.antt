@@ -51,7 +51,6 @@ OctetsAreRefusedAlike = (octets others text other : List ℕ) (place : Place) (c
     → LeadsTo octets text place → LeadsTo others other place → HasCause cause octets next → HasCause cause others next
 
 -- A header is told where STX has come, and nowhere else; and it is the one with which the octets begin.
--- twin: laws `texts_stand_between_stx_and_etx`, `trailers_stand_between_etx_and_eot`, `headers_are_told_from_stx`
 pub record TellsHeaderOf (reader : Option Place) (octets : List ℕ) : Type 0 where
   pub told : IsSome (head_read reader) ↔ IsTrue (list_any (λ b. b == stx) octets)
   pub parts : (head : Header) → (head_read reader ≡ Some head) ↔ BeginsWithHeader octets head

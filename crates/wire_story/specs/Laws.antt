@@ -62,7 +62,6 @@ abbrev pub LinesOfATextMakeOne : Type 0
 LinesOfATextMakeOne = (x : List ℕ) (lines : List (List ℕ)) → IsText x lines → MakeText lines
 
 -- The octets for lines, as they are delivered, are the lines joined by LF.
--- twin: laws `texts_are_delivered_as_lines`, `lines_are_joined_by_line_feeds`; "Lines that are written on are joined by LF"
 abbrev pub LinesAreJoinedByLineFeeds : Type 0
 LinesAreJoinedByLineFeeds = (lines : List (List ℕ)) → map octet_for (events_of_lines lines) ≡ join_with_byte lf lines
 

@@ -29,7 +29,6 @@ abbrev pub short_answer : ℕ → ℕ → IimAnswer
 short_answer written ticket = record (status_answer status.short) { written = written; ticket = ticket }
 
 -- the layers by their numbers
--- twin: `tells_each_value_as_it_is_written`, `checks_each_changed_octet_of_the_smallest_envelope`
 abbrev pub layer_number : Layer → ℕ
 layer_number Dataset = 1
 layer_number Record = 2

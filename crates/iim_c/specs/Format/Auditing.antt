@@ -20,7 +20,6 @@ abbrev pub padded : ℕ → List ℕ → List ℕ
 padded room octets = octets ++ replicate (room - length octets) 0
 
 -- the states of copy by their numbers
--- twin: `names_the_kinds_and_duties_as_the_header_does`, `tells_the_rows_of_the_samples_whatever_the_pieces`
 abbrev pub copy_number : CopyState → ℕ
 copy_number Free = 0
 copy_number Held = 1
@@ -28,7 +27,6 @@ copy_number Expired = 2
 
 -- The row of an envelope of so many octets, which begins at this offset of the input: what an audit's row tells of it but which earlier
 -- one it repeats, and the instants of its copy.
--- twin: `declares_each_struct_with_its_members`, `tells_the_rows_of_the_samples_whatever_the_pieces`
 pub record TellsRow (at octets : ℕ) (told : AuditRow) (release expires : Option ℤ) (row : IimAuditRow) : Type 0 where
   pub at_is : row.at ≡ at
   pub octets_are : row.octets ≡ octets

@@ -7,7 +7,6 @@ use Rattle.iim_c.specs.Format.Answers.{status_answer, refusal_answer, IimAnswer}
 use Rattle.iim_c.specs.Format.Statuses as status
 
 -- what is given, or else what stands for 0
--- twins (with limits_for): `tells_each_value_as_it_is_written`, `keeps_to_the_limits_that_are_given`
 abbrev pub given_or : ℕ → ℕ → ℕ
 given_or given other = if given == 0 then other else given
 
@@ -16,7 +15,6 @@ abbrev pub limits_for : IimLimits → Limits
 limits_for limits = record { octets = given_or limits.octets wire_limits.octets; fields = given_or limits.fields wire_limits.fields }
 
 -- the answer for the one of a stream
--- twin: `tells_each_value_as_it_is_written`
 abbrev pub answer_for : Answer → IimAnswer
 answer_for (Finished used value) = record (status_answer status.done) { octet = used; used = used }
 answer_for (Refused e) = refusal_answer status.refused e

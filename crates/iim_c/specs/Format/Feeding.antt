@@ -84,7 +84,6 @@ pub record Outcome : Type 0 where
   pub answer : IimAnswer
 
 -- the answer for so many octets of an envelope, and for so many that were used of the piece
--- twins (with IsAnswered): `tells_each_value_as_it_is_written`
 abbrev pub answer_with : (state octet used : ℕ) → Outcome → IimAnswer
 answer_with state octet used o = record (status_answer state) { octet = octet; used = used; written = length o.text; ticket = length o.next }
 
@@ -100,7 +99,6 @@ IsOutcome limits ticket at piece o =
     ⊎ ((o.text ≡ []) × (o.next ≡ []) × IsNowhere limits ticket o.answer)
 
 -- the most octets of a ticket, by the limits
--- no twin (with AreFew): bounds that are proved of the body, which has no such words
 abbrev pub most_of_ticket : Limits → ℕ
 most_of_ticket limits = limits.octets + 6 * limits.fields + 256
 

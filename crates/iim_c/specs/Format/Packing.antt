@@ -8,7 +8,6 @@ use Rattle.iim_c.specs.Format.Answers.{status_answer, IimAnswer}
 use Rattle.iim_c.specs.Format.Statuses as status
 
 -- what is asked for, as the command has it: 1,024 octets of a full subfile stand for 0
--- twin: `packs_as_the_command_does`
 abbrev pub asked_for : IimPacking → Asked
 asked_for p = asked (given_or p.subfile default_subfile) p.unknown (if p.has_max then Some p.max else None)
 

@@ -2,8 +2,6 @@
 use Rattle.std.specs.Prelude.{ℕ}
 
 -- all is done: an envelope has ended, or what was asked for is there
--- twins (with more, refused, truncated, none, short, no_memory, bad_ticket, bad_packing, bad_instant): `tells_each_value_as_it_is_written`,
---   `names_the_kinds_and_duties_as_the_header_does`
 abbrev pub done : ℕ
 done = 0
 

@@ -24,7 +24,6 @@ use Rattle.iim_script.specs.declared.fault.ScriptCause.TheVariants as script
 use Rattle.iim_places.specs.declared.refusal.Layer.TheVariants as layers
 
 -- the kinds by their numbers
--- twins (with duty_number): `tells_each_value_as_it_is_written`, `tells_the_tables`
 abbrev pub kind_number : Kind → ℕ
 kind_number Graphic = 1
 kind_number Spaced = 2
@@ -74,7 +73,6 @@ abbrev pub of_script : ScriptCause → List ℕ → CauseTold
 of_script cause text = told (script_words.cause_number cause) (script_words.cause_name cause) text
 
 -- the causes of octets, of memory and readers, of packing, of audits, of scripts and of tickets
--- twin: `tells_the_tables`, `tells_what_each_cause_means`
 unfoldable pub causes_told : List CauseTold
 causes_told =
     of_octets octets.Marker (codes "a tag doesn't begin with 1C")
@@ -137,7 +135,6 @@ abbrev pub name_in : List Layer → ℕ → Option (List ℕ)
 name_in names number = option_map layer_name (find (λ layer. layer_number layer == number) names)
 
 -- the layers
--- twins (with dataset_names): `tells_the_tables`
 unfoldable pub layer_names : List Layer
 layer_names = layers.Dataset ∷ layers.Record ∷ layers.Limits ∷ layers.Object ∷ layers.Message ∷ layers.Story ∷ layers.Outside ∷ []
 

@@ -76,7 +76,6 @@ abbrev pub TextStands : List ℕ → Split → ℕ → IimSpan → Type 0
 TextStands ticket s n span = StandAt ticket span (get_or s.texts n [])
 
 -- The part is this, and the texts stand where the message says.
--- twins (with IsObjectOf): `shows_the_samples_as_the_command_does`
 abbrev pub IsMessageOf : List ℕ → Split → IimMessage → Type 0
 IsMessageOf ticket s m =
     (m.part ≡ s.part) × TextStands ticket s 0 m.source × TextStands ticket s 1 m.number × TextStands ticket s 2 m.priority
@@ -137,7 +136,6 @@ kind_of_tag [] = 0
 kind_of_tag (x ∷ held) = 1
 
 -- the data of a dataset
--- twins (with ended): `names_the_kinds_and_duties_as_the_header_does`, `tells_the_place_after_each_front_of_both_worked_envelopes`
 abbrev pub in_data : ℕ
 in_data = 2
 
@@ -173,7 +171,6 @@ no_begun = record {
 -- What is begun in the record `section` after `at` octets, where those that the ticket keeps of it stand in this span. The first
 -- octet of a tag or of data lies as many octets back as have come of it. What the next octet belongs to begins there, too, but in a
 -- subfile, where each octet is looked at alone.
--- twins (with TellsBegun): `tells_the_place_after_each_front_of_both_worked_envelopes`
 abbrev pub begun_by : (at section : ℕ) → Phase → IimSpan → IimBegun
 begun_by at section (TagBegun held) span =
     record no_begun {
@@ -225,7 +222,6 @@ TellsBegun at (InData h taken) found =
     × (found.first ≡ at - length taken) × (found.token ≡ (if h.rec == 8 then at else at - length taken))
 
 -- The last dataset has ended: it is of record 9, and no other is begun.
--- no twin: no body has these words
 abbrev pub HaveEnded : List Dataset → Begun → Type 0
 HaveEnded whole (InTag held) = section_after whole ≡ 9
 HaveEnded whole (InData h taken) = ⊥
@@ -254,7 +250,6 @@ TellsToken p at found = (limits : Limits) (next : ℕ) (fault : TokenFault) → 
     → AreOctetsOf refused.token (drop found.token (p ++ next ∷ []))
 
 -- the bit of an octet in the 32 octets of a set: eight octets have their bits in each, the first of them the lowest
--- twins (with no_octets): `tells_the_octets_that_can_come_next`
 abbrev pub bit_of : List ℕ → ℕ → ℕ
 bit_of bits octet = bit_at (get_or bits (octet / 8) 0) (octet % 8)
 
@@ -272,7 +267,6 @@ pub record TellsNext (limits : Limits) (p : List ℕ) (next bit : ℕ) : Type 0 
   pub refused : (bit ≡ 0) ↔ ((fault : TokenFault) × Kills limits p next fault)
 
 -- Of all octets that have led to the ticket every layer can continue, and the bits tell by which next octet.
--- twin: `tells_the_octets_that_can_come_next`
 abbrev pub GoesOnBy : Limits → List ℕ → List ℕ → Type 0
 GoesOnBy limits ticket bits = IsSaid limits ticket 0 (λ p a. (next : ℕ) → next < 256 → TellsNext limits p next (bit_of bits next)) (λ p a. ⊥)
 

@@ -19,7 +19,6 @@ abbrev pub head_of : Dataset → Head
 head_of d = record { rec = d.rec; set = d.set; count = length d.octets }
 
 -- the most octets of an extended count after its first two (the profile's)
--- twins (with tag_octets): "Extended counts of one to eight octets", "Counts of no such form"; `reads_counts_of_up_to_eight_octets`
 abbrev pub count_octets : ℕ
 count_octets = 8
 
@@ -28,7 +27,6 @@ abbrev pub tag_octets : ℕ
 tag_octets = 5 + count_octets
 
 -- the tag marker, which each tag begins with
--- twins (with extended): "The octets that may come next", "Tags as they are written"
 abbrev pub tag_marker : ℕ
 tag_marker = 0x1c
 
@@ -37,7 +35,6 @@ abbrev pub extended : ℕ
 extended = 0x80
 
 -- The standard form of a count: two octets, of which the first is below 80h.
--- twins (with IsExtendedCount): "The octets that may come next": 00 to 80 as the fourth octet, 01 to 08 as the fifth
 abbrev pub IsStandardCount : ℕ → ℕ → ℕ → List ℕ → Type 0
 IsStandardCount count high low more = (high < extended) × IsOctet low × (more ≡ []) × (number (high ∷ low ∷ []) ≡ count)
 
@@ -52,7 +49,6 @@ SpellsCount limit count (high ∷ low ∷ more) = IsStandardCount count high low
 SpellsCount limit count fewer = ⊥
 
 -- A tag: the tag marker 1Ch, the record number, the dataset number and the count.
--- twins (with canonical_tag): "The octets that may come next", "Tags as they are written"
 pub record SpellsTag (limit : ℕ) (h : Head) (tag : List ℕ) : Type 0 where
   pub rec : IsOctet h.rec
   pub set : IsOctet h.set
@@ -76,12 +72,10 @@ SpellsStream limit (d ∷ ds) xs = (first : List ℕ) × (rest : List ℕ)
 -- ---- how a writer spells
 
 -- a number where its length is told beside it: four octets up to 4,294,967,295, above that eight, high octet first
--- twin: "Tags as they are written", "Numbers of record 7 have four octets up to 4,294,967,295"; `packs_great_sizes_in_eight_octets`
 abbrev pub written_number : ℕ → List ℕ
 written_number n = if nat_lt n (2 ^ 32) then big_bytes 4 n else big_bytes 8 n
 
 -- the canonical spelling of a count: two octets up to 32,767, above that an extended count, the number as it is written
--- twin: "Tags as they are written": 32,767 and 32,768; `writes_heads`
 abbrev pub canonical_count : ℕ → List ℕ
 canonical_count n = if nat_lt n 32768 then big_bytes 2 n else extended ∷ length (written_number n) ∷ written_number n
 
@@ -150,7 +144,6 @@ abbrev pub BeginsNoTag : ℕ → List ℕ → Type 0
 BeginsNoTag limit octets = (h : Head) (more : List ℕ) → SpellsTag limit h (octets ++ more) → ⊥
 
 -- The first octet of a tag is its marker, and those from the fourth on are its count.
--- twin: "Octets that begin no tag", "Counts of no such form"
 abbrev pub Concerns : HeadCause → ℕ → Type 0
 Concerns Marker at = at ≡ 0
 Concerns CountForm at = 3 ≤ at
@@ -169,7 +162,6 @@ pub record HasNoTag (octets : List ℕ) (fault : HeadFault) : Type 0 where
   pub cause : Concerns fault.cause fault.taken
 
 -- the digit of a number below 16: 0 to 9, A to F
--- twins (with escape, is_plain, shown_octet): "Octets as they are shown": each of the 256; `shows_each_octet`
 abbrev pub hex_digit : ℕ → ℕ
 hex_digit n = if nat_lt n 10 then digit_zero + n else capital_a - 10 + n
 
@@ -189,7 +181,6 @@ abbrev pub shown : List ℕ → List ℕ
 shown octets = flat_map shown_octet octets
 
 -- a 0 before a number of one digit
--- twins (with dataset_name): `knows_each_row` asks it of each number; "the numbers that were read are told": 2:105 and 2:05
 abbrev pub padding : ℕ → List ℕ
 padding n = if nat_lt n 10 then codes "0" else []
 
@@ -198,13 +189,11 @@ abbrev pub dataset_name : ℕ → ℕ → List ℕ
 dataset_name rec set = decimal rec ++ (codes ":" ++ (padding set ++ decimal set))
 
 -- a number in decimal digits, or - where there is none
--- twin: "The age is the greatest whole number of seconds", "There is none without a time"
 abbrev pub number_or_dash : Option ℕ → List ℕ
 number_or_dash None = codes "-"
 number_or_dash (Some n) = decimal n
 
 -- how faults of devices are printed
--- twin: `faults_are_printed`
 abbrev pub text_of_fault : IoFault → List ℕ
 text_of_fault Interrupted = codes "the device was interrupted"
 text_of_fault Failed = codes "the device failed"

@@ -4,7 +4,6 @@ use Rattle.iim_dataset.specs.declared.{fault.FaultCause.FaultCause, fault.Fault.
 use Rattle.iim_dataset.specs.declared.fault.FaultCause.TheVariants.{Marker, CountForm, Stopped}
 
 -- The number of a cause. Number 60 means that the sink stopped.
--- twins (with cause_name, cause_text, fault_text, stop_text): `faults_are_printed`
 abbrev pub cause_number : FaultCause → ℕ
 cause_number Marker = 1
 cause_number CountForm = 2

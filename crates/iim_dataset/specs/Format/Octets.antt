@@ -4,7 +4,6 @@ use Rattle.std.specs.List.{AllByRecursion}
 use Rattle.byteorder.specs.Endian.{big_number}
 
 -- an octet is a whole number from 0 to 255
--- no twin: the type of an octet says it
 abbrev pub IsOctet : ℕ → Type 0
 IsOctet b = b < 256
 
@@ -12,7 +11,6 @@ abbrev pub Octets : List ℕ → Type 0
 Octets xs = AllByRecursion IsOctet xs
 
 -- the unsigned binary number that the octets spell, high octet first
--- twin: "Numbers have one to eight octets, the high one first"; `reads_numbers`
 abbrev pub number : List ℕ → ℕ
 number xs = big_number (length xs) xs
 
@@ -21,12 +19,10 @@ abbrev pub IsProperPrefix : List ℕ → List ℕ → Type 0
 IsProperPrefix xs ys = (rest : List ℕ) × (0 < length rest) × (xs ++ rest ≡ ys)
 
 -- the greatest size of an object, in octets, and so the greatest count that a row allows (the profile's)
--- twin: "Sizes are at most 9,223,372,036,854,775,807"; `reads_subfiles_of_counts_in_eight_octets`, `reads_sizes_of_up_to_eight_octets`
 abbrev pub greatest_size : ℕ
 greatest_size = 9_223_372_036_854_775_807
 
 -- the greatest number of 32 bits
--- twins (with greatest_u64): "4,294,967,295 subfiles, and one more"; "The count of octets stays at the greatest number of 64 bits"
 abbrev pub greatest_u32 : ℕ
 greatest_u32 = 4_294_967_295
 
@@ -39,7 +35,6 @@ abbrev pub within : ℕ → ℕ → ℕ → Bool
 within low high b = nat_le low b && nat_le b high
 
 -- 0 to 9
--- twins (with is_letter): "The octets that alone are a value, by kind"
 abbrev pub is_digit : ℕ → Bool
 is_digit b = within 0x30 0x39 b
 
@@ -50,7 +45,6 @@ is_letter b = within 0x41 0x5a b || within 0x61 0x7a b
 -- ---- Octets by their names in ISO 646, and those of a few of its other characters.
 
 -- NUL, null
--- twins (with soh, stx, etx, eot, syn): "Each octet alone in each part", "Each octet in place of each octet of the smallest message"
 abbrev pub nul : ℕ
 nul = 0x00
 
@@ -71,7 +65,6 @@ abbrev pub eot : ℕ
 eot = 0x04
 
 -- HT, horizontal tabulation
--- twins (with lf, cr, sp): "The octets that may stand in a line": each of the 256; "Words are the longest runs in a line"
 abbrev pub tab : ℕ
 tab = 0x09
 
@@ -92,7 +85,6 @@ abbrev pub sp : ℕ
 sp = 0x20
 
 -- +
--- twins (with minus, digit_zero): "Times have hours up to 23", "Dates are days of the Gregorian calendar"
 abbrev pub plus : ℕ
 plus = 0x2b
 
@@ -105,8 +97,6 @@ abbrev pub digit_zero : ℕ
 digit_zero = 0x30
 
 -- :
--- twins (with capital_a, backslash, small_a, small_x): "Octets as they are shown": each of the 256; "Each digit of an escape, in either
---   case"; "The lines of the script of the smallest envelope"
 abbrev pub colon : ℕ
 colon = 0x3a
 
@@ -127,7 +117,6 @@ abbrev pub small_x : ℕ
 small_x = 0x78
 
 -- A count rose by one. Of a stored count that stands at the greatest number of 64 bits no rise is asked.
--- twin that nothing finds: no test counts so many faults
 abbrev pub Rose : ℕ → ℕ → Type 0
 Rose old new = (new ≡ old + 1) ⊎ ((2 ^ 64 ≤ new + 1) × (old ≤ new) × (new ≤ old + 1))
 

@@ -12,8 +12,6 @@ pub record Device : Type 0 where
   pub interruptions : ℕ
 
 -- the number of interruptions in a row that make a fault
--- twin: "Interruptions are borne up to 999,999"; `reader_at_a_million_interruptions`, `a_million_interruptions_are_a_failure`,
---   `a_failing_reader`
 abbrev pub max_interruptions : ℕ
 max_interruptions = 1000000
 
@@ -34,7 +32,6 @@ abbrev pub writer_device : {W : Type 0} → (W → Option (List ℕ)) → FromWr
 writer_device contents s = faulty (contents s.writer) s.faults
 
 -- A count rose by k at least.
--- twin that nothing finds: no test counts so many faults
 abbrev pub RoseAtLeast : ℕ → ℕ → ℕ → Type 0
 RoseAtLeast k old new = (old + k ≤ new) ⊎ (2 ^ 64 ≤ new + 1)
 
@@ -62,7 +59,6 @@ Broke old new = (Rose old.failures new.failures × (old.interruptions ≤ new.in
 -- ---- one call of a source or a target
 
 -- A fault moves no octet, and is counted.
--- twins (with Gave, Accepted): `faults_of_a_reader_of_std`, `faults_of_a_writer_of_std`, `a_full_writer_fails`
 abbrev pub Faulted : Device → Device → IoFault → Type 0
 Faulted old new Failed = Keeps old.octets new.octets × CountedFailure old new
 Faulted old new Interrupted = Keeps old.octets new.octets × CountedInterruption old new

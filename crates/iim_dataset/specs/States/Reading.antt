@@ -14,7 +14,6 @@ pub data DatasetEvent : Type 0 where
   DatasetEnd : DatasetEvent
 
 -- Of a whole dataset: its head, its data and its end.
--- twin: "Three datasets, of a standard count"
 abbrev pub events_of : Dataset → List DatasetEvent
 events_of d = HeadRead (head_of d) ∷ (map DataOctet d.octets ++ DatasetEnd ∷ [])
 
@@ -49,7 +48,6 @@ to_come (Tag held) = None
 to_come (Inside h left) = Some left
 
 -- the record and the number that the octets of a tag tell, each 0 while it is unread
--- twin: "The numbers of the dataset that is begun"
 abbrev pub named_by : DatasetPlace → ℕ × ℕ
 named_by (Tag held) = (get_or held.items 1 0, get_or held.items 2 0)
 named_by (Inside h left) = (h.rec, h.set)
@@ -86,7 +84,6 @@ pub record TellsSink {D : Type 0} (goes : D → List DatasetEvent → D → Type
 -- ---- refusals
 
 -- why no tag can continue
--- twin: "Octets that begin no tag", "Counts of no such form"
 abbrev pub tag_cause_of : FaultCause → Option HeadCause
 tag_cause_of Marker = Some tags.Marker
 tag_cause_of CountForm = Some tags.CountForm

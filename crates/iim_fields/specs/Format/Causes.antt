@@ -40,8 +40,6 @@ abbrev pub fault_on : Head → FieldCause → FieldFault
 fault_on h cause = record { rec = h.rec; set = h.set; cause = cause }
 
 -- The head has no row; its dataset doesn't repeat and has occurred; its count is outside the row's bounds.
--- twins (with head_fault): law `heads_tell_the_lowest_cause`; "A head out of order is told before all else", "Of several causes of a row
---   the lowest is told"
 abbrev pub row_fault : Bool → Option Row → Head → Option FieldFault
 row_fault again None h = Some (fault_on h UnknownDataset)
 row_fault again (Some r) h =
@@ -50,7 +48,6 @@ row_fault again (Some r) h =
     else None
 
 -- the lowest number that is missing, where one is
--- twins (with missing_of): "Of several missing datasets that of the lowest number is named"
 abbrev pub missing_fault : ℕ → Option ℕ → Option FieldFault
 missing_fault present number = option_map (λ n. record { rec = present; set = n; cause = Missing }) number
 
@@ -68,12 +65,10 @@ head_fault present has h =
     (if is_first h.rec (after present) then missing_fault present (missing_of present has) else None)
 
 -- the first fault of a head after datasets
--- twins (with limits_fault, first_fault): law `heads_tell_the_lowest_cause`; "The record layer is told before the limits"
 abbrev pub record_fault : List Dataset → Head → Option FieldFault
 record_fault ds h = head_fault (section_after ds) (λ n. occurs n (section_run ds)) h
 
 -- The octets are not as the row says; a file format is not 2.
--- twins (with value_fault): law `values_tell_the_lowest_cause`; "Values: the file format"
 abbrev pub fault_by_row : Option Row → Dataset → Option FieldFault
 fault_by_row None d = Some (fault_on (head_of d) BadValue)
 fault_by_row (Some r) d =
@@ -88,7 +83,6 @@ value_fault d = fault_by_row (row_of d.rec d.set) d
 -- ---- the limits
 
 -- records 1 and 2 are kept
--- twin: "All datasets are taken, and those of records 1 and 2 kept in their order"
 abbrev pub is_kept : ℕ → Bool
 is_kept rec = rec == 1 || rec == 2
 
@@ -105,7 +99,6 @@ abbrev pub kept_octets : List Dataset → ℕ
 kept_octets ds = length (joined (kept ds))
 
 -- The first limit that `octets` kept octets and `fields` kept datasets pass.
--- twins (with room_fault): "The limits are 78 octets and 16 datasets", "Limits: 78 octets in 16 datasets"
 abbrev pub limit_passed : Limits → ℕ → ℕ → Option FieldCause
 limit_passed limits octets fields =
     if not (nat_le octets limits.octets) then Some HeaderFull
@@ -143,8 +136,6 @@ abbrev pub BeginsNext : List Dataset → Head → Type 0
 BeginsNext ds h = (later : List ℕ) × (after (section_after ds) ≡ h.rec ∷ later)
 
 -- The head's record is neither the present one, that of the last dataset, nor the next.
--- twins (with HasNoRow, IsRepeated, IsOutOfRange, EndsTooEarly): law `heads_tell_the_lowest_cause`; "A head out of order is told before all
---   else", "Of several causes of a row the lowest is told"
 abbrev pub IsOutOfOrder : List Dataset → Head → Type 0
 IsOutOfOrder ds h = (((h.rec ≢ 0) × (h.rec ≡ section_after ds)) ⊎ BeginsNext ds h) → ⊥
 
@@ -174,12 +165,10 @@ abbrev pub IsBad : Dataset → Type 0
 IsBad d = Meets d.rec d.set d.octets → ⊥
 
 -- It is 1:20 File Format, and its value is not 2.
--- twin: law `values_tell_the_lowest_cause`; "Values: the file format"
 abbrev pub IsOtherFormat : Dataset → Type 0
 IsOtherFormat d = (d.rec ≡ 1) × (d.set ≡ 20) × (number d.octets ≢ 2)
 
 -- The head is of record 1 or 2, and the kept data with its count pass the limit.
--- twins (with PassesFields): "The limits are 78 octets and 16 datasets", "Limits: 78 octets in 16 datasets"
 abbrev pub PassesOctets : Limits → List Dataset → Head → Type 0
 PassesOctets limits ds h = IsTrue (is_kept h.rec) × (limits.octets < kept_octets ds + h.count)
 
@@ -205,7 +194,6 @@ pub record Rule : Type 1 where
   pub name : List ℕ
   pub holds : Limits → List Dataset → Token → Type 0
 
--- twin: laws `heads_tell_the_lowest_cause`, `values_tell_the_lowest_cause`; `names_each_cause`
 abbrev pub rule_of : FieldCause → Rule
 rule_of RecordOrder = record { number = 10; name = codes "RecordOrder"; holds = λ limits ds. OfHead (IsOutOfOrder ds) }
 rule_of UnknownDataset = record { number = 11; name = codes "UnknownDataset"; holds = λ limits ds. OfHead HasNoRow }
@@ -249,12 +237,10 @@ abbrev pub name_of_cause : FieldCause → List ℕ
 name_of_cause cause = (rule_of cause).name
 
 -- a cause's number and name, as they are printed
--- twin: `names_each_cause`
 abbrev pub text_of_cause : FieldCause → List ℕ
 text_of_cause cause = decimal (number_of_cause cause) ++ (codes " " ++ name_of_cause cause)
 
 -- a dataset that is refused, and the cause
--- twins (with number_of_copy, name_of_copy, text_of_copy): `faults_are_printed`
 abbrev pub text_of_field : FieldFault → List ℕ
 text_of_field fault = codes "refused on " ++ (dataset_name fault.rec fault.set ++ (codes ", cause " ++ text_of_cause fault.cause))
 

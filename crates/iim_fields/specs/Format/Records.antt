@@ -9,7 +9,6 @@ use Rattle.iim_tables.specs.Format.{Records.IsGoodRecord, Dates.instant_in}
 use Rattle.iim_fields.specs.declared.limits.Limits.{Limits}
 
 -- the records of an envelope, in their order
--- twins (with after): "A head out of order is told before all else", "Records: the present one or the next"
 abbrev pub records : List ℕ
 records = 1 ∷ 2 ∷ 7 ∷ 8 ∷ 9 ∷ []
 
@@ -27,7 +26,6 @@ abbrev pub AreSections : List Dataset → Type 0
 AreSections ds = AreRecords records ds
 
 -- The datasets are a good record 1 and then a good record 2.
--- twin: "Datasets that are added or refused"; `tells_what_is_wrong_with_a_script`
 pub record IsEnvelope (ds : List Dataset) : Type 0 where
   pub r1 : List Dataset
   pub r2 : List Dataset
@@ -48,7 +46,6 @@ abbrev pub data_of : Head → List ℕ → Dataset
 data_of h xs = record { rec = h.rec; set = h.set; octets = xs }
 
 -- records 7 and 9 tell numbers
--- twins (with number_told): "Those of 7 and 9 tell numbers", "Numbers of eight octets, and those that are too great"
 abbrev pub tells_number : ℕ → Bool
 tells_number rec = rec == 7 || rec == 9
 
@@ -62,7 +59,6 @@ pub record IsWithin (limits : Limits) (octets fields : ℕ) : Type 0 where
   pub fields_in : fields ≤ limits.fields
 
 -- what the records 1 and 2 of an envelope may have where wire copy is taken: 65,536 octets in 512 datasets
--- twin: `limits_of_wire_copy`, `keeps_so_much_of_records_one_and_two`, `keeps_so_much_of_a_script`
 abbrev pub wire_limits : Limits
 wire_limits = record { octets = 65536; fields = 512 }
 
@@ -77,8 +73,6 @@ abbrev pub text_eq : List ℕ → List ℕ → Bool
 text_eq = pointwise nat_eq
 
 -- The first octet that differs decides, or else the shorter text is first.
--- twins (with id_eq, id_cmp): "Ids in order: by service, then by number, then by date"; "A repeated one names the first of the same
---   service, number and day"
 abbrev pub text_cmp : List ℕ → List ℕ → Ordering
 text_cmp = slice_cmp nat_cmp
 
@@ -95,7 +89,6 @@ abbrev pub has_names : ℕ → ℕ → Dataset → Bool
 has_names rec set d = d.rec == rec && d.set == set
 
 -- the data of each dataset with the numbers, in order
--- twins (with first_data): "Each view has a dataset of its own"
 abbrev pub all_data : ℕ → ℕ → List Dataset → List (List ℕ)
 all_data rec set ds = map (λ d. d.octets) (filter (has_names rec set) ds)
 
@@ -111,16 +104,13 @@ instant_of_pair rec date_set time_set absent ds =
     option_and_then (λ date. option_and_then (λ time. instant_in date time) (option_or (first_data rec time_set ds) absent)) (first_data rec date_set ds)
 
 -- the instant of 1:70 Date Sent and 1:80 Time Sent, in nanoseconds, where both were sent and name one
--- twin: "The instant sent is the date sent and the time sent"
 abbrev pub instant_sent : List Dataset → Option ℤ
 instant_sent ds = instant_of_pair 1 70 80 None ds
 
 -- the instant of 2:30 Release Date and 2:35 Release Time, or of that day's beginning
--- twin: "Release and expiration by their dates alone", "By date and time, less the offset"; `tells_copy_that_is_held`
 abbrev pub instant_of_release : List Dataset → Option ℤ
 instant_of_release ds = instant_of_pair 2 30 35 (Some (codes "000000+0000")) ds
 
 -- the instant of 2:37 Expiration Date and 2:38 Expiration Time, or of that day's last second
--- twin: "Release and expiration by their dates alone", "By date and time, less the offset"; `tells_copy_that_has_expired`
 abbrev pub instant_of_expiration : List Dataset → Option ℤ
 instant_of_expiration ds = instant_of_pair 2 37 38 (Some (codes "235959+0000")) ds

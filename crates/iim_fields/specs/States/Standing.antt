@@ -18,7 +18,6 @@ abbrev pub has_seen : Order → ℕ → Bool
 has_seen o n = slice_index_or o.seen n false
 
 -- It has the present record of the datasets, and, in a place for each of 256 numbers, which occurred in it.
--- no twin: its clause `seen` compares with `occurs`, which counts the datasets; `knows_each_row` asks of all numbers
 pub record IsOrderOf (o : Order) (ds : List Dataset) : Type 0 where
   pub places : length o.seen ≡ 256
   pub present : o.rec ≡ section_after ds
@@ -27,8 +26,6 @@ pub record IsOrderOf (o : Order) (ds : List Dataset) : Type 0 where
 -- ---- a check, from outside: its place, or None after a refusal
 
 -- No value of a begun dataset is to come: none is begun, or a subfile, whose data are no matter of records.
--- twins (with TakesValue, IsChecking, HasTaken, IsValueFault): "Before the first octet, and an envelope in one piece": another record would
---   have its values unread
 abbrev pub AwaitsNone : Option Begun → Type 0
 AwaitsNone None = ⊤
 AwaitsNone (Some begun) = begun.head.rec ≡ 8
@@ -109,7 +106,6 @@ section_at None = 0
 section_at (Some place) = place.order.rec
 
 -- The last record has ended.
--- twin: law `envelopes_end_with_the_last_record`; "After the end of an envelope no octet is used"
 pub record HasEnded (check : Option RecordPlace) : Type 0 where
   pub order : Order
   pub between : check ≡ Some (record { order = order; begun = None })
@@ -160,8 +156,6 @@ abbrev pub IsBetween : FieldsPlace → Type 0
 IsBetween fields = AwaitsHead fields.check
 
 -- It has taken this head, and n octets of its data are still to come. Those of a subfile do not pass here.
--- twins (with CanTake, CanClose, StandsIn, IsOf): "Before the first octet, and an envelope in one piece": another record would have its
---   values unread
 pub record IsInside (fields : FieldsPlace) (h : Head) (n : ℕ) : Type 0 where
   pub head : IsIn fields.check h
   pub to_come : h.rec ≢ 8 → length fields.taken + n ≡ h.count
@@ -245,14 +239,12 @@ pub record Building : Type 0 where
   pub room : Room
 
 -- The first fault of a dataset that is added: its record is neither 1 nor 2, or else the fault of its head, or else of its value.
--- twin: "Datasets that are added or refused"; `tells_what_is_wrong_with_a_script`
 abbrev pub add_fault : Limits → List Dataset → Dataset → Option FieldFault
 add_fault limits ds d =
     if not (is_kept d.rec) then Some (fault_on (head_of d) RecordOrder)
     else option_or (first_fault limits ds (head_of d)) (value_fault d)
 
 -- the lowest mandatory number of the record that is absent
--- twins (with finish_fault): "Each mandatory dataset of record 1 is missed", "2:00 is missed at the end"
 abbrev pub absent : ℕ → List Dataset → Option FieldFault
 absent r ds = missing_fault r (missing_of r (λ n. occurs n (of_record r ds)))
 
@@ -261,13 +253,11 @@ abbrev pub finish_fault : List Dataset → Option FieldFault
 finish_fault ds = option_or (absent 1 ds) (absent 2 ds)
 
 -- They are no more than limits can allow, and have no more octets.
--- no twin: no code has these words
 pub record AreFew (ds : List Dataset) : Type 0 where
   pub datasets : length ds < 2 ^ 32
   pub octets : length (joined ds) < 2 ^ 32
 
 -- the first limit that all these datasets pass: that on octets, or else that on their number
--- twins (with IsCopyFault): `envelopes_are_copied_within_other_limits`
 abbrev pub passed_by : Limits → List Dataset → Option FieldCause
 passed_by limits ds = limit_passed limits (length (joined ds)) (length ds)
 

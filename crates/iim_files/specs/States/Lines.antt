@@ -5,7 +5,6 @@ use mathlib.Core.Bool.{beq}
 use Rattle.iim_dataset.specs.{Format.Octets.lf, States.Devices.Device}
 use Rattle.iim_files.specs.Format.{begins_line, prefixed}
 
--- twins (with own, before, text_of, started, seen_octets, is_laid, seen_of, ended): `shows_several_files`, `tells_stories_of_several_files`
 -- the octets without those of prefixes: the first `skip` are such, and the first `size` after each LF
 abbrev pub stripped : ℕ → ℕ → List ℕ → List ℕ
 stripped size skip [] = []

@@ -10,7 +10,6 @@ use Rattle.iim_commands.specs.Format.{Ran}
 use Rattle.iim_files.specs.States.Seen.{IsFinished, fresh_device}
 
 -- what each line begins with: the printed name, a colon and a space
--- twin: `checks_several_files`, `shows_names_of_several_files`
 abbrev pub line_prefix : List ℕ → List ℕ
 line_prefix name = shown_name name ++ codes ": "
 
@@ -40,13 +39,11 @@ abbrev pub IsTold : List ℕ → Device → Device → Type 0
 IsTold line old new = Wrote old new line ⊎ ((n : ℕ) × Stopped old new line n)
 
 -- the line that a file can't be opened, or that memory was refused for it
--- twin: `goes_on_after_a_file_that_can_t_be_opened`
 abbrev pub unopened_line : List ℕ → Bool → List ℕ
 unopened_line name starved =
     line_prefix name ++ (if starved then fault_line OutOfMemory else codes "cannot open " ++ (shown_name name ++ codes "\n"))
 
 -- the same of a name that is no text
--- twins (with untext_line): `goes_on_after_a_name_that_is_no_text`
 abbrev pub untext_prefix : List ℕ → List ℕ
 untext_prefix name = shown name ++ codes ": "
 

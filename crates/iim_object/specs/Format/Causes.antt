@@ -8,7 +8,6 @@ use Rattle.iim_object.specs.declared.writing.cause.PackCause.TheVariants.{OutOfM
 use Rattle.iim_object.specs.declared.{reading.fault.SizeCause.SizeCause, reading.fault.ObjectFault.ObjectFault}
 use Rattle.iim_object.specs.declared.{writing.cause.PackCause.PackCause}
 
--- twin: "Each cause of sizes, and of a packer"; `names_each_cause`
 abbrev pub number_of : SizeCause → ℕ
 number_of ModeClash = 20
 number_of SizeClash = 21
@@ -22,8 +21,6 @@ abbrev pub stated_with : Place → ℕ → ℕ → List Stated
 stated_with p set n = p.stated ++ record { set = set; number = n } ∷ []
 
 -- The total passes the greatest size, what is announced, or the maximum.
--- twins (with HasCause): law `objects_die_for_causes`; "Mode 0 with an announced size", "The subfiles pass the announced size", "The object
---   ends short"
 abbrev pub PassesBound : List Stated → ℕ → Type 0
 PassesBound ps total = (greatest_size < total)
     ⊎ (((announced : ℕ) × (number_at 90 ps ≡ Some announced) × (announced < total))
@@ -61,7 +58,6 @@ is_above (Some a) (Some m) = nat_lt m a
 is_above announced maximum = false
 
 -- of a number of record 7: mode 0 with an announced size; an announced size above the maximum
--- twins (with subfile_cause, end_cause, confirmed_cause, cause_at): law `causes_are_the_first`; "Two causes at one token, or three"
 abbrev pub number_cause : Option ℕ → Option ℕ → Option ℕ → Option SizeCause
 number_cause mode announced maximum =
     if is_given mode 0 && is_some announced then Some ModeClash
@@ -69,7 +65,6 @@ number_cause mode announced maximum =
     else None
 
 -- the least of the greatest size, the announced one where given and the maximum where given
--- twin: law `objects_die_for_causes`; "Mode 0 with an announced size", "The subfiles pass the announced size", "The object ends short"
 abbrev pub bound : Option ℕ → Option ℕ → ℕ
 bound announced maximum = min (unwrap_or announced greatest_size) (unwrap_or maximum greatest_size)
 
@@ -101,7 +96,6 @@ cause_at p (SubfileBegun count) = subfile_cause (number_at 10 p.stated) (number_
 cause_at p ObjectEnded = end_cause (number_at 90 p.stated) (sum p.lengths)
 cause_at p (Confirmed n) = confirmed_cause (sum p.lengths) n
 
--- twins (with text_of): "Each cause of sizes, and of a packer"; `names_each_cause`
 abbrev pub name_of : SizeCause → List ℕ
 name_of ModeClash = codes "ModeClash"
 name_of SizeClash = codes "SizeClash"
@@ -115,7 +109,6 @@ abbrev pub text_of : SizeCause → List ℕ
 text_of cause = decimal (number_of cause) ++ (codes " " ++ name_of cause)
 
 -- That the sink stopped is cause 60.
--- twins (with fault_name, fault_text): `faults_are_printed`
 abbrev pub fault_number : ObjectFault → ℕ
 fault_number (Size cause) = number_of cause
 fault_number (Stopped stop) = 60
@@ -127,7 +120,6 @@ fault_name (Stopped stop) = codes "Sink"
 abbrev pub fault_text : ObjectFault → List ℕ
 fault_text fault = decimal (fault_number fault) ++ (codes " " ++ fault_name fault)
 
--- twins (with pack_name, pack_text): "Each cause of sizes, and of a packer"; `names_each_cause`
 abbrev pub pack_number : PackCause → ℕ
 pack_number OutOfMemory = 70
 pack_number PastAnnounced = 80
@@ -151,6 +143,5 @@ abbrev pub pack_text : PackCause → List ℕ
 pack_text cause = decimal (pack_number cause) ++ (codes " " ++ pack_name cause)
 
 -- A cause, and the number of octets written, as they are printed.
--- twin: `faults_are_printed`
 abbrev pub start_text : PackCause → ℕ → List ℕ
 start_text cause written = codes "cause " ++ (pack_text cause ++ (codes ", octets written " ++ decimal written))

@@ -18,7 +18,6 @@ number_at set (p ∷ ps) = cond (p.set == set) (Some p.number) (number_at set ps
 
 -- A number is one that the row of its dataset allows: 7:10 Size Mode 0 or 1, 7:20 from 1 on, and 7:20, 7:90 and 7:95 up to
 -- the greatest size of an object.
--- twin: "No tokens lead to numbers that no row allows", "Sizes are at most 9,223,372,036,854,775,807"
 abbrev pub InRow : Stated → Type 0
 InRow p = ((p.set ≡ 10) × (p.number ≤ 1)) ⊎ (((p.set ≡ 20) × (1 ≤ p.number) × (p.number ≤ greatest_size)) ⊎ (((p.set ≡ 90) ⊎ (p.set ≡ 95)) × (p.number ≤ greatest_size)))
 
@@ -32,13 +31,11 @@ pub record AreStated (ps : List Stated) : Type 0 where
   pub each : AllByRecursion InRow ps
   pub once : AreOnce ps
 
--- twin: "Mode 0 with an announced size", "Objects that are written"
 abbrev pub mode_number : Bool → ℕ
 mode_number true = 1
 mode_number false = 0
 
 -- what is said of an object: by record 7, and by subfiles of these lengths
--- twins (with Agree): "Objects by their tokens", "No known size: subfiles of no octets too", "The confirmed size"
 abbrev pub sizes_at : Bool → ℕ → List Stated → List ℕ → Sizes
 sizes_at known subfile ps lengths = record { known = known; subfile = subfile; announced = number_at 90 ps; maximum = number_at 95 ps; subfiles = length lengths; total = sum lengths }
 
@@ -56,12 +53,10 @@ pub record Agree (s : Sizes) (lengths : List ℕ) (confirmed : ℕ) : Type 0 whe
 -- ---- Plans of objects.
 
 -- the most subfiles of one envelope
--- twin: "4,294,967,295 subfiles, and one more"; `refuses_one_subfile_too_many`
 abbrev pub max_subfiles : ℕ
 max_subfiles = greatest_u32
 
 -- the most octets of record 7: 7:10, 7:20, and 7:90 or 7:95
--- no twin (with most_out): no answer depends on them; sums past their types would not be proved
 abbrev pub most_sizes : ℕ
 most_sizes = 6 + 2 * tag_octets
 
@@ -70,8 +65,6 @@ abbrev pub most_out : ℕ
 most_out = 2 ^ 63 + 2 ^ 40
 
 -- the most octets that subfiles of `subfile` octets hold
--- twins (with fits, is_plan, limit_of, bound_of): law `subfiles_are_few`; "Plans: the bound is the known size", "Plans: the most octets of
---   an object"
 abbrev pub most_in : ℕ → ℕ
 most_in subfile = subfile * max_subfiles
 
@@ -104,7 +97,6 @@ abbrev pub bound_of : ℕ → Size → ℕ
 bound_of subfile size = min (limit_of size) (most_in subfile)
 
 -- the object is below a known size
--- twin: "Octets past the bound change nothing", "Writers that take an octet a call and then fail"; `causes_and_their_order`
 abbrev pub is_short : Size → ℕ → Bool
 is_short (Known n) total = nat_lt total n
 is_short (Unknown most) total = false
@@ -121,7 +113,6 @@ number_tokens ps = map (λ p. NumberRead p.set p.number) ps
 
 -- The language of the object layer, by numbers and lengths: the numbers of record 7, of which mode and largest subfile are
 -- two, one subfile or more, and the confirmed size, so that the sizes agree.
--- twin: "Objects by their tokens", "No known size: subfiles of no octets too", "The confirmed size"
 pub record ObjectLanguage (tokens : List ObjectToken) : Type 0 where
   pub stated : List Stated
   pub lengths : List ℕ
@@ -136,7 +127,6 @@ pub record ObjectLanguage (tokens : List ObjectToken) : Type 0 where
   pub tokens_are : tokens ≡ number_tokens stated ++ (map SubfileBegun lengths ++ (ObjectEnded ∷ Confirmed confirmed ∷ []))
 
 -- Records 7, 8 and 9 in this order, each good, after datasets of the records before them.
--- twin: "Before the first octet, and an envelope in one piece", "Sizes: the mode"
 pub record AreObjectRecords (ds : List Dataset) : Type 0 where
   pub before : List Dataset
   pub r7 : List Dataset
@@ -157,7 +147,6 @@ lengths_of ds = map (λ d. length d.octets) ds
 
 -- The sizes are what the records state: the numbers of record 7, how many subfiles there are, and the sum of their lengths.
 -- They agree with one another, with each subfile, and with the number of 9:10.
--- twin: "Objects by their tokens", "No known size: subfiles of no octets too", "The confirmed size"
 pub record HaveSizes (r7 r8 r9 : List Dataset) (s : Sizes) : Type 0 where
   pub mode : number_at 10 (numbers_of r7) ≡ Some (mode_number s.known)
   pub largest : number_at 20 (numbers_of r7) ≡ Some s.subfile
@@ -199,14 +188,12 @@ place_after p ObjectEnded = record p { ending = Ended }
 place_after p (Confirmed n) = record p { ending = ConfirmedAs n }
 
 -- Mode and largest subfile are stated.
--- twin: "Nor to subfiles before the mode"
 abbrev pub HasBoth : List Stated → Type 0
 HasBoth ps = (is_some (number_at 10 ps) ≡ true) × (is_some (number_at 20 ps) ≡ true)
 
 -- The record layer has admitted the token, and the limits too: numbers of record 7 that meet their rows, none twice, come
 -- before the subfiles; these come after mode and largest subfile, and not too many; the end after one subfile at least; and
 -- the confirmed size after the end.
--- twin: "4,294,967,295 subfiles, and one more"; `refuses_one_subfile_too_many`
 abbrev pub MayFollow : Place → ObjectToken → Type 0
 MayFollow p (NumberRead set n) = (p.ending ≡ NotEnded) × (p.lengths ≡ []) × AreStated (p.stated ++ record { set = set; number = n } ∷ [])
 MayFollow p (SubfileBegun count) = (p.ending ≡ NotEnded) × HasBoth p.stated × (length p.lengths < max_subfiles)
@@ -218,7 +205,6 @@ abbrev pub place_start : Place
 place_start = record { stated = []; lengths = []; ending = NotEnded }
 
 -- the token of a value: the confirmed size of record 9, or a number of record 7
--- twins (with head_token): "Objects by their tokens", "The numbers that have come, the sizes"
 abbrev pub value_token : ℕ → ℕ → ℕ → ObjectToken
 value_token rec set n = if rec == 9 then Confirmed n else NumberRead set n
 
@@ -232,7 +218,6 @@ ending_of [] = NotEnded
 ending_of (d ∷ ds) = ConfirmedAs (number d.octets)
 
 -- the place after datasets: the numbers of record 7, the lengths of record 8, and the number of record 9
--- twin: "Before the first octet, and an envelope in one piece", "Sizes: the mode"
 abbrev pub place_after_datasets : List Dataset → Place
 place_after_datasets ds = record { stated = numbers_of (of_record 7 ds); lengths = lengths_of (of_record 8 ds); ending = ending_of (of_record 9 ds) }
 

@@ -13,7 +13,6 @@ abbrev pub AreFull : ℕ → List (List ℕ) → Type 0
 AreFull size parts = AllByRecursion (λ part. length part ≡ size) parts
 
 -- The object is cut into full parts of `size` octets, and a last one of 1 up to as many. An empty object is one empty part.
--- twin: law `objects_are_cut_one_way`; "A full subfile goes out when another octet comes", "No octets are one empty subfile"
 pub record IsCut (size : ℕ) (object : List ℕ) (parts : List (List ℕ)) : Type 0 where
   pub full : List (List ℕ)
   pub last : List ℕ
@@ -26,7 +25,6 @@ pub record IsCut (size : ℕ) (object : List ℕ) (parts : List (List ℕ)) : Ty
 -- ---- What a packer writes of an object by a plan: record 7, the subfiles and record 9.
 
 -- a dataset whose value is this number
--- twins (with subfile_dataset, confirmed_datasets): "Objects that are written"; `packs_by_every_small_plan_and_gives_back_what_was_packed`
 abbrev pub number_dataset : ℕ → ℕ → ℕ → Dataset
 number_dataset rec set n = record { rec = rec; set = set; octets = written_number n }
 
@@ -34,8 +32,6 @@ abbrev pub is_known : Size → Bool
 is_known size = is_some (announced_of size)
 
 -- 7:90 for a known size, 7:95 for a maximum
--- twins (with plan_datasets): "Objects that are written", "No known size: with a maximum and without";
---   `packs_by_every_small_plan_and_gives_back_what_was_packed`
 abbrev pub size_datasets : Size → List Dataset
 size_datasets (Known n) = number_dataset 7 90 n ∷ []
 size_datasets (Unknown (Some most)) = number_dataset 7 95 most ∷ []

@@ -14,7 +14,6 @@ abbrev pub set_where : ℕ → ℕ → ℕ → Option ℕ → Option ℕ
 set_where wanted set number old = if set == wanted then Some number else old
 
 -- with the number of a dataset of record 7
--- twin: "Readers put where tokens lead", "The numbers that have come, the sizes"
 abbrev pub state_with : State → ℕ → ℕ → State
 state_with s set number = record s {
   mode = set_where 10 set number s.mode;
@@ -24,7 +23,6 @@ state_with s set number = record s {
 }
 
 -- A number of record 7 may come: no subfile has come, and its row allows the number.
--- no twin (with TakesSubfile, FitsNumber, FitsSubfile): by `LeadsOn` and `Refuses` the calls are held to `MayFollow` and `ObjectLanguage`
 abbrev pub TakesNumber : State → ℕ → ℕ → Type 0
 TakesNumber s set number = (s.subfiles ≡ 0) × InRow (record { set = set; number = number })
 
@@ -50,13 +48,11 @@ abbrev pub AcceptsSubfile : Option State → ℕ → Type 0
 AcceptsSubfile reader count = (s : State) → reader ≡ Some s → FitsSubfile s count
 
 -- the numbers of 7:10, 7:20, 7:90 and 7:95
--- twin: "Readers put where tokens lead", "The numbers that have come, the sizes"
 abbrev pub state_numbers : State → List (Option ℕ)
 state_numbers s = s.mode ∷ s.subfile ∷ s.announced ∷ s.maximum ∷ []
 
 -- The numbers of record 7 that have come are ones that their rows allow. A size that isn't known is not announced, and the
 -- announced size is at most the maximum.
--- twin: "No tokens lead to numbers that no row allows", "Sizes are at most 9,223,372,036,854,775,807"
 pub record HasNumbers (s : State) : Type 0 where
   pub mode : IfSome s.mode (λ n. n ≤ 1)
   pub largest : IfSome s.subfile (λ n. (1 ≤ n) × (n ≤ greatest_size))
@@ -84,7 +80,6 @@ pub record IsState (s : State) : Type 0 where
 -- ---- Where a reader of objects stands, and why it refuses a token.
 
 -- The state has the numbers of the place, how many subfiles there are and their octets together.
--- twins (with IsSizes): "Readers put where tokens lead", "The numbers that have come, the sizes"
 pub record IsStateAt (s : State) (p : Place) : Type 0 where
   pub mode : s.mode ≡ number_at 10 p.stated
   pub largest : s.subfile ≡ number_at 20 p.stated
@@ -134,7 +129,6 @@ RefusesValue old token (Size cause) = Refuses old token cause
 RefusesValue old token (Stopped stop) = ⊥
 
 -- what the sink is told at a head: the end of the object at record 9
--- twin: "Objects by their tokens", "The numbers that have come, the sizes"
 abbrev pub events_at : ℕ → List ObjectEvent
 events_at rec = if rec == 9 then ObjectEnd ∷ [] else []
 
@@ -156,7 +150,6 @@ IsSizes p s = (known : Bool) × (subfile : ℕ) × (number_at 10 p.stated ≡ So
     × (s ≡ sizes_at known subfile p.stated p.lengths)
 
 -- the numbers of 7:10, 7:20, 7:90 and 7:95, each where it is stated
--- twin: "Readers put where tokens lead", "The numbers that have come, the sizes"
 abbrev pub stated_numbers : List Stated → List (Option ℕ)
 stated_numbers ps = number_at 10 ps ∷ number_at 20 ps ∷ number_at 90 ps ∷ number_at 95 ps ∷ []
 

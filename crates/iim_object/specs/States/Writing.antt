@@ -24,7 +24,6 @@ abbrev pub most_of : Plan → ℕ
 most_of plan = bound_of plan.subfile plan.size
 
 -- how many octets the plan's writer may hold: the lesser of a subfile and the bound
--- twin: `buffers_have_room_for_the_lesser_of_subfile_and_bound`, `takes_memory_for_a_subfile_of_an_unknown_size`
 abbrev pub room_of : Plan → ℕ
 room_of plan = min plan.subfile (most_of plan)
 
@@ -102,7 +101,6 @@ pub record Finishes {W : Type 0} (state : W → Device) (old : Writing W) (write
 -- ---- causes
 
 -- an object of so many octets passes the plan's bound
--- twin: "A maximum that is met exactly, and an octet more or less"
 abbrev pub passes_plan : Plan → ℕ → Bool
 passes_plan plan octets = not (nat_le octets (most_of plan))
 
@@ -115,8 +113,6 @@ abbrev pub IsBelowKnown : Plan → ℕ → Type 0
 IsBelowKnown plan octets = (n : ℕ) × (plan.size ≡ Known n) × (octets < n)
 
 -- The first cause against n octets more: a write failed before, or the object would pass the bound.
--- twins (with finish_cause, RefusesOctets, RefusesEnd): "Octets past the bound change nothing", "Writers that take an octet a call and then
---   fail"; `causes_and_their_order`
 abbrev pub write_cause : {W : Type 0} → Writing W → ℕ → Option PackCause
 write_cause w n =
     if w.failed then Some causes.Failed

@@ -22,9 +22,6 @@ IsFirstOf Says order None = AllByRecursion (λ cause. Says cause → ⊥) order
 
 -- What the causes say of a call: whether a write failed before it, the octets of a line and the trailer that it takes, if any, the plan,
 -- and how many octets the object will have at least.
--- twin: "The header has 25 octets and the least ending two", "A packer, call by call", "An object that is below the known size",
---   "Writers that take an octet a call and then fail", "A maximum that is met exactly, and an octet more or less: a line end is two octets",
---   "The first cause by order: a bad trailer, an object past the bound, one below a known size"; `causes_and_their_order`
 abbrev pub Against : Bool → List ℕ → List ℕ → Plan → ℕ → PackCause → Type 0
 Against failed line trailer plan size Failed = IsTrue failed
 Against failed line trailer plan size BadTextOctet = IsLine line → ⊥

@@ -17,7 +17,6 @@ pub record MayBePacked (fields : List Dataset) (head : Header) (lines : List (Li
 
 -- The octets are the packed form: the canonical spelling of the fields, and then what is written of the canonical object by the
 -- plan.
--- twin: law `packed_octets_are_one`; "Envelopes packed: what is out"; `packs_random_values`
 pub record Packed (fields : List Dataset) (head : Header) (lines : List (List ℕ)) (trailer : List ℕ) (plan : Plan) (octets : List ℕ) : Type 0 where
   pub may : MayBePacked fields head lines trailer plan
   pub object : List ℕ

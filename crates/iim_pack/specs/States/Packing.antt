@@ -20,12 +20,10 @@ pub record Packing (W : Type 0) : Type 0 where
   pub object : Writing W
 
 -- the least ending: ETX and EOT
--- twins (with start_cause): "The header has 25 octets and the least ending two"
 abbrev pub least_ending : ℕ
 least_ending = 2
 
 -- how many octets are out
--- twin: "A packer, call by call. A refused call changes nothing"; `writes_fail_call_by_call`
 abbrev pub written_of : {W : Type 0} → Packing W → ℕ
 written_of k = k.before + k.object.written
 
@@ -91,7 +89,6 @@ pub record Finishes {W : Type 0} (state : W → Device) (old : Packing W) (trail
 abbrev pub start_cause : Header → Plan → Option PackCause
 start_cause head plan = if passes_plan plan (length (packed_head head) + least_ending) then Some causes.PastAnnounced else None
 
--- twin: "A packer, call by call", "Writers that take an octet a call and then fail", "A maximum that is met exactly"
 abbrev pub text_cause : {W : Type 0} → Packing W → List ℕ → Option PackCause
 text_cause k octets =
     if k.object.failed then Some causes.Failed
@@ -99,21 +96,17 @@ text_cause k octets =
     else if passes_plan k.object.plan (total_of k.object + (length octets + least_ending)) then Some causes.PastAnnounced
     else None
 
--- twin: "A maximum that is met exactly, and an octet more or less: a line end is two octets"; `causes_and_their_order`
 abbrev pub line_end_cause : {W : Type 0} → Packing W → Option PackCause
 line_end_cause k =
     if k.object.failed then Some causes.Failed
     else if passes_plan k.object.plan (total_of k.object + (2 + least_ending)) then Some causes.PastAnnounced
     else None
 
--- twin: "The first cause by order": 64 and 65
 abbrev pub is_trailer : List ℕ → Bool
 is_trailer trailer = list_all is_trailer_octet trailer && nat_le (length trailer) max_trailer
 
 -- the first cause against an object of so many octets with this trailer: a bad trailer, an object that passes the bound, one below a
 -- known size
--- twins (with finish_cause, pack_cause): "An object that is below the known size", "Writers that take an octet a call and then fail",
---   "The first cause by order: a bad trailer, an object past the bound, one below a known size", "A packer, call by call"
 abbrev pub ending_cause : Plan → ℕ → List ℕ → Option PackCause
 ending_cause plan size trailer =
     if not (is_trailer trailer) then Some causes.BadTrailer

@@ -17,7 +17,6 @@ pub record Value : Type 0 where
   pub sizes : Sizes
 
 -- the object: the data of all subfiles, joined in order
--- twins (with Admits): "Before the first octet, and an envelope in one piece", "Empty subfiles among others"; `reads_random_envelopes`
 abbrev pub object_of : List Dataset → List ℕ
 object_of ds = joined (of_record 8 ds)
 
@@ -34,14 +33,12 @@ pub record Admits (octets : List ℕ) (v : Value) : Type 0 where
   pub sizes : HaveSizes (of_record 7 datasets) (of_record 8 datasets) (of_record 9 datasets) v.sizes
 
 -- What the records 1 and 2 have is within the limits, and there are not too many subfiles.
--- twin: "4,294,967,295 subfiles, and one more"; `refuses_one_subfile_too_many`, `holds_limits_at_their_edge`
 pub record AreWithin (limits : Limits) (ds : List Dataset) : Type 0 where
   pub kept : IsWithin limits (kept_octets ds) (length (kept ds))
   pub subfiles : length (of_record 8 ds) ≤ max_subfiles
 
 -- The octets spell the datasets of an envelope, the records 1, 2, 7, 8 and 9, each good; the sizes of its object agree; and
 -- it is within the limits.
--- twin: "Before the first octet, and an envelope in one piece", "Empty subfiles among others"; `reads_random_envelopes`
 pub record Framed (limits : Limits) (octets : List ℕ) : Type 0 where
   pub datasets : List Dataset
   pub spelled : SpellsStream count_octets datasets octets

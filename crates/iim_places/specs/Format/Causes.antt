@@ -24,7 +24,6 @@ use Rattle.iim_places.specs.declared.refusal.Cause.TheVariants as causes
 use Rattle.iim_object.specs.declared.reading.fault.SizeCause.TheVariants as sizes
 
 -- the layer that refuses for a cause of the records: the limits, or the record layer
--- twins (with layer_of_message, tag_cause): law `refusals_tell_the_lowest_cause`; `refuses_random_envelopes`, `changes_each_octet`
 abbrev pub layer_of : FieldCause → Layer
 layer_of fields.HeaderFull = layers.Limits
 layer_of fields.TooManyFields = layers.Limits
@@ -60,7 +59,6 @@ message_on h cause = record { layer = layer_of_message cause; rec = h.rec; set =
 -- ---- begun datasets
 
 -- the numbers of the begun dataset: of a begun tag its second and third octets, each 0 while it isn't read
--- twins (with begun_number): "A front of an envelope is truncated, and the begun dataset is named"
 abbrev pub begun_record : Begun → ℕ
 begun_record (InTag held) = get_or held 1 0
 begun_record (InData h taken) = h.rec
@@ -98,8 +96,6 @@ OfValue P (AtValue d) = P d
 OfValue P _ = ⊥
 
 -- a condition on octets of the object, after those before them: the data of subfiles
--- twins (with stated, total): "Before the first octet, and an envelope in one piece", "Empty subfiles among others";
---   `reads_random_envelopes`
 abbrev pub OfOctet : (List ℕ → ℕ → Type 0) → List Dataset → Token → Type 0
 OfOctet P ds (AtOctet (InData h taken) octet) = (h.rec ≡ 8) × P (object_of ds ++ taken) octet
 OfOctet P ds _ = ⊥
@@ -107,7 +103,6 @@ OfOctet P ds _ = ⊥
 -- ---- the conditions
 
 -- 1: the first octet of a tag is not the marker, 1C.
--- twins (with IsNoCount): law `refusals_tell_the_lowest_cause`; "Tags: the first octet; the count"
 abbrev pub IsNoMarker : List ℕ → ℕ → Type 0
 IsNoMarker held octet = (held ≡ []) × (octet ≢ tag_marker)
 
@@ -125,8 +120,6 @@ abbrev pub total : List Dataset → ℕ
 total ds = sum (lengths_of (of_record 8 ds))
 
 -- 20: mode 1 and no announced size, at the head of a subfile; mode 0 and an announced size, at the later value.
--- twins (with ClashesInSize, IsTooLong, IsPast, IsShort, IsConfirmedWrong): "Sizes: the mode, and whether a size is announced", "100 octets
---   are announced", "The confirmed size"
 abbrev pub ClashesInMode : List Dataset → Token → Type 0
 ClashesInMode ds (AtHead h) = (h.rec ≡ 8) × (stated 10 ds ≡ Some 1) × (stated 90 ds ≡ None)
 ClashesInMode ds (AtValue d) = (d.rec ≡ 7) × (stated 10 (ds ++ d ∷ []) ≡ Some 0) × (stated 90 (ds ++ d ∷ []) ≢ None)
@@ -158,13 +151,10 @@ abbrev pub IsNoOctet : List ℕ → ℕ → Type 0
 IsNoOctet before octet = MessageLivesWith (before ++ octet ∷ []) → ⊥
 
 -- 32: the object ends, with the head of 9:10, and no message ends there.
--- twin: "An object that ends too early", "Messages: a gap of 32 octets has an LF": refused at octet 108
 abbrev pub IsNoEnd : List Dataset → Head → Type 0
 IsNoEnd ds h = (h.rec ≡ 9) × (IsAlive MessageLanguage (with_end (object_of ds)) → ⊥)
 
 -- STX has come, and ETX has not.
--- twins (with IsAfterReturns, IsControlInText): law `refusals_tell_the_lowest_cause`; "Texts: a line ends with LF, and none, one or two CR
---   before it"
 abbrev pub IsInText : List ℕ → Type 0
 IsInText before = IsTrue (list_any (λ b. b == stx) before) × (list_any (λ b. b == etx) (after_stx before) ≡ false)
 
@@ -177,12 +167,10 @@ abbrev pub IsControlInText : List ℕ → ℕ → Type 0
 IsControlInText before octet = IsInText before × ((octet ≡ soh) ⊎ ((octet ≡ stx) ⊎ (octet ≡ eot)))
 
 -- 52: the head of a subfile comes after as many others as there may be.
--- twin: "4,294,967,295 subfiles, and one more"; `refuses_one_subfile_too_many`, `holds_limits_at_their_edge`
 abbrev pub IsOneTooMany : List Dataset → Head → Type 0
 IsOneTooMany ds h = (h.rec ≡ 8) × (max_subfiles ≤ length (of_record 8 ds))
 
 -- 60: the sink is told of the octet: it is one of the text, but no CR.
--- twin: `sinks_that_stop`
 abbrev pub IsTold : List ℕ → ℕ → Type 0
 IsTold before octet = (text_so_far (before ++ octet ∷ []) ≡ text_so_far before ++ octet ∷ []) × (octet ≢ cr)
 
@@ -195,8 +183,6 @@ pub record Rule : Type 1 where
   pub holds : Limits → List Dataset → Token → Type 0
 
 -- Those that are told of no token have no condition.
--- twin: law `refusals_tell_the_lowest_cause`; "The names of the layers, in the order in which they look at a token"; `names_each_cause`,
---   `refuses_random_envelopes`
 abbrev pub rule_of : Cause → Rule
 rule_of Marker = record { number = 1; layer = layers.Dataset; holds = λ limits ds. OfTag IsNoMarker }
 rule_of CountForm = record { number = 2; layer = layers.Dataset; holds = λ limits ds. OfTag IsNoCount }
@@ -244,7 +230,6 @@ abbrev pub Names : Cause → List Dataset → Token → ℕ → ℕ → Type 0
 Names (Field fields.Missing) ds token rec set = (rec ≡ section_after ds) × IsAbsent ds set × ((n : ℕ) → IsAbsent ds n → set ≤ n)
 Names cause ds token rec set = (rec ≡ begun_record (begun_in token)) × (set ≡ begun_number (begun_in token))
 
--- twin: "The names of the layers, in the order in which they look at a token"; `names_each_cause`
 abbrev pub layer_name : Layer → List ℕ
 layer_name layers.Dataset = codes "dataset"
 layer_name layers.Record = codes "record"
@@ -254,8 +239,6 @@ layer_name layers.Message = codes "message"
 layer_name layers.Story = codes "story"
 layer_name layers.Outside = codes "outside"
 
--- twins (with cause_name, cause_text): "The names of the layers, in the order in which they look at a token; and of the causes";
---   `names_each_cause`
 abbrev pub cause_number : Cause → ℕ
 cause_number cause = (rule_of cause).number
 
@@ -277,7 +260,6 @@ abbrev pub cause_text : Cause → List ℕ
 cause_text cause = decimal (cause_number cause) ++ (codes " " ++ cause_name cause)
 
 -- a refusal: the octet, the layer, the dataset and the cause
--- twin: "Values: the file format"; `checks_the_samples`, `tells_a_refusal_after_envelopes`
 abbrev pub refusal_text : Refusal → List ℕ
 refusal_text e =
     codes "refused at octet " ++ (decimal e.octet ++ (codes " by layer " ++ (layer_name e.layer ++ (codes " on "
@@ -286,7 +268,6 @@ refusal_text e =
 -- ---- Which heads and values the layers can continue with, after datasets, and the first fault of one.
 
 -- the place of the object after datasets and a head: a subfile more, or the end
--- twins (with object_fault): "Sizes: the mode, and whether a size is announced", "100 octets are announced", "The confirmed size"
 abbrev pub place_at : List Dataset → Head → Place
 place_at ds h =
     if h.rec == 8 then record (place_after_datasets ds) { lengths = lengths_of (of_record 8 ds) ++ h.count ∷ [] }
@@ -298,7 +279,6 @@ abbrev pub ObjectLives : Place → Type 0
 ObjectLives p = languages.IsAlive ObjectLanguage (tokens_of p)
 
 -- With the head after the datasets, the limits are kept.
--- twins (with subfile_fault): "4,294,967,295 subfiles, and one more"; `refuses_one_subfile_too_many`, `holds_limits_at_their_edge`
 pub record HaveRoom (limits : Limits) (ds : List Dataset) (h : Head) : Type 0 where
   pub kept : IsTrue (is_kept h.rec) → IsWithin limits (kept_octets ds + h.count) (length (kept ds) + 1)
   pub subfiles : h.rec ≡ 8 → length (of_record 8 ds) < max_subfiles
@@ -323,7 +303,6 @@ MayContinue limits whole (InData h taken) = CanContinueAt limits whole h
 
 -- With the head the layer is dead, and those that are asked before are alive: first the record layer, then the limits, then
 -- the object layer.
--- twins (with fault_at_head): "At one head the record layer is asked first, then the limits", "the object's layer is asked first"
 abbrev pub DiesAtHead : Layer → Limits → List Dataset → Head → Type 0
 DiesAtHead layers.Record limits ds h = SectionsLiveAt ds h → ⊥
 DiesAtHead layers.Limits limits ds h = SectionsLiveAt ds h × (HaveRoom limits ds h → ⊥)
@@ -331,7 +310,6 @@ DiesAtHead layers.Object limits ds h = SectionsLiveAt ds h × HaveRoom limits ds
 DiesAtHead other limits ds h = ⊥
 
 -- With the value the layer is dead, and those that are asked before are alive.
--- twins (with number_fault, fault_at_value): "At one value too: a size above the greatest"
 abbrev pub DiesAtValue : Layer → List Dataset → Dataset → Type 0
 DiesAtValue layers.Record ds d = SectionsLive (ds ++ d ∷ []) → ⊥
 DiesAtValue layers.Object ds d = SectionsLive (ds ++ d ∷ []) × (ObjectLives (place_after_datasets (ds ++ d ∷ [])) → ⊥)

@@ -6,14 +6,12 @@ use Rattle.iim_places.specs.declared.ticket.fault.TicketFault.{TicketFault}
 use Rattle.iim_places.specs.declared.ticket.fault.TicketFault.TheVariants.{TicketForm, TicketVersion, HeaderFull, Impossible, OutOfMemory, TooManyFields}
 
 -- a refused token: the layer, the dataset and the cause
--- no twin: only the unpacker sees such a fault, and makes a refusal of it
 abbrev pub token_text : TokenFault → List ℕ
 token_text fault =
     codes "refused by layer " ++ (layer_name fault.layer ++ (codes " on "
     ++ (dataset_name fault.rec fault.set ++ (codes ", cause " ++ cause_text fault.cause))))
 
 -- The number of the cause for which a ticket is refused.
--- twins (with ticket_name): "Tickets taken apart", "The limits are 78 octets and 16 datasets"; `names_each_cause`
 abbrev pub ticket_number : TicketFault → ℕ
 ticket_number TicketForm = 100
 ticket_number TicketVersion = 101

@@ -19,8 +19,6 @@ use Rattle.iim_places.specs.declared.refusal.Layer.TheVariants as layers
 -- ---- what octets so far say
 
 -- the octets of the object so far: the data of the whole subfiles, and of a begun one
--- twins (with IsBadOctetAt, IsBadValueAt, Completes): "Before the first octet, and an envelope in one piece", "Empty subfiles among
---   others"; `reads_random_envelopes`
 abbrev pub object_so_far : List Dataset → Begun → List ℕ
 object_so_far ds (InTag held) = object_of ds
 object_so_far ds (InData h taken) = object_of ds ++ (if h.rec == 8 then taken else [])
@@ -31,7 +29,6 @@ section ds (InTag held) = section_after ds
 section ds (InData h taken) = h.rec
 
 -- the tokens of the message: the octets of the object, and its end with the head of 9:10
--- twins (with IsUnfinished): "An object that ends too early", "Messages: a gap of 32 octets has an LF": refused at octet 108
 abbrev pub message_tokens : List Dataset → Begun → List OctetOrEnd
 message_tokens ds begun = map Octet (object_so_far ds begun) ++ (if section ds begun == 9 then End ∷ [] else [])
 
@@ -129,7 +126,6 @@ Completes limits ds (InData h taken) next (AtValue d) = (d.rec ≢ 8) × (d ≡ 
 Completes limits ds (InData h taken) next (AtHead g) = ⊥
 
 -- With the token the layer is dead, and those that are asked before are alive.
--- twin: "At one head the record layer is asked first, then the limits", "the object's layer is asked first"
 abbrev pub Dies : Layer → Limits → List Dataset → Token → Type 0
 Dies layers.Dataset limits ds (AtOctet (InTag held) octet) = BeginsNoTag count_octets (held ++ octet ∷ [])
 Dies layers.Record limits ds (AtHead h) = SectionsLiveAt ds h → ⊥

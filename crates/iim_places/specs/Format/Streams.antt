@@ -49,7 +49,6 @@ Answers limits stream (Refused e) = IsRefused limits stream e × (e.cause ≢ Me
 Answers limits stream (Truncated e) = IsTruncated limits stream e
 
 -- a count, raised by n; it stays at the greatest number of 64 bits
--- twin: "The count of octets stays at the greatest number of 64 bits", "The octets are counted on from the number that is handed in"
 abbrev pub raised : ℕ → ℕ → ℕ
 raised a n = min (a + n) greatest_u64
 
@@ -61,7 +60,6 @@ are_some (x ∷ xs) = true
 -- ---- The envelopes that an input begins with, and what stands after them.
 
 -- how many envelopes are listed at most
--- twin: `lists_a_million_envelopes_and_no_more`, `one_envelope_too_many`
 abbrev pub max_envelopes : ℕ
 max_envelopes = 1000000
 

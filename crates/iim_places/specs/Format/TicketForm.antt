@@ -7,13 +7,10 @@ use Rattle.iim_places.specs.declared.ticket.fault.TicketFault.{TicketFault}
 pub use Rattle.iim_places.specs.declared.ticket.fault.TicketFault.TheVariants.{TicketForm, TicketVersion, HeaderFull, Impossible, OutOfMemory, TooManyFields}
 
 -- a dataset whose length four octets tell
--- twins (with AreFields) that nothing finds: no test has a ticket of 4 GB. Heads of up to 65,536 octets: "Long tickets"
 abbrev pub IsLongField : Dataset → Type 0
 IsLongField d = length d.octets < 2 ^ 32
 
 -- a number that the octets of the version tell
--- twins (with IsShort, AreNumbersIn, AreTexts): "Tickets taken apart", "Cut short anywhere, or with one octet more", "Counts of five to
---   eight octets. Version 1 has none"
 abbrev pub IsWide : ℕ → ℕ → Type 0
 IsWide version n = n < 256 ^ width version
 
@@ -67,26 +64,21 @@ abbrev pub split_octets : Split → List ℕ
 split_octets s = layout s.version s.section s.phase s.fields s.numbers s.taken s.heads ((s.part ∷ s.counter ∷ s.flag ∷ []) ++ flat_map text_octets s.texts)
 
 -- how many octets of begun data stand there
--- twin: "Inside a value of three octets", "Inside a subfile; whether octets lead there", "Sections and begun data where record 1"
 abbrev pub came : (section count left : ℕ) → ℕ
 came section count left = if section == 8 then 0 else count - left
 
 -- There are two versions.
--- twins (with HasOtherVersion): "A ticket has a name and a version", "Another version is told, whatever follows it";
---   `judges_each_octet_of_small_tickets`
 abbrev pub IsVersion : ℕ → Type 0
 IsVersion version = (version ≡ first_version.number) ⊎ (version ≡ second_version.number)
 
 -- Of a tag less octets are held than five and those of a number. Of data no more are to come than its count, and what has come stands
 -- there unless it is a subfile's.
--- twin: "Tickets taken apart", "Cut short anywhere, or with one octet more", "Counts of five to eight octets. Version 1 has none"
 abbrev pub IsPhase : ℕ → ℕ → Phase → Type 0
 IsPhase version section (TagBegun held) = length held < 5 + width version
 IsPhase version section (DataBegun set count left taken) = IsWide version count × (left ≤ count) × (length taken ≡ came section count left)
 IsPhase version section AllEnded = ⊤
 
 -- The parts have the form of a ticket's: each number is one that its octets can tell.
--- twin that nothing finds: no test has a ticket of 4 GB. Heads of up to 65,536 octets: "Long tickets"
 pub record HasForm (s : Split) : Type 0 where
   pub version : IsVersion s.version
   pub phase : IsPhase s.version s.section s.phase

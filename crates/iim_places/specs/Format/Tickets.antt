@@ -29,8 +29,6 @@ pub record Place : Type 0 where
   pub heads : ℕ
   pub message : MessagePlace
 
--- twins (with heads_of, place_of, phase_octets): "Inside a value of three octets", "Inside a subfile; whether octets lead there", "Sections
---   and begun data where record 1"
 abbrev pub phase_of : List Dataset → Begun → Phase
 phase_of ds (InTag held) = if section_after ds == 9 then AllEnded else TagBegun held
 phase_of ds (InData h taken) = DataBegun h.set h.count (h.count - length taken) (if h.rec == 8 then [] else taken)
@@ -69,8 +67,6 @@ pub record TicketVersion : Type 0 where
   pub number : ℕ
   pub width : ℕ
 
--- twins (with second_version, present_version, width, wide): "The ticket of a new unpacker, in each version", "The tickets of places in the
---   smallest envelope, in each version"
 abbrev pub first_version : TicketVersion
 first_version = record { number = 1; width = 4 }
 
@@ -86,8 +82,6 @@ abbrev pub width : ℕ → ℕ
 width version = if version == first_version.number then first_version.width else second_version.width
 
 -- a number in four octets, high octet first
--- twins (with field_octets, fields_octets, number_octets, text_octets, layout): "A ticket has a name and a version; the section", "The
---   tickets of places in the smallest envelope"; `continues_at_each_octet`
 abbrev pub four : ℕ → List ℕ
 four n = to_be_bytes w32 n
 
@@ -114,8 +108,6 @@ abbrev pub text_octets : List ℕ → List ℕ
 text_octets xs = length xs ∷ xs
 
 -- the parts of a message are told by their number
--- twins (with texts_octets, message_octets): "With two CR held in the text; and with a whole header", "Part, counter and flag of the
---   message"; `judges_each_part_of_a_message`
 abbrev pub part_number : MessagePart → ℕ
 part_number part.Filler = 0
 part_number part.Source = 1
@@ -140,7 +132,6 @@ abbrev pub message_octets : MessagePlace → List ℕ
 message_octets m = (part_number m.part ∷ m.counter ∷ m.flag ∷ []) ++ texts_octets m
 
 -- what each ticket begins with: a name, and the version
--- twin: "A ticket has a name and a version", "Another version is told, whatever follows it"; `judges_each_octet_of_small_tickets`
 abbrev pub ticket_name : ℕ → List ℕ
 ticket_name version = codes "IIMT" ++ version ∷ []
 

@@ -20,7 +20,6 @@ use Rattle.wire_message.specs.Format.Messages.{MessageLanguage, StoryLivesIn}
 use Rattle.iim_fields.specs.declared.limits.Limits.{Limits}
 
 -- the widest limits: 4,294,967,295 octets and as many fields
--- twin that nothing finds: no test has a ticket of 4 GB. Heads of up to 65,536 octets: "Long tickets"
 abbrev pub widest : Limits
 widest = record { octets = greatest_u32; fields = greatest_u32 }
 
@@ -36,8 +35,6 @@ pub record Possible (place : Place) : Type 0 where
 
 -- ---- sizes as they were when version 1 was made: counts of at most four octets, and objects of at most 4,294,967,295
 
--- twins (with greatest_size_before, IsSmallPhase): law `small_places_were_possible`; "No subfile is longer than 7:20, and all together";
---   `refuses_places_of_version_1_by_its_sizes`
 abbrev pub count_octets_before : ℕ
 count_octets_before = 4
 
@@ -64,8 +61,6 @@ pub record IsSmallPlace (place : Place) : Type 0 where
 -- ---- limits
 
 -- what a begun dataset of records 1 and 2 counts
--- twins (with begun_fields, AreHeadsWithin): law `possible_places_are_taken`; "The order of refusals: the name, the version", "Limits: 7
---   datasets of 27 octets together"
 abbrev pub begun_count : ℕ → Phase → ℕ
 begun_count section (TagBegun held) = 0
 begun_count section (DataBegun set count left taken) = if is_kept section then count else 0
@@ -92,8 +87,6 @@ abbrev pub number_list : Numbers → List (Option ℕ)
 number_list n = n.mode ∷ n.largest ∷ n.announced ∷ n.maximum ∷ []
 
 -- Size Mode, in one octet
--- twins (with plain_numbers): law `places_are_possible_by_layers`; "The tickets of places in the smallest envelope, in each version"; "No
---   subfile is longer than 7:20, and all together"
 abbrev pub mode_dataset : ℕ → Dataset
 mode_dataset n = record { rec = 7; set = 10; octets = n ∷ [] }
 
@@ -138,8 +131,6 @@ TagsLead section AllEnded = ⊤
 -- ---- the record layer
 
 -- one where a subfile is begun, else none
--- twins (with RecordsLive, begun_of_object, object_after, MessageLeads): law `places_are_possible_by_layers`; "Inside a subfile; whether
---   octets lead there"; `judges_each_part_of_a_message`
 abbrev pub begun_subfiles : ℕ → Phase → ℕ
 begun_subfiles section (TagBegun held) = 0
 begun_subfiles section (DataBegun set count left taken) = if section == 8 then 1 else 0
@@ -216,8 +207,6 @@ pub record Scale : Type 0 where
   pub greatest : ℕ
 
 -- the sizes that there were when version 1 was made
--- twins (with FitsRow): law `small_places_were_possible`; "No subfile is longer than 7:20, and all together";
---   `refuses_places_of_version_1_by_its_sizes`
 abbrev pub first_scale : Scale
 first_scale = record { octets = count_octets_before; greatest = greatest_size_before }
 

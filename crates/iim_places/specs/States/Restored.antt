@@ -31,7 +31,6 @@ IsLimitFault limits octets fields _ = ⊥
 -- Why no unpacker is made from the octets: they have not the form of a ticket, or are one of another version. Or they have the form,
 -- and are the ticket of no possible place. Or they are that of one, whose heads of records 1 and 2 count more octets than the limits
 -- allow, or else are more datasets. Or all is well but for memory.
--- twin: law `possible_places_are_taken`; "The order of refusals: the name, the version", "Limits: 7 datasets of 27 octets together"
 abbrev pub IsRestoreFault : Limits → List ℕ → TicketFault → Type 0
 IsRestoreFault limits ticket TicketForm = IsFaultOf ticket TicketForm
 IsRestoreFault limits ticket TicketVersion = IsFaultOf ticket TicketVersion

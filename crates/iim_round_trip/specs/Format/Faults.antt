@@ -4,7 +4,6 @@ use Rattle.iim_places.specs.Format.Causes.{cause_number, cause_name, refusal_tex
 use Rattle.iim_round_trip.specs.Format.RoundTrip.{UnpackFault, OutOfMemory, Refused}
 
 -- The number of the cause for which nothing is unpacked: for a refusal, that of its cause.
--- twins (with fault_name, fault_text): `upper_faults_are_printed`
 abbrev pub fault_number : UnpackFault → ℕ
 fault_number OutOfMemory = 70
 fault_number (Refused e) = cause_number e.cause

@@ -38,7 +38,6 @@ pub record BeginsPacked (limits : Limits) (stream : List ℕ) : Type 0 where
 -- ---- a stream that was unpacked
 
 -- the value that was packed, in these parts
--- twin: law `packed_octets_are_admitted`, which ties it to that of the octets; `packs_random_values`; "The two last ones unpacked again"
 abbrev pub packed_value : List Dataset → Header → List (List ℕ) → List ℕ → Plan → List (List ℕ) → Value
 packed_value fields head lines trailer plan parts =
     let sizes = packed_sizes plan.subfile plan.size (canonical head lines trailer) parts in
@@ -51,7 +50,6 @@ GivesBack goes limits stream a b got used = (p : BeginsPacked limits stream) →
     × HasParts got (packed_value p.fields p.head p.lines p.trailer p.plan p.packed.written.parts) × goes a (story.events_of_lines p.lines) b
 
 -- The octets are not at fault: memory was refused for the unpacker, or the sink stopped.
--- no twin: no body has these words; `packed_streams_have_their_answer` ties them to the octets' answer
 abbrev pub IsOutside : UnpackFault → Type 0
 IsOutside OutOfMemory = Unit {0}
 IsOutside (Refused e) = e.cause ≡ Message Sink
@@ -69,7 +67,6 @@ IsAnswer (Err OutOfMemory) answer = ⊥
 IsAnswer (Err (Refused e)) answer = pieces.IsAnswer (Err e) answer
 
 -- The sink's count of failures rose where the sink stopped, and nowhere else.
--- no twin: no body has these words; `packed_streams_have_their_answer` ties them to the octets' answer
 abbrev pub CountsFor : UnpackFault → ℕ → ℕ → Type 0
 CountsFor OutOfMemory old new = new ≡ old
 CountsFor (Refused e) old new = (e.cause ≡ Message Sink → Rose old new) × (e.cause ≢ Message Sink → new ≡ old)

@@ -11,9 +11,6 @@ use Rattle.iim_script.specs.Format.Scripts.{HasNo, NextLine, NextLines, TellsFie
 pub use Rattle.iim_script.specs.declared.fault.ScriptCause.{ScriptCause}
 pub use Rattle.iim_script.specs.declared.fault.ScriptCause.TheVariants.{ScriptLine, ScriptTooLong, Field, BadTrailer, BadTextOctet, OutOfMemory}
 
--- twin: "A line in the place of line 4", "Lines after the fields", "Octets that may not stand in a line", "The longest script"
--- twins (with cause_name) that nothing finds: OutOfMemory, which a caller of the library alone sees. The command has a line of its own:
---   `tells_refused_memory_at_each_request_of_a_command`
 abbrev pub cause_number : ScriptCause → ℕ
 cause_number ScriptLine = 91
 cause_number ScriptTooLong = 92
@@ -22,7 +19,6 @@ cause_number BadTrailer = 83
 cause_number BadTextOctet = 82
 cause_number OutOfMemory = 70
 
--- twin: "A line in the place of line 4", "Lines after the fields"; `tells_what_is_wrong_with_a_script`
 abbrev pub cause_name : ScriptCause → List ℕ
 cause_name ScriptLine = codes "ScriptLine"
 cause_name ScriptTooLong = codes "ScriptTooLong"
@@ -65,8 +61,6 @@ EndsTooSoon ds line cause = (fault : FieldFault) × (line ≡ text_word) × (fin
 
 -- What is wrong with the line at this stage. 91 ScriptLine: it has no form of those that may stand there. Else it tells a dataset that the
 -- builder takes not, for this cause; or it is `text`, and something is missing; or its octets may be no trailer, 83 BadTrailer.
--- twins (with IsNextWrong): laws `octets_have_one_fault`, `scripts_have_no_fault`; "The first wrong line is told";
---   `tells_the_first_wrong_line`
 abbrev pub IsWrong : Limits → Stage → List ℕ → ScriptCause → Type 0
 IsWrong limits (InFields ds) line ScriptLine = TellsNone TellsField line × TellsNone TellsHead line
 IsWrong limits (InFields ds) line (Field cause) =
@@ -85,7 +79,6 @@ IsNextWrong limits stage rest cause =
 
 -- A line of the story has an octet that may stand in no line, and none before it has: with its end, or at the end of the story. The
 -- line `text` has that number.
--- twin: "Stories: an end at the end begins no further line", "Octets that may not stand in a line"
 pub record IsBadStory (story : List ℕ) (text_line number : ℕ) : Type 0 where
   pub before : List (List ℕ)
   pub rest : List ℕ

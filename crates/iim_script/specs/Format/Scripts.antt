@@ -16,7 +16,6 @@ abbrev pub WithoutLast : ℕ → List ℕ → List ℕ → Type 0
 WithoutLast b octets front = (octets ≡ front ++ b ∷ []) ⊎ ((octets ≡ front) × ((before : List ℕ) → octets ≡ before ++ b ∷ [] → ⊥))
 
 -- The octets begin with the line and its end, and this follows: LF ends the line, and the one CR right before it is none of the line.
--- twins (with NextLines): "One CR before the end of a line is dropped", "Escapes are decoded in fields, info and trailer"
 pub record NextLine (octets line after : List ℕ) : Type 0 where
   pub ended : List ℕ
   pub no_feed : HasNo lf ended
@@ -29,8 +28,6 @@ NextLines octets [] after = octets ≡ after
 NextLines octets (line ∷ lines) after = (rest : List ℕ) × NextLine octets line rest × NextLines rest lines after
 
 -- The digit is one of so many from `first` on, of which the first has the value `least`, and the digit this value.
--- twins (with IsHexDigit, IsOfDigits): "Each digit of an escape, in either case", "What stands beside the digits, as the first and as the
---   second one, is none"
 abbrev pub IsDigitFrom : ℕ → ℕ → ℕ → ℕ → ℕ → Type 0
 IsDigitFrom first least many digit value = (first ≤ digit) × (digit < first + many) × (digit + least ≡ first + value)
 
@@ -43,7 +40,6 @@ abbrev pub IsOfDigits : ℕ → ℕ → ℕ → Type 0
 IsOfDigits high low octet = (h : ℕ) × (l : ℕ) × IsHexDigit high h × IsHexDigit low l × (octet ≡ h * 16 + l)
 
 -- The text begins with the octet itself, which is no backslash, or with its escape: `\x` and two hexadecimal digits. The rest follows.
--- twin: "Escapes are decoded in fields, info and trailer", "A line in the place of line 4"; `shows_each_octet`
 abbrev pub BeginsWith : List ℕ → ℕ → List ℕ → Type 0
 BeginsWith text octet rest = ((octet ≢ backslash) × (text ≡ octet ∷ rest))
     ⊎ ((high : ℕ) × (low : ℕ) × (text ≡ backslash ∷ small_x ∷ high ∷ low ∷ rest) × IsOfDigits high low octet)
@@ -54,7 +50,6 @@ TellsOctets text [] = text ≡ []
 TellsOctets text (octet ∷ octets) = (rest : List ℕ) × BeginsWith text octet rest × TellsOctets rest octets
 
 -- What ends a line: nothing, for no octets; else SP, and a text of at least one octet.
--- twin: "A line in the place of line 4", "Lines after the fields"
 abbrev pub TellsLast : List ℕ → List ℕ → Type 0
 TellsLast end [] = end ≡ []
 TellsLast end (octet ∷ octets) = (text : List ℕ) × (end ≡ sp ∷ text) × TellsOctets text (octet ∷ octets)
@@ -62,7 +57,6 @@ TellsLast end (octet ∷ octets) = (text : List ℕ) × (end ≡ sp ∷ text) ×
 -- ---- The forms of a script's lines.
 
 -- the number of decimal digits, after those that have told this number
--- twins (with TellsNumber): "The greatest number of a dataset"; "A line in the place of line 4": 0001, 0030 and 256
 abbrev pub decimal_from : ℕ → List ℕ → ℕ
 decimal_from n [] = n
 decimal_from n (digit ∷ digits) = decimal_from (n * 10 + (digit - digit_zero)) digits
@@ -76,7 +70,6 @@ pub record TellsNumber (digits : List ℕ) (n : ℕ) : Type 0 where
   pub fits : n ≤ 255
 
 -- The line is the numbers `R:D`, and what ends it, which begins with no digit.
--- twins (with TellsField): "A line in the place of line 4"; `gives_back_octets_of_every_kind`
 pub record TellsNames (line : List ℕ) (rec set : ℕ) (end : List ℕ) : Type 0 where
   pub rec_digits : List ℕ
   pub set_digits : List ℕ
@@ -92,12 +85,10 @@ pub record TellsField (line : List ℕ) (d : Dataset) : Type 0 where
   pub is_end : TellsLast end d.octets
 
 -- `text`
--- twin: "The lines of the script of the smallest envelope", "Lines after the fields"
 abbrev pub text_word : List ℕ
 text_word = codes "text"
 
 -- the parts of a header before its info, with one SP between each two, and what ends the line
--- twins (with AreWords, TellsHead): "Lines after the fields"; "The script of an envelope with by-lines"
 abbrev pub head_words : Header → List ℕ → List ℕ
 head_words head end = head.source ++ (sp ∷ (head.number ++ (sp ∷ (head.priority ++ (sp ∷ (head.category ++ (sp ∷ (head.words ++ end))))))))
 
@@ -119,7 +110,6 @@ pub record TellsHead (line : List ℕ) (head : Header) : Type 0 where
   pub line_is : line ≡ codes "message " ++ head_words head end
 
 -- A line `trailer`, and SP and the octets as text where there are some.
--- twin: "A line in the place of line 4", "Lines after the fields"
 pub record TellsTrailer (line octets : List ℕ) : Type 0 where
   pub end : List ℕ
   pub is_end : TellsLast end octets
@@ -128,7 +118,6 @@ pub record TellsTrailer (line octets : List ℕ) : Type 0 where
 -- ---- What a script is, and what it tells.
 
 -- the most octets of a script
--- twin: "The longest script has 16,777,216 octets"; `reads_one_octet_of_a_script_too_many_at_most`
 abbrev pub max_script : ℕ
 max_script = 16777216
 
@@ -147,7 +136,6 @@ AreTrailer (line ∷ next ∷ lines) octets = ⊥
 
 -- The octets begin with what stands before the story, and the story follows: lines of datasets, which make an envelope; the line of the
 -- header; that of the trailer, if any; and the line `text`.
--- twin: "Lines after the fields", "The script of an envelope with by-lines": text at line 18
 pub record IsFront (limits : Limits) (octets : List ℕ) (fields : List Dataset) (head : Header) (trailer : List ℕ) (text_line : ℕ)
     (story : List ℕ) : Type 0 where
   pub field_lines : List (List ℕ)
@@ -162,7 +150,6 @@ pub record IsFront (limits : Limits) (octets : List ℕ) (fields : List Dataset)
 
 -- The lines of a story, one at least: each but the last with its end; the last with its end, or without one, and then it is not
 -- empty where others stand before it.
--- twin: "Stories: an end at the end begins no further line", "Octets that may not stand in a line"
 abbrev pub IsStory : List ℕ → List (List ℕ) → Type 0
 IsStory octets lines = (0 < length lines) × (NextLines octets lines []
     ⊎ ((before : List (List ℕ)) × (last : List ℕ) × (lines ≡ before ++ last ∷ []) × NextLines octets before last
@@ -181,8 +168,6 @@ pub record IsScript (limits : Limits) (octets : List ℕ) (fields : List Dataset
   pub texts : AllByRecursion IsLine lines
 
 -- a space and the octets, shown; nothing where there are none
--- twins (with field_line, message_line, trailer_line, PrintsStory, script_of): law `printed_values_are_scripts`; `shows_worked_envelopes`,
---   `shows_what_is_rare`, `gives_back_octets_of_every_kind`
 abbrev pub after_space : List ℕ → List ℕ
 after_space [] = []
 after_space (x ∷ xs) = sp ∷ shown (x ∷ xs)

@@ -6,8 +6,6 @@ use Rattle.iim_dataset.specs.Format.Octets.{digit_zero, within, is_digit, plus, 
 use Rattle.jiff_core.specs.Calendar.{days_from_civil}
 
 -- the number that the two digits at a place write
--- twins (with year_in, month_in, day_in, are_eight_digits, is_date): "Dates are days of the Gregorian calendar", "What is no date and no
---   part date"
 abbrev pub pair_at : List ℕ → ℕ → ℕ
 pair_at xs i = 10 * (slice_index xs i - digit_zero) + (slice_index xs (i + 1) - digit_zero)
 
@@ -24,12 +22,10 @@ abbrev pub day_in : List ℕ → ℕ
 day_in xs = pair_at xs 6
 
 -- the calendar has the day: of the years 0001 to 9999, and the months 01 to 12
--- twin: "Dates are days of the Gregorian calendar", "What is no date and no part date"; `reads_dates_and_instants`
 abbrev pub is_day : ℕ → ℕ → ℕ → Bool
 is_day y m d = within 1 9999 y && within 1 12 m && within 1 (days_in_month (pos y) m) d
 
 -- the calendar has the day; or the month is 00, and then the day 00 to 31; or the day is 00
--- twins (with is_part_date): "A part date may have 00 as month": 0100, 1200, 0031; "What is no date and no part date": 0032, 1300
 abbrev pub is_part_day : ℕ → ℕ → ℕ → Bool
 is_part_day y m d = is_day y m d || (within 1 9999 y && (((m == 0) && nat_le d 31) || (within 1 12 m && (d == 0))))
 
@@ -46,7 +42,6 @@ abbrev pub is_part_date : List ℕ → Bool
 is_part_date xs = are_eight_digits xs && is_part_day (year_in xs) (month_in xs) (day_in xs)
 
 -- a number below 100 in two digits
--- no twin (with date_text): only the laws `dates_are_written_in_one_way` and `times_are_written_in_one_way` have these words
 abbrev pub two_digits : ℕ → List ℕ
 two_digits n = (digit_zero + n / 10) ∷ (digit_zero + n % 10) ∷ []
 
@@ -61,13 +56,11 @@ ReadsDate xs y m d = IsTrue (are_eight_digits xs) × (year_in xs ≡ y) × (mont
 -- ---- Times of day in eleven octets, HHMMSS, + or -, HHMM, and the instant that a date and a time name.
 
 -- six digits, a sign (+ where the clock is ahead of universal time, - where it is behind), four digits
--- twin: "Times have hours up to 23"
 abbrev pub has_time_form : List ℕ → Bool
 has_time_form xs = (length xs == 11) && list_all is_digit (take 6 xs)
     && (slice_index xs 6 == plus || slice_index xs 6 == minus) && list_all is_digit (drop 7 xs)
 
 -- hours 00 to 23, minutes and seconds 00 to 59
--- twins (with is_time): "Times have hours up to 23": 23, 24, 59 and 60 of each; `checks_release_and_expiration`
 abbrev pub is_clock : ℕ → ℕ → ℕ → Bool
 is_clock hour minute second = nat_lt hour 24 && nat_lt minute 60 && nat_lt second 60
 
@@ -82,19 +75,16 @@ time_text hour minute second is_behind hours minutes =
     ++ (if is_behind then minus else plus) ∷ (two_digits hours ++ two_digits minutes)
 
 -- the octets have the form of a time, with these parts
--- no twin: only the laws `dates_are_written_in_one_way` and `times_are_written_in_one_way` have these words
 abbrev pub ReadsTime : List ℕ → ℕ → ℕ → ℕ → Bool → ℕ → ℕ → Type 0
 ReadsTime xs hour minute second is_behind hours minutes =
     IsTrue (has_time_form xs) × (pair_at xs 0 ≡ hour) × (pair_at xs 2 ≡ minute) × (pair_at xs 4 ≡ second)
     × ((slice_index xs 6 == minus) ≡ is_behind) × (pair_at xs 7 ≡ hours) × (pair_at xs 9 ≡ minutes)
 
 -- how many nanoseconds a second has
--- twin: law `whole_seconds_are_floors`; "The age is the greatest whole number of seconds"; `takes_the_instants_that_jiff_reads`
 abbrev pub nanoseconds_in_second : ℕ
 nanoseconds_in_second = 1_000_000_000
 
 -- seconds since midnight
--- twins (with offset_seconds, instant_nanos): "An instant is a local time less its offset"; `reads_dates_and_instants`
 abbrev pub clock_seconds : ℕ → ℕ → ℕ → ℕ
 clock_seconds hour minute second = hour * 3600 + minute * 60 + second
 
@@ -114,8 +104,6 @@ abbrev pub HasInstant : List ℕ → List ℕ → Type 0
 HasInstant date time = IsTrue (is_date date) × IsTrue (is_time time) × IsTimestampNanos (instant_nanos date time)
 
 -- the library's range of instants, as a test
--- twins (with instant_in): "An instant is a local time less its offset": the first that a date and time tell; "No instant: past the last
---   that there is"
 abbrev pub is_instant : ℤ → Bool
 is_instant n = int_le (neg_ℤ (pos 377_705_023_201_000_000_000)) n && int_le n (pos 253_402_207_200_999_999_999)
 

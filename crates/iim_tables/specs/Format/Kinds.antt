@@ -8,7 +8,6 @@ use Rattle.iim_tables.specs.declared.shape.Kind.{Kind}
 use Rattle.iim_tables.specs.declared.shape.Kind.TheVariants.{Graphic, Spaced, SpacedLines, Letters, Digits, Date, PartDate, Time, Binary, Octets, Mode, Size, SizeFromOne}
 
 -- 21 to 7E and 80 to FF
--- twins (with is_spaced, is_spaced_or_line_end): "The octets that alone are a value, by kind"
 abbrev pub is_graphic : ℕ → Bool
 is_graphic b = within 0x21 0x7e b || within 0x80 0xff b
 
@@ -21,22 +20,18 @@ abbrev pub is_spaced_or_line_end : ℕ → Bool
 is_spaced_or_line_end b = is_spaced b || b == lf || b == cr
 
 -- the most octets of a size: as many as an extended count may have (the profile's)
--- twin: "Sizes are at most 9,223,372,036,854,775,807", "How many octets a row admits"
 abbrev pub size_octets : ℕ
 size_octets = count_octets
 
 -- one octet, 00 or 01
--- twin: "A mode is 0 or 1": `admits 7 10 02`; "The octets that alone are a value, by kind"
 abbrev pub is_mode : List ℕ → Bool
 is_mode xs = (length xs == 1) && list_all (λ b. nat_le b 1) xs
 
 -- as many octets as a size may have, that spell a number from the least to the greatest size
--- twin: "Sizes are at most 9,223,372,036,854,775,807", "How many octets a row admits"
 abbrev pub is_size_from : ℕ → List ℕ → Bool
 is_size_from least xs = within 1 size_octets (length xs) && within least greatest_size (number xs)
 
 -- the octets are of the kind
--- twin: "The octets that alone are a value, by kind"; `knows_each_row`, `admits_random_values`
 abbrev pub has_kind : Kind → List ℕ → Bool
 has_kind Graphic xs = list_all is_graphic xs
 has_kind Spaced xs = list_all is_spaced xs

@@ -7,8 +7,6 @@ use Rattle.iim_tables.specs.Format.Rows.{Meets, row_of, table}
 use Rattle.iim_tables.specs.declared.shape.Duty.{Duty, TheVariants.Mandatory}
 
 -- 7:90 has to occur by the mode: that is a matter of sizes
--- twins (with mandatory): "Without each mandatory dataset in turn", "Of several missing datasets that of the lowest number is named";
---   `knows_each_row`
 abbrev pub has_to_occur : Duty → Bool
 has_to_occur Mandatory = true
 has_to_occur other = false
@@ -18,7 +16,6 @@ abbrev pub mandatory : ℕ → List ℕ
 mandatory rec = map (λ e. e.set) (filter (λ e. e.rec == rec && has_to_occur e.row.duty) table)
 
 -- no row says that the dataset occurs once at most
--- twin: "The rows of each record"; `knows_each_row`; `checks_release_and_expiration`
 abbrev pub repeats : ℕ → ℕ → Bool
 repeats rec n = option_map_or (λ r. r.repeats) (row_of rec n) true
 
@@ -31,7 +28,6 @@ abbrev pub occurs : ℕ → List Dataset → Bool
 occurs n ds = list_any (λ d. d.set == n) ds
 
 -- 1:20 File Format has the value 2
--- twin: "Values: the file format", "File formats other than 2"
 abbrev pub has_file_format : Dataset → Bool
 has_file_format d = not (d.rec == 1 && d.set == 20) || number d.octets == 2
 

@@ -19,7 +19,6 @@ entry rec set least greatest kind duty repeats =
     record { rec = rec; set = set; row = record { min = least; max = greatest; kind = kind; duty = duty; repeats = repeats } }
 
 -- the datasets of the records 1, 2, 7, 8 and 9, in the order and by the names of the standard
--- twin: "The rows of each record", "How many octets a row admits"; `knows_each_row`
 unfoldable pub table : List Entry
 table =
     entry 1 0 2 2 Binary Mandatory false  -- Model Version
@@ -70,12 +69,10 @@ table =
     ∷ entry 9 10 1 size_octets Size Mandatory false ∷ []  -- Confirmed ObjectData Size
 
 -- the row of the first line for that record and number
--- twins (with row_of): "The other records have no rows"; `knows_each_row`
 abbrev pub row_in : List Entry → ℕ → ℕ → Option Row
 row_in entries rec set = option_map (λ e. e.row) (find (λ e. e.rec == rec && e.set == set) entries)
 
 -- a dataset that has no line and is kept unread: up to 8192 octets of any kind, as often as it comes
--- twins (with row_of_others): "How many octets a row admits"; `knows_each_row`
 abbrev pub kept_row : Row
 kept_row = record { min = 0; max = 8192; kind = Octets; duty = Optional; repeats = true }
 
@@ -88,7 +85,6 @@ unfoldable pub row_of : ℕ → ℕ → Option Row
 row_of rec set = option_or (row_in table rec set) (row_of_others rec)
 
 -- the number of octets lies in the row's bounds, and they are of its kind
--- twin: "How many octets a row admits"; `admits_random_values`
 abbrev pub is_admitted : Row → List ℕ → Bool
 is_admitted r xs = within r.min r.max (length xs) && has_kind r.kind xs
 

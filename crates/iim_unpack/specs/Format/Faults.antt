@@ -5,7 +5,6 @@ use Rattle.iim_unpack.specs.declared.{ticket.spelling.SaveFault.SaveFault, intak
 use Rattle.iim_unpack.specs.declared.ticket.spelling.SaveFault.TheVariants.{Failed, OutOfMemory}
 use Rattle.iim_unpack.specs.declared.intake.IntakeFault.TheVariants.{Refused, Read, Interrupted}
 
--- twins (with save_name): "An unpacker that refused something has no ticket"
 abbrev pub save_number : SaveFault → ℕ
 save_number Failed = 61
 save_number OutOfMemory = 70
@@ -15,7 +14,6 @@ save_name Failed = codes "Failed"
 save_name OutOfMemory = codes "OutOfMemory"
 
 -- A refusal has the number and the name of its cause.
--- twins (with intake_name): `upper_faults_are_printed`
 abbrev pub intake_number : IntakeFault → ℕ
 intake_number (Refused refusal) = cause_number refusal.cause
 intake_number Read = 71

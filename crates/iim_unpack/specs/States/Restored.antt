@@ -19,7 +19,6 @@ pub record IsRestored (limits : Limits) (ticket : List ℕ) (at : ℕ) (u : Unpa
   pub some : (p : List ℕ) × IsPlaceOf p place × (Stands u p at ⊎ IsDoneWith u p at)
 
 -- The ticket of the unpacker has so many octets, and stands at the front of the buffer, where that has room for it.
--- no twin: a bound that is proved of it; no code has the number
 pub record HasTicketIn (u : Unpacking) (out : List ℕ) (count : ℕ) : Type 0 where
   pub ticket : List ℕ
   pub is_ticket : (p : List ℕ) (a : ℕ) → Stands u p a ⊎ IsDoneWith u p a → IsTicketOf p ticket

@@ -27,7 +27,6 @@ use Rattle.iim_places.specs.declared.refusal.Layer.TheVariants as layers
 use Rattle.iim_dataset.specs.declared.place.DatasetPlace.TheVariants as tags
 
 -- after these datasets
--- twins (with Within): "Before the first octet, and an envelope in one piece", "Empty subfiles among others"; `reads_random_envelopes`
 pub record AreAfter (parts : Parts) (ds : List Dataset) : Type 0 where
   pub fields : records.StandsAfter parts.fields ds
   pub object : objects.StandsAt parts.object (place_after_datasets ds)
@@ -58,12 +57,10 @@ pub record AreLed (parts : Parts) (events : List DatasetEvent) (text : List ℕ)
   pub is_text : text ≡ text_so_far (object_so_far whole begun)
 
 -- The last dataset has ended: record 9 is the present one, and no dataset is begun.
--- twin: "After the end of an envelope no octet is used"
 unfoldable pub has_ended : Parts → Bool
 has_ended parts = (records.section_of parts.fields == 9) && is_none (records.begun_head_of parts.fields)
 
 -- the sink's count of failures rose where the sink refused, and nowhere else
--- twin: `sinks_that_stop`
 abbrev pub CountsFor : Cause → ℕ → ℕ → Type 0
 CountsFor (Message Sink) old new = Rose old new
 CountsFor _ old new = new ≡ old
@@ -131,7 +128,6 @@ pub record IsRefusedIn (limits : Limits) (p : List ℕ) (a : ℕ) (piece : List 
   pub refuses : RefusesNext limits (p ++ take k piece) (slice_index piece k) fault
 
 -- the answer after a refusal
--- twin: "after a refusal it is told again"; `a_failing_reader`
 abbrev pub failed_at : ℕ → Refusal
 failed_at octet = record { layer = layers.Outside; rec = 0; set = 0; octet = octet; cause = Failed }
 
@@ -163,7 +159,6 @@ begun_entries None = 0
 begun_entries (Some h) = if is_kept h.rec then 1 else 0
 
 -- It holds 256 octets at most beside those that its limits allow, and no more entries than they allow.
--- no twin: a bound that is proved of it; no code has the number
 pub record HoldsFew (u : Unpacking) : Type 0 where
   -- The octets that it holds: the data of records 1 and 2, and those so far of a begun value of record 1, 2, 7 or 9; a begun tag; the
   -- texts of the message; and CR.

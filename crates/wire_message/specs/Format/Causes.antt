@@ -8,7 +8,6 @@ use Rattle.wire_message.specs.declared.fault.MessageCause.TheVariants.{BadOctet,
 use Rattle.iim_dataset.specs.Format.Octets.{cr}
 use Rattle.wire_message.specs.Format.Messages.{MessageLivesWith, MessageDiesAt, text_so_far, StoryLivesIn}
 
--- twins (with name_of_message, print_of_message): `names_each_cause`
 abbrev pub number_of_message : MessageCause → ℕ
 number_of_message BadOctet = 30
 number_of_message Unfinished = 32
@@ -28,7 +27,6 @@ abbrev pub print_of_message : MessageCause → List ℕ
 print_of_message cause = decimal (number_of_message cause) ++ (codes " " ++ name_of_message cause)
 
 -- The number of octets before the refused one, and the cause, as they are printed.
--- twin: `faults_are_printed`
 abbrev pub print_of_fault : MessageFault → List ℕ
 print_of_fault fault = codes "refused after " ++ (decimal fault.taken ++ (codes " octets, cause " ++ print_of_message fault.cause))
 
@@ -38,7 +36,6 @@ StoryDiesWith octets octet = StoryLivesIn octets × (StoryLivesIn (octets ++ oct
 
 -- Why an octet is refused after others: the message dies with it, or else the story, or else the sink refused an octet of
 -- the text that it is told of.
--- twin: "Each octet in place of each octet of the smallest message", "Each octet alone in each part"; `sinks_of_messages_that_stop`
 abbrev pub HasCause : MessageCause → List ℕ → ℕ → Type 0
 HasCause BadOctet octets octet = MessageDiesAt octets (Octet octet)
 HasCause Unfinished octets octet = ⊥

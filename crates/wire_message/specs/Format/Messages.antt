@@ -4,8 +4,6 @@ use Rattle.std.specs.List.{list_all, list_any, before_first, after_first}
 use Rattle.iim_dataset.specs.Format.Octets.{nul, etx, lf, cr, syn, sp, within, is_digit, is_letter, soh, stx, eot, IsAlive, DiesAt}
 use Rattle.wire_story.specs.Format.Texts.{packed_text, OctetOrEnd, Octet, End, with_end, StoryLanguage}
 
--- twins (with is_info_octet, is_trailer_octet, is_filler_octet, is_text_octet): "Each octet alone in each part", "The octets that alone
---   make a part of a header": each of the 256
 abbrev pub is_alphanumeric : ℕ → Bool
 is_alphanumeric b = is_letter b || is_digit b
 
@@ -36,12 +34,9 @@ IsField test least most xs = Are test xs × (least ≤ length xs) × (length xs 
 -- ---- how many octets the parts have at most
 
 -- filler before SOH and after EOT, and the gap
--- twin: "Filler before and after: up to 32 octets"
 abbrev pub max_filler : ℕ
 max_filler = 32
 
--- twins (with max_number, max_category, max_words, max_info): "Source, number and category have 1 to 8 octets", "A trailer has up to 64
---   octets, and so has info", "Parts of other lengths"
 abbrev pub max_source : ℕ
 max_source = 8
 
@@ -60,7 +55,6 @@ max_words = 6
 abbrev pub max_info : ℕ
 max_info = 64
 
--- twin: "A trailer has up to 64 octets", "Tails as they are written"
 abbrev pub max_trailer : ℕ
 max_trailer = 64
 
@@ -81,7 +75,6 @@ header_of source number priority category words info =
     record { source = source; number = number; priority = priority; category = category; words = words; info = info }
 
 -- A header: each part has one of its lengths and is made of its octets.
--- twin: "Source, number and category have 1 to 8 octets", "A trailer has up to 64 octets, and so has info", "Parts of other lengths"
 pub record IsHeader (head : Header) : Type 0 where
   pub source : IsField is_letter 1 max_source head.source
   pub number : IsField is_digit 1 max_number head.number
@@ -91,17 +84,14 @@ pub record IsHeader (head : Header) : Type 0 where
   pub info : IsField is_info_octet 0 max_info head.info
 
 -- A trailer: up to 64 octets, line ends among them.
--- twin: "A trailer has up to 64 octets", "Tails as they are written"
 abbrev pub IsTrailer : List ℕ → Type 0
 IsTrailer xs = IsField is_trailer_octet 0 max_trailer xs
 
 -- Filler: up to 32 octets that mean nothing.
--- twin: "Filler before and after: up to 32 octets"
 abbrev pub IsFiller : List ℕ → Type 0
 IsFiller xs = IsField is_filler_octet 0 max_filler xs
 
 -- One of the octets is LF.
--- twins (with IsGap): "A gap has up to 32 octets, and one LF at least"; "A gap whose LF comes first, last or in the midst"
 abbrev pub has_feed : List ℕ → Bool
 has_feed xs = list_any (λ b. b == lf) xs
 
@@ -110,13 +100,10 @@ abbrev pub IsGap : List ℕ → Type 0
 IsGap xs = IsField is_filler_octet 1 max_filler xs × IsTrue (has_feed xs)
 
 -- nothing for an empty info, or SP and the info
--- twin: "which may be empty after its SP", "Headers as they are written"
 abbrev pub SpellsInfo : List ℕ → List ℕ → Type 0
 SpellsInfo info xs = ((info ≡ []) × (xs ≡ [])) ⊎ (xs ≡ sp ∷ info)
 
 -- source, number, SP, priority, SP, category, SP, words
--- twins (with IsMessage, BeginsWithHeader): "Messages: the story of one empty line", "Each octet in place of each octet of the smallest
---   message"
 abbrev pub fixed_header : Header → List ℕ
 fixed_header head = head.source ++ (head.number ++ (sp ∷ head.priority ++ (sp ∷ head.category ++ (sp ∷ head.words))))
 
@@ -148,13 +135,11 @@ pub record BeginsWithHeader (octets : List ℕ) (head : Header) : Type 0 where
   pub parts : octets ≡ before ++ (soh ∷ fixed_header head ++ (info ++ (gap ++ (stx ∷ rest))))
 
 -- nothing for an empty info, and else SP and the info
--- twin: "which may be empty after its SP", "Headers as they are written"
 abbrev pub packed_info : List ℕ → List ℕ
 packed_info [] = []
 packed_info (b ∷ bs) = sp ∷ b ∷ bs
 
 -- SOH to STX, with the gap CR LF
--- twins (with packed_tail, canonical): "Headers as they are written", "Tails as they are written"; `packs_a_script`
 abbrev pub packed_head : Header → List ℕ
 packed_head head = soh ∷ fixed_header head ++ (packed_info head.info ++ (cr ∷ lf ∷ stx ∷ []))
 
@@ -184,8 +169,6 @@ abbrev pub MessageDiesAt : List ℕ → OctetOrEnd → Type 0
 MessageDiesAt octets token = DiesAt MessageLanguage (map Octet octets) token
 
 -- what stands after STX
--- twins (with text_so_far, trailer_so_far, story_tokens_of): laws `texts_stand_between_stx_and_etx`, `trailers_stand_between_etx_and_eot`,
---   `headers_are_told_from_stx`
 abbrev pub after_stx : List ℕ → List ℕ
 after_stx octets = after_first (λ b. b == stx) octets
 

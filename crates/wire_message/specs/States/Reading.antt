@@ -32,7 +32,6 @@ so_far Words t = t.source.items ++ (t.number.items ++ (sp ∷ (t.priority.items 
 
 -- What was read has lengths and octets with which a message can continue. Of a header the parts before the one that is being read
 -- have an octet at least, and so has the number, which its first digit begins; those after it have none.
--- twins (with Spells): law `places_are_reached`; "No octets lead to these: counters and flags", "And texts: of a later part, too long"
 abbrev pub IsPlace : Place → Type 0
 IsPlace (Filler count) = count ≤ max_filler
 IsPlace (InHeader Source t) = AreParts 0 max_source 0 0 0 0 0 0 0 0 t
@@ -134,7 +133,6 @@ pub record RefusesOne {S : Type 0} (goes : S → List StoryEvent → S → Type 
 -- ---- what a reader tells
 
 -- the header, from STX on
--- twins (with trailer_read, is_ended): laws `headers_are_told_from_stx`, `trailers_are_told_from_etx`, `messages_end_after_eot`
 abbrev pub head_read : Option Place → Option Header
 head_read (Some (Text h reader)) = Some h
 head_read (Some (Trailer h t)) = Some h
@@ -160,7 +158,6 @@ IsWhole reader = (octets text : List ℕ) → StandsAt reader octets text
 -- ---- The place of a reader of messages, as it is saved.
 
 -- a part, its counter and flag, and the octets of source, number, priority, category, words, info and trailer
--- twins (with saved): law `places_are_saved_apart`; "Places that octets lead to: the part, the counter, the flag"
 abbrev pub place_from : MessagePart → ℕ → ℕ → List ℕ → List ℕ → List ℕ → List ℕ → List ℕ → List ℕ → List ℕ → MessagePlace
 place_from part counter flag source number priority category words info trailer = record {
   part = part;
@@ -220,8 +217,6 @@ abbrev pub fixed_octets : Header → ℕ
 fixed_octets h = 1 + length (fixed_header h)
 
 -- SOH to STX at least: an empty info has no SP, and the gap is LF alone
--- twins (with least_of, greatest_of): "Places that octets lead to", "How many octets lead to a place of a message";
---   `judges_each_part_of_a_message`
 abbrev pub least_head : Header → ℕ
 least_head h = fixed_octets h + length (packed_info h.info) + 2
 

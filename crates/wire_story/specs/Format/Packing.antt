@@ -5,8 +5,6 @@ use Rattle.wire_story.specs.Format.Texts.{is_line_octet, line_end, packed_text, 
 use Rattle.wire_story.specs.States.Reading.{collect}
 
 -- an octet of a line as itself, the end of a line as CR LF
--- twin: law `line_ends_are_packed_as_return_and_feed`; "The octets that may stand in a line, those that alone are a text, and what a line
---   end is"
 abbrev pub packed_event : StoryEvent → List ℕ
 packed_event (LineOctet b) = b ∷ []
 packed_event LineEnd = line_end 1

@@ -7,7 +7,6 @@ use Rattle.wire_story.specs.declared.fault.TextFault.{TextFault}
 use Rattle.wire_story.specs.declared.fault.TextCause.TheVariants.{LoneReturn, ControlOctet, Sink}
 
 -- any octet but SOH, STX, ETX, EOT, LF and CR
--- twin: "The octets that may stand in a line": each of the 256
 abbrev pub is_line_octet : ℕ → Bool
 is_line_octet b = nat_lt b 256 && not (b == soh || b == stx || b == etx || b == eot || b == lf || b == cr)
 
@@ -16,14 +15,10 @@ abbrev pub IsLine : List ℕ → Type 0
 IsLine xs = IsTrue (list_all is_line_octet xs)
 
 -- the most CR of a line end
--- twins (with IsText, IsTextSoFar): "A line end is LF, after no CR, one or two", "A third CR, another octet or the end after CR", "A reader
---   holds two CR at most"
 abbrev pub max_returns : ℕ
 max_returns = 2
 
 -- a line end: LF with `returns` CR before it
--- twins (with packed_text): law `line_ends_are_packed_as_return_and_feed`; "The octets that may stand in a line, those that alone are a
---   text, and what a line end is"
 abbrev pub line_end : ℕ → List ℕ
 line_end returns = replicate returns cr ++ lf ∷ []
 
@@ -92,8 +87,6 @@ pub data StoryEvent : Type 0 where
   LineEnd : StoryEvent
 
 -- An LF ends a line. Of a CR nothing is told: it belongs to the line end that follows, or no LF has come yet.
--- twins (with octet_for): laws `texts_are_delivered_as_lines`, `lines_are_joined_by_line_feeds`; "Lines that are written on are joined by
---   LF"
 abbrev pub events_of : ℕ → List StoryEvent
 events_of b = if b == lf then LineEnd ∷ [] else if b == cr then [] else LineOctet b ∷ []
 
@@ -115,7 +108,6 @@ octet_for LineEnd = lf
 -- ---- The words of lines, and a count of words that grows by what a sink is told.
 
 -- any octet but SP and TAB
--- twin: "Words are the longest runs in a line": each of the 256 between `a` and `b`; `counts_words`
 abbrev pub is_word_octet : ℕ → Bool
 is_word_octet b = not (b == sp || b == tab)
 
@@ -128,8 +120,6 @@ abbrev pub begun_with : Bool → ℕ → ℕ
 begun_with inside b = if is_word_octet b && not inside then 1 else 0
 
 -- how many words begin in octets of a line, where those before them end inside a word or not
--- twins (with words_told): laws `words_are_longest_runs`, `texts_are_counted_as_lines`; "Words are the longest runs in a line";
---   `counts_words`
 abbrev pub words_begun : Bool → List ℕ → ℕ
 words_begun inside [] = 0
 words_begun inside (b ∷ xs) = begun_with inside b + words_begun (is_word_octet b) xs
@@ -163,7 +153,6 @@ pub record WordsSoFar : Type 0 where
   pub inside : Bool
 
 -- the greatest count
--- twins (with CountsWords) that nothing finds: no text has so many words. 70,000 are counted under "Words are the longest runs in a line"
 abbrev pub capped : ℕ → ℕ
 capped n = min n greatest_u64
 
@@ -184,7 +173,6 @@ pub record CountsWords (old : WordsSoFar) (events : List StoryEvent) (new : Word
   pub words : old.words < 2 ^ 64 → new.words ≡ capped (old.words + words_told old.inside events)
   pub inside : new.inside ≡ inside_after old.inside events
 
--- twins (with name_of_text, print_of_text): `causes_of_texts_are_printed`
 abbrev pub number_of_text : TextCause → ℕ
 number_of_text LoneReturn = 40
 number_of_text ControlOctet = 41
@@ -200,6 +188,5 @@ abbrev pub print_of_text : TextCause → List ℕ
 print_of_text cause = decimal (number_of_text cause) ++ (codes " " ++ name_of_text cause)
 
 -- The number of octets before the refused one, and the cause, as they are printed.
--- twin: `faults_are_printed`
 abbrev pub print_of_fault : TextFault → List ℕ
 print_of_fault fault = codes "refused after " ++ (decimal fault.taken ++ (codes " octets, cause " ++ print_of_text fault.cause))

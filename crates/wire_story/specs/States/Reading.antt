@@ -33,7 +33,6 @@ abbrev pub StandsAt : Option ℕ → List ℕ → Type 0
 StandsAt reader octets = (held : ℕ) × (reader ≡ Some held) × Holds octets held
 
 -- The reader takes calls, and holds two CR at most.
--- twin: "A line end is LF, after no CR, one or two", "A third CR, another octet or the end after CR", "A reader holds two CR at most"
 abbrev pub IsPlace : Option ℕ → Type 0
 IsPlace reader = (held : ℕ) × (reader ≡ Some held) × (held ≤ max_returns)
 
@@ -42,7 +41,6 @@ abbrev pub LeadsOn : Option ℕ → List ℕ → Option ℕ → Type 0
 LeadsOn old piece new = (octets : List ℕ) → StandsAt old octets → StandsAt new (octets ++ piece)
 
 -- after `held` CR an octet that is neither LF nor one of the first two CR
--- twins (with IsControl, HasCause): "A third CR, another octet or the end after CR": 01 and 03 with CR before them and without
 abbrev pub IsLoneReturn : ℕ → ℕ → Type 0
 IsLoneReturn held octet = (0 < held) × (octet ≢ lf) × (octet ≡ cr → held ≡ max_returns)
 
@@ -100,7 +98,6 @@ abbrev pub HasBroken : Device → Device → Type 0
 HasBroken old new = RoseAtLeast 1 old.failures new.failures ⊎ RoseAtLeast max_interruptions old.interruptions new.interruptions
 
 -- A device took these octets. It has broken where the writer of lines stopped, and no call of it failed where it did not.
--- twin that nothing finds: no test stops so often
 pub record WritesOn (old new : Device) (stops_old stops_new : ℕ) (text : List ℕ) : Type 0 where
   pub octets : Appends old.octets new.octets text
   pub failures : old.failures ≤ new.failures
