@@ -1,13 +1,13 @@
--- Two streams of datasets that agree: the one is the other and more, for the proofs of every crate. Nothing here is to be believed.
+-- Two streams of datasets of which one continues the other: lemmas for the proofs of every crate.
 use Rattle.std.proofs.Common.{◌≡◌, ℕ, ◌⊎◌, List, [], ◌∷◌, ◌++◌, refl, sym, inl, inr, append_assoc}
 use Rattle.iim_dataset.specs.Format.Datasets.{Dataset, SpellsDataset, SpellsStream, count_octets}
 use Rattle.iim_dataset.specs.Laws.{NoDatasetBeginsAnother}
 
--- The one stream is the other and further datasets.
+-- The first stream is the second and further datasets.
 abbrev pub Longer : List Dataset → List Dataset → List ℕ → List ℕ → Type 0
 Longer whole ds z y = (more : List Dataset) × (r : List ℕ) × (ds ++ more ≡ whole) × SpellsStream count_octets more r × (r ++ z ≡ y)
 
--- The other is the one, a next dataset, and further ones.
+-- The second stream is the first, a next dataset, and further ones.
 pub record Next (whole ds : List Dataset) (z y : List ℕ) : Type 0 where
   pub dataset : Dataset
   pub more : List Dataset

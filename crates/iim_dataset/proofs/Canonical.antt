@@ -1,4 +1,4 @@
--- Canonical tags are spellings, and are read back.
+-- Canonical tags are encodings of their heads, and are read back.
 use Rattle.std.proofs.Common.{◌≡◌, ℕ, ◌+◌, ◌-◌, ◌^◌, ◌<◌, List, [], ◌∷◌, ◌++◌, length, take, drop, refl, sym, ap, ◌∙◌, arith, inl, inr, append_assoc, length-append, length-take}
 use Rattle.std.proofs.lemmas.List.{take-append-drop, take-append-le}
 use Rattle.std.proofs.Math.Seq.{take-append_seam, take-append-add}
@@ -20,12 +20,13 @@ count_spells n h = elim (cases_lt n 32768) [
 pub tag_spells : (h : Head) → IsOctet h.rec → IsOctet h.set → h.count < 256 ^ count_octets → SpellsTag count_octets h (canonical_tag h)
 tag_spells h r s c = record { rec = r; set = s; count = canonical_count h.count; is_count = count_spells h.count c; parts = refl }
 
--- octets lead into data of which some are to come, as many as a tag tells
+-- Some octets reach the data of a head exactly if at least one octet remains and no more than the
+-- tag counts.
 pub inside : (h : Head) (left : ℕ) → IsOctet h.rec → IsOctet h.set → h.count < 256 ^ count_octets → 0 < left
     → (IsTrue (nat_le left h.count) ↔ IsPlace (Inside h left))
 inside h left r s c some = ((λ is. (some, leb-true left h.count is, canonical_tag h, tag_spells h r s c)), (λ is. le-leb left h.count is.1))
 
--- a fault lies neither in a whole tag nor behind it
+-- A fault is neither within a complete tag nor after it.
 no_fault : (fault : HeadFault) (h : Head) (tag more : List ℕ) → SpellsTag count_octets h tag → HasNoTag (tag ++ more) fault → ⊥
 no_fault fault h tag more s found = elim (cases_lt fault.taken (length tag)) [
   | inl lt ↦

@@ -1,11 +1,11 @@
--- Which counts a tag tells.
+-- Which counts a tag can encode.
 use Rattle.std.proofs.Common.{ℕ, ◌^◌, ◌<◌, ◌≤◌, [], ◌∷◌, List, length, arith, inl, inr}
 use Rattle.std.proofs.Math.Nat.{pow-le-pow_right}
 use Rattle.iim_dataset.specs.Format.Octets.{Octets, number}
 use Rattle.iim_dataset.specs.Format.Datasets.{SpellsCount, SpellsTag, count_octets, Head}
 use Rattle.iim_dataset.proofs.OctetLists.{number-lt}
 
--- n octets or fewer
+-- The number of at most n octets is less than 256 ^ n.
 few-lt : (xs : List ℕ) (n : ℕ) → Octets xs → length xs ≤ n → number xs < 256 ^ n
 few-lt xs n h fits =
     let less = number-lt xs h in

@@ -1,4 +1,4 @@
--- What octets continue with, and where no octets do.
+-- How octets continue, and when they cannot.
 use Rattle.std.proofs.Common.{◌≡◌, ℕ, ◌⊎◌, List, [], ◌∷◌, ◌++◌, length, refl, ap, sym, ◌∙◌, arith, inl, inr, append_assoc, append-nil, length-append, replicate}
 use Rattle.iim_dataset.specs.Format.Octets.{IsOctet, IsAlive, DiesAt}
 use Rattle.iim_dataset.specs.Format.Datasets.{Dataset, SpellsTag, SpellsDataset, head_of, count_octets, Head, Begun, InTag, InData, Reads, BeginsNoTag}
@@ -9,14 +9,15 @@ use Rattle.iim_dataset.proofs.{OneHanding.read_octets_continue, OneHanding.not_w
 use Rattle.std.proofs.lemmas.List.{length-replicate}
 use Rattle.iim_dataset.specs.declared.head.HeadCause.{HeadCause}
 
--- of two cuts of one list, the second lies after the first, or the first has what comes next
+-- If a list is split in two ways, the second split is after the first, or the first part has the
+-- element after the second split.
 goes_on : {A : Type 0} (xs ys us vs : List A) (v : A) → xs ++ ys ≡ us ++ v ∷ vs → ((m : List A) × (us ≡ xs ++ m)) ⊎ ((m : List A) × (xs ≡ us ++ v ∷ m))
 goes_on [] ys us vs v e = inl (us, refl)
 goes_on (x ∷ xs) ys [] vs v e = inr (xs, cc)
 goes_on (x ∷ xs) ys (u ∷ us) vs v e =
     let first : x ≡ u = cc in elim (goes_on xs ys us vs v (cc)) [ inl (m, is) ↦ inl (m, λ i. sym first i ∷ is i) | inr (m, is) ↦ inr (m, λ i. first i ∷ is i) ]
 
--- after whole datasets, octets continue with another
+-- After complete datasets the octets continue with another one.
 following : {octets : List ℕ} (more : List ℕ) (next : ℕ) {whole w : List Dataset} {begun b : Begun} (xs : List ℕ)
     → (r : Reads count_octets octets whole begun) → r.rest ≡ xs
     → Reads count_octets (octets ++ next ∷ more) w b
@@ -30,7 +31,7 @@ following {octets} more next {whole} {w} {begun} {b} xs r is s =
       | inr n ↦ (n.dataset, n.p, n.q ++ [], more ++ m, n.spelled, simp append_assoc at (rw n.spelled.parts at (sym n.agree)))
     ]
 
--- a tag of which some octets are held continues with the next
+-- A partial tag continues with the next octet.
 pub tag_goes_on : {octets : List ℕ} (more : List ℕ) {held : List ℕ} (next : ℕ) {whole w : List Dataset} {b : Begun}
     → Reads count_octets octets whole (InTag held)
     → Reads count_octets (octets ++ next ∷ more) w b → (h : Head) × (m : List ℕ) × SpellsTag count_octets h (held ++ next ∷ m)
@@ -41,7 +42,7 @@ tag_goes_on more {held} next r s =
       | inr (m, is) ↦ (head_of d, m, rw is at spelled.is_tag)
     ]
 
--- data continue with an octet
+-- Partial data continue with an octet.
 pub data_go_on : {octets : List ℕ} (more : List ℕ) {taken : List ℕ} (next : ℕ) {whole w : List Dataset} {h : Head} {b : Begun}
     → Reads count_octets octets whole (InData h taken)
     → Reads count_octets (octets ++ next ∷ more) w b → IsOctet next
@@ -71,7 +72,7 @@ dies octets next whole held r dead =
           no_octets_continue octets rest next whole held ds (InTag []) r dead (whole_read (octets ++ next ∷ rest) ds (rw append_assoc at s)),
     )
 
--- with the octets of a tag a whole dataset can follow
+-- A complete dataset can follow the octets of a tag.
 lives : (octets : List ℕ) (next : ℕ) (whole : List Dataset) (held : List ℕ) → Reads count_octets octets whole (InTag held) → (h : Head) (more : List ℕ)
     → SpellsTag count_octets h ((held ++ next ∷ []) ++ more)
     → IsAlive AreDatasets (octets ++ next ∷ [])

@@ -1,11 +1,11 @@
--- Faults after calls that went well.
+-- Faults after calls without a failure.
 use Rattle.std.proofs.Common.{ℕ, List, ◌++◌, arith, ◌∙◌}
 use Rattle.iim_dataset.specs.States.Devices.{BrokeFor, Device, HasGiven, MissedAfter, Unfailed, Broke}
 use Rattle.iim_dataset.specs.Steps.{consumes_consumes}
 use Rattle.iim_dataset.specs.declared.device.IoFault.{IoFault}
 use Rattle.iim_dataset.specs.declared.device.IoFault.TheVariants.{Interrupted, Failed}
 
--- what broke later broke
+-- A later failure is a failure of all of the calls.
 pub broke_later : (a b c : Device) → Unfailed a b → Broke b c → Broke a c
 broke_later a b c h k = grind arith
 
@@ -13,7 +13,7 @@ pub broke_for_later : (a b c : Device) (fault : IoFault) → Unfailed a b → Br
 broke_for_later a b c Failed h f = grind arith
 broke_for_later a b c Interrupted h i = grind arith
 
--- what was missed after octets that were given
+-- A fault after some octets and then others is a fault after all of them.
 pub missed_later : (a b c : Device) (xs ys : List ℕ) (fault : IoFault) → HasGiven a b xs → MissedAfter b c ys fault → MissedAfter a c (xs ++ ys) fault
 missed_later a b c xs ys fault given missed =
     (consumes_consumes a.octets b.octets c.octets xs ys given.0 missed.0, broke_for_later a b c fault given.1 missed.1)

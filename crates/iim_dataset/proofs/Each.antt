@@ -1,4 +1,4 @@
--- Lemmas on what holds of each element of a list, for the proofs of every crate: nothing here is to be believed.
+-- Lemmas on properties of each element of a list, for the proofs of every crate.
 use Rattle.std.proofs.Common.{List, [], ◌∷◌, ◌++◌}
 use Rattle.std.specs.List.{AllByRecursion}
 

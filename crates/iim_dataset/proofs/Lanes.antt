@@ -1,4 +1,5 @@
--- Tests of several octets at once: each lane of a mask is set where its octet passes, and all lanes are where each octet does.
+-- Tests of several octets at once: each lane of a mask is set if its octet passes, and all lanes
+-- are set if each octet passes.
 use Rattle.std.proofs.Common.{◌≡◌, ℕ, ◌+◌, ◌*◌, ◌-◌, ◌<◌, ◌≤◌, ◌^◌, ◌%◌, Bool, true, false, not, cond, ◌&&◌, nat_eq, nat_le, List, [], ◌∷◌, length, map, replicate, take, refl, ap, ◌∙◌, arith, bit_and}
 use Rattle.std.proofs.lemmas.Bool.Decides.{nat_tests}
 use Rattle.std.specs.Simd.Lanes.{zip2, mask_l, top}
@@ -39,7 +40,7 @@ tops : (q : ℕ → Bool) (xs : List ℕ) → map (top 7) (map (λ x. lane (q x)
 tops q [] = refl
 tops q (x ∷ xs) = λ i. top_lane (q x) i ∷ tops q xs i
 
--- a mask of the octets that pass is full where each of them does
+-- A mask of the octets that pass is full exactly if each of them passes.
 pub all_set : (q : ℕ → Bool) (xs ms : List ℕ) (n : ℕ) → length xs ≡ n → n ≤ 64 → ms ≡ map (λ x. lane (q x)) xs
     → nat_eq (mask_l (map (top 7) ms) % 2 ^ 64) (2 ^ n - 1) ≡ list_all q xs
 all_set q xs ms n long le is =
@@ -48,15 +49,15 @@ all_set q xs ms n long le is =
 
 -- ---- lanes by a comparison
 
--- the lanes that are an octet or greater
+-- the lanes whose octet is at least a given one
 abbrev pub from_on : ℕ → ℕ → List ℕ → List ℕ
 from_on n least xs = zip2 (λ a b. lane (nat_le a b)) (replicate n least) xs
 
--- the lanes that are an octet or less
+-- the lanes whose octet is at most a given one
 abbrev pub up_to : ℕ → ℕ → List ℕ → List ℕ
 up_to n most xs = zip2 (λ a b. lane (nat_le a b)) xs (replicate n most)
 
--- the lanes that are another octet
+-- the lanes whose octet is not a given one
 abbrev pub other_than : ℕ → ℕ → List ℕ → List ℕ
 other_than n octet xs = zip2 (λ a b. lane (not (nat_eq a b))) xs (replicate n octet)
 
@@ -64,7 +65,7 @@ other_than n octet xs = zip2 (λ a b. lane (not (nat_eq a b))) xs (replicate n o
 abbrev pub are_set : ℕ → List ℕ → Bool
 are_set n ms = nat_eq (mask_l (map (top 7) ms) % 2 ^ 64) (2 ^ n - 1)
 
--- the lanes of a class are all set where the first octets are all of it
+-- All lanes of a class are set exactly if the first octets are all of that class.
 pub first_of : (xs : List ℕ) (n : ℕ) → n ≤ length xs → n ≤ 64 → (q : ℕ → Bool) (lanes : ℕ → List ℕ → List ℕ)
     → ((ys : List ℕ) → lanes (length ys) ys ≡ map (λ x. lane (q x)) ys)
     → are_set n (lanes n (take n xs)) ≡ list_all q (take n xs)

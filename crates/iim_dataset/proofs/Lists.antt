@@ -1,4 +1,4 @@
--- Lemmas on lists, options and results, for the proofs of every crate: nothing here is to be believed.
+-- Lemmas on lists, options and results, for the proofs of every crate.
 use Rattle.std.proofs.Common.{◌≡◌, ℕ, ◌<◌, ◌≤◌, ◌+◌, ◌*◌, Bool, true, false, ◌&&◌, not, cond, nat_le, List, [], ◌∷◌, ◌++◌, length, Option, Some, None, is_some, Result, Ok, Err, IfErr, refl, ap, ◌∙◌, arith}
 use Rattle.std.specs.Result.{IsErrAnd}
 use Rattle.std.specs.Option.{IsSome}
@@ -35,7 +35,7 @@ sum_cons n ns = sum_by-cons (λ (m : ℕ). m) n ns
 pub sum_append : (xs ys : List ℕ) → sum (xs ++ ys) ≡ sum xs + sum ys
 sum_append xs ys = sum_by-append (λ n. n) xs ys
 
--- numbers that are no more than the most
+-- The sum of numbers of which each is at most `most` is at most their count times `most`.
 pub sum_fits : (most : ℕ) (ns : List ℕ) → AllByRecursion (λ n. n ≤ most) ns → sum ns ≤ length ns * most
 sum_fits most [] h = omega arith
 sum_fits most (n ∷ ns) h =

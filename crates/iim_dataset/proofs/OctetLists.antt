@@ -1,11 +1,11 @@
--- Lemmas on lists of octets, for the proofs of every crate: nothing here is to be believed.
+-- Lemmas on lists of octets, for the proofs of every crate.
 use Rattle.std.proofs.Common.{◌≡◌, ℕ, zero, suc, ◌+◌, ◌*◌, ◌^◌, ◌<◌, ◌≤◌, List, [], ◌∷◌, ◌++◌, length, take, get_or, replicate, ap, arith}
 use Rattle.std.proofs.Math.Nat.{mul-le-mul_right, pow-succ'}
 use Rattle.byteorder.specs.Numbers.{big_from-cons}
 use Rattle.iim_dataset.specs.Format.Octets.{IsOctet, Octets, number}
 use Rattle.iim_dataset.proofs.Each.{all_append}
 
--- each is an octet
+-- Each element is an octet.
 abbrev pub Fit : List ℕ → Type 0
 Fit octets = (i : ℕ) → get_or octets i 0 < 256
 
@@ -21,7 +21,7 @@ front_are (suc n) (x ∷ xs) h = (h.0, front_are n xs h.1)
 pub octets_append : (xs ys : List ℕ) → Octets xs → Octets ys → Octets (xs ++ ys)
 octets_append xs ys h k = all_append IsOctet xs ys h k
 
--- an octet as often as may be
+-- One octet, repeated, is a list of octets.
 pub octets_same : (b n : ℕ) → b < 256 → Octets (replicate n b)
 octets_same b zero h = tt
 octets_same b (suc n) h = (h, octets_same b n h)
@@ -29,11 +29,11 @@ octets_same b (suc n) h = (h, octets_same b n h)
 pub zeros_are : (n : ℕ) → Octets (replicate n 0)
 zeros_are n = octets_same 0 n (omega arith)
 
--- the first octet counts by its place
+-- The number of a list of octets, by its first octet and the rest.
 pub number-cons : (b : ℕ) (bs : List ℕ) → number (b ∷ bs) ≡ b * 256 ^ length bs + number bs
 number-cons b bs = ap (λ (r : ℕ). b * 256 ^ length bs + r) (big_from-cons 0 (length bs) b bs)
 
--- n octets spell less than 256 ^ n
+-- n octets encode a number less than 256 ^ n.
 pub number-lt : (xs : List ℕ) → Octets xs → number xs < 256 ^ length xs
 number-lt [] h = omega arith
 number-lt (b ∷ bs) h =

@@ -1,4 +1,4 @@
--- Octets are handed on in one way, and continue to datasets.
+-- Octets determine the events that a reader emits, and continue to datasets.
 use Rattle.std.proofs.Common.{◌≡◌, ℕ, ◌-◌, List, ◌++◌, length, replicate, ap, sym, ◌∙◌, arith, append_assoc, length-append}
 use Rattle.std.proofs.lemmas.List.{length-replicate}
 use Rattle.iim_dataset.specs.Format.Datasets.{SpellsTag, count_octets, Dataset, Head, Begun, InTag, InData, IsBegun, IsPart, SplitsInto, Reads}
@@ -6,7 +6,7 @@ use Rattle.iim_dataset.specs.Laws.{OctetsAreHandedOnOneWay, ReadOctetsContinue}
 use Rattle.iim_dataset.proofs.Spelled.{one_tag, no_longer, one_split, with_data, stream_more}
 use Rattle.iim_dataset.proofs.OctetLists.{zeros_are, octets_append}
 
--- what is begun continues to a dataset
+-- A partial dataset continues to a complete one.
 ends : (begun : Begun) (rest : List ℕ) → IsBegun count_octets begun rest → IsPart count_octets rest
 ends (InTag held) rest (e, h, tag, s, (more, some, whole)) =
     let zeros = replicate h.count 0 in record {
@@ -25,7 +25,7 @@ ends (InData h taken) rest (tag, s, some, o, e) =
       is_part = (zeros, omega (arith, some, len), rw e (append_assoc tag taken zeros));
     }
 
--- what was read is split into whole datasets and less than one
+-- Octets that were read split into complete datasets and less than one.
 pub splits : {octets : List ℕ} {whole : List Dataset} {begun : Begun} → (r : Reads count_octets octets whole begun)
     → SplitsInto count_octets octets whole r.rest
 splits {begun = begun} r = record { front = r.front; is_front = r.is_front; is_rest = ends begun r.rest r.is_rest; parts = r.parts }
@@ -37,12 +37,12 @@ read_octets_continue octets whole begun r =
     let spelled = stream_more whole r.front part.begun part.octets r.is_front part.spelled in
     (part.begun, more, some, rw (r.parts, append_assoc, joined) spelled)
 
--- no whole tag lies within the octets of a begun one
+-- No complete tag is within the octets of a partial one.
 pub not_within : {k : Head} {tag held rest : List ℕ} (m : List ℕ) → SpellsTag count_octets k tag → IsBegun count_octets (InTag held) rest → rest ≡ tag ++ m → ⊥
 not_within {tag = tag} m s (e, h, whole, t, (more, some, joined)) is =
     no_longer (m ++ more) s t (omega (arith, some, length-append m more)) (rw (← joined, ← e, is) (sym (append_assoc tag m more)))
 
--- the begun dataset is determined
+-- The octets determine the partial dataset.
 one_begun : (rest : List ℕ) (b c : Begun) → IsBegun count_octets b rest → IsBegun count_octets c rest → b ≡ c
 one_begun rest (InTag held) (InTag other) b c = ap InTag (sym b.0 ∙ c.0)
 one_begun rest (InTag held) (InData k taken) b c = absurd (not_within taken c.1 b c.4)

@@ -22,7 +22,7 @@ two_of (x ∷ since) later event a b e = let rest = one_of since later event b (
 
 -- ---- one octet
 
--- what octets completed since earlier ones is what they bring
+-- The events since earlier ones are those that the octets add.
 brought : {octets : List ℕ} (before since later es : List DatasetEvent) (event : DatasetEvent) {b c : Begun}
     → HandsOn count_octets octets ((before ++ since) ++ event ∷ later) b → HandsOn count_octets octets (before ++ es) c → since ++ event ∷ later ≡ es
 brought {octets} before since later es event {b} {c} h k =

@@ -1,4 +1,4 @@
--- What octets do to a reader that stands at a place, and which octets lead there.
+-- What octets do to the state of a reader, and which octets reach a state.
 use Rattle.std.proofs.Common.{◌≡◌, ℕ, ◌+◌, ◌-◌, ◌<◌, ◌==◌, Bool, true, false, if◌then◌else◌, List, [], ◌∷◌, ◌++◌, length, take, slice_index, refl, ap, sym, ◌∙◌, arith, append_assoc, append-nil, length-append, map, flat_map, inl, inr, replicate, subst}
 use Rattle.std.proofs.lemmas.Bool.{cases_lt, eq-eqb}
 use Rattle.std.proofs.lemmas.Bool.Decides.{nat_tests}
@@ -11,9 +11,9 @@ use Rattle.iim_dataset.specs.States.Reading.{DatasetEvent, HeadRead, DataOctet, 
 use Rattle.iim_dataset.proofs.{Spelled.with_data, Spelled.stream_more, Spelled.held_of, Spelled.whole_read, OctetLists.octets_append, OctetLists.zeros_are}
 use Rattle.iim_dataset.proofs.OneHanding.{one_handing}
 
--- ---- what is begun, and what was handed on of it
+-- ---- The partial dataset, and its events.
 
--- what is begun continues
+-- The partial dataset continues.
 hands_more : {octets : List ℕ} (ys : List ℕ) {events : List DatasetEvent} (more : List DatasetEvent) {b c : Begun}
     → (h : HandsOn count_octets octets events b) → IsBegun count_octets c (h.reads.rest ++ ys)
     → handed_on h.whole c ≡ handed_on h.whole b ++ more → HandsOn count_octets (octets ++ ys) (events ++ more) c
@@ -26,7 +26,7 @@ hands_more ys more h begun told =
       handed = ap (λ es. es ++ more) h.handed ∙ sym told;
     }
 
--- a dataset ends
+-- A dataset ends.
 hands_end : {octets : List ℕ} (ys : List ℕ) {events : List DatasetEvent} (more : List DatasetEvent) {b : Begun}
     → (hands : HandsOn count_octets octets events b) (h : Head) (tag xs : List ℕ) → SpellsTag count_octets h tag → Octets xs
     → length xs ≡ h.count → hands.reads.rest ++ ys ≡ tag ++ xs
@@ -51,7 +51,7 @@ pub handed_data : (whole : List Dataset) (h : Head) (taken ys : List ℕ)
     → handed_on whole (InData h (taken ++ ys)) ≡ handed_on whole (InData h taken) ++ map DataOctet ys
 handed_data whole h taken ys = simp (map-append, append_assoc)
 
--- ---- what a place keeps
+-- ---- What a state stores.
 
 pub tag_held : (held : ArrayVec ℕ) {octets : List ℕ} {events : List DatasetEvent} → LeadsTo count_octets octets events (Tag held)
     → HandsOn count_octets octets events (InTag held.items)
@@ -70,22 +70,23 @@ data_kept h left {octets} {events} l = by l.begun l.hands l.keeps
     by (InTag xs) hands k = absurd k
     by (InData g taken) hands k = (taken, rw k.0 hands, rw k.0 k.1)
 
--- ---- from place to place
+-- ---- From state to state.
 
--- at the beginning
+-- The start of a stream is the state between datasets.
 pub begins : LeadsTo count_octets [] [] between
 begins = record { begun = InTag []; hands = record { whole = []; reads = whole_read [] [] refl; handed = refl }; keeps = refl }
 
--- nothing
+-- No octets change no state.
 pub stays : (p : DatasetPlace) → Brings p [] [] p
 stays p octets events l = rw (append-nil octets, append-nil events) l
 
--- from one to another, and from there to a third
+-- Octets from one state to another, and from there to a third, are octets from the first to the
+-- third.
 pub brings_on : (p q r : DatasetPlace) (xs ys : List ℕ) (es fs : List DatasetEvent) → Brings p xs es q → Brings q ys fs r → Brings p (xs ++ ys) (es ++ fs) r
 brings_on p q r xs ys es fs f g octets events l =
     rw (← append_assoc octets xs ys, ← append_assoc events es fs) (g (octets ++ xs) (events ++ es) (f octets events l))
 
--- octets of a tag
+-- Octets of a tag that stays partial.
 pub tag_on : (held then_held : ArrayVec ℕ) (ys : List ℕ) → BeginsTag count_octets (held.items ++ ys) → then_held.items ≡ held.items ++ ys
     → Brings (Tag held) ys [] (Tag then_held)
 tag_on held then_held ys b e octets events l =
@@ -93,7 +94,7 @@ tag_on held then_held ys b e octets events l =
     let hands = hands_more ys [] t (held_of b (ap (λ l. l ++ ys) t.reads.is_rest.0)) (sym (append-nil (handed_on t.whole (InTag held.items)))) in
     record { begun = InTag (held.items ++ ys); hands = hands; keeps = e }
 
--- the end of a tag
+-- The end of a tag.
 pub head_on : (held : ArrayVec ℕ) (ys : List ℕ) (h : Head) → SpellsTag count_octets h (held.items ++ ys) → 0 < h.count
     → Brings (Tag held) ys (HeadRead h ∷ []) (Inside h h.count)
 head_on held ys h s some octets events l =
@@ -110,7 +111,7 @@ empty_on held ys h s none octets events l =
     let ended = hands_end ys (HeadRead h ∷ DatasetEnd ∷ []) t h (held.items ++ ys) [] s tt (sym none) parts in
     record { begun = InTag []; hands = ended (simp append-nil); keeps = refl }
 
--- the head comes first
+-- The head is the first event of a complete tag.
 pub head_first : (h : Head) → (later : List DatasetEvent) × (head_events h ≡ HeadRead h ∷ later)
 head_first h = by_count (h.count == 0)
   where
@@ -118,7 +119,7 @@ head_first h = by_count (h.count == 0)
     by_count true = (DatasetEnd ∷ [], refl)
     by_count false = ([], refl)
 
--- where the last octet of a tag leads
+-- the state after the last octet of a tag
 abbrev pub place_after_head : Head → DatasetPlace
 place_after_head h = if h.count == 0 then between else Inside h h.count
 
@@ -131,7 +132,7 @@ head_leads held ys h s = by_count (h.count == 0) refl
     by_count true e = empty_on held ys h s (grind (arith, nat_tests, e))
     by_count false e = head_on held ys h s (grind (arith, nat_tests, e))
 
--- data
+-- Data that stay incomplete.
 pub data_on : (h : Head) (left n : ℕ) (ys : List ℕ) → Octets ys → 0 < n → n + length ys ≡ left → Brings (Inside h left) ys (map DataOctet ys) (Inside h n)
 data_on h left n ys o some all octets events l =
     let (taken, hands, count) = data_kept h left l in
@@ -146,7 +147,7 @@ data_on h left n ys o some all octets events l =
       keeps = (refl, omega (arith, count, all, len));
     }
 
--- the end of a dataset
+-- The last data of a dataset.
 pub data_end : (h : Head) (left : ℕ) (ys : List ℕ) → Octets ys → length ys ≡ left → Brings (Inside h left) ys (map DataOctet ys ++ DatasetEnd ∷ []) between
 data_end h left ys o all octets events l =
     let (taken, hands, count) = data_kept h left l in
@@ -156,7 +157,7 @@ data_end h left ys o all octets events l =
     (omega (arith, count, all, length-append taken ys)) (ap (λ l. l ++ ys) parts ∙ append_assoc tag taken ys) (simp (map-append, append_assoc)) in
     record { begun = InTag []; hands = ended; keeps = refl }
 
--- a whole dataset
+-- A complete dataset.
 pub whole_on : (tag xs : List ℕ) (h : Head) → SpellsTag count_octets h tag → Octets xs → h.count ≡ length xs
     → Brings between (tag ++ xs) (HeadRead h ∷ (map DataOctet xs ++ DatasetEnd ∷ [])) between
 whole_on tag [] h s o all octets events l = rw append-nil (empty_on (record { items = [] }) tag h s all octets events l)
@@ -164,7 +165,7 @@ whole_on tag (x ∷ xs) h s o all octets events l =
     brings_on between (Inside h h.count) between tag (x ∷ xs) (HeadRead h ∷ []) (map DataOctet (x ∷ xs) ++ DatasetEnd ∷ [])
     (head_on (record { items = [] }) tag h s (omega (arith, all))) (data_end h h.count (x ∷ xs) o (sym all)) octets events l
 
--- one octet of data, and what it completes
+-- One octet of data, and what it completes.
 pub octet_on : (h : Head) (left b : ℕ) → b < 256 → 0 < left → (later : List DatasetEvent) × (next : DatasetPlace)
     × Brings (Inside h left) (b ∷ []) (DataOctet b ∷ later) next
 octet_on h left b o some = elim (cases_lt 1 left) [
@@ -172,9 +173,10 @@ octet_on h left b o some = elim (cases_lt 1 left) [
   | inr last ↦ (DatasetEnd ∷ [], between, data_end h left (b ∷ []) (o, tt) (omega (arith, last, some)))
 ]
 
--- ---- stops
+-- ---- Stops of the sink.
 
--- The octets before octet k lead to a place, and from there it completes events, of which the sink refused one.
+-- The octets before octet k reach a state, and from there octet k completes events, of which the
+-- sink rejected one.
 pub stops_at : {D : Type 0} {stops : D → List DatasetEvent → DatasetEvent → D → Type 0} {p : DatasetPlace} (q r : DatasetPlace) {piece : List ℕ} {k : ℕ}
     (es fs mine later : List DatasetEvent) (event : DatasetEvent) {a b : D} → Brings p (take k piece) es q → Brings q (slice_index piece k ∷ []) fs r
     → fs ≡ mine ++ event ∷ later → stops a (es ++ mine) event b → Stops stops p piece k a b
@@ -196,11 +198,11 @@ stops_at q r {piece} {k} es fs mine later event f g parts s = record {
       };
 }
 
--- the head of a dataset without data completes it
+-- The head of a dataset without data completes it.
 pub no_data : (h : Head) → h.count ≡ 0 → head_events h ≡ HeadRead h ∷ DatasetEnd ∷ []
 no_data h none = rw (eq-eqb h.count 0 none) refl
 
--- ---- octets that lead to a place
+-- ---- Some octets reach each state that satisfies the invariant.
 
 reached : (place : DatasetPlace) → IsPlace place → (octets : List ℕ) × (events : List DatasetEvent) × LeadsTo count_octets octets events place
 reached (Tag held) is =
@@ -218,7 +220,7 @@ reached (Inside h left) (some, within, tag, s) =
       record { begun = InData h zeros; hands = record { whole = []; reads = reads; handed = refl }; keeps = (refl, omega (arith, count, within)) },
     )
 
--- ---- octets that led to a place
+-- ---- Octets reach only states that satisfy the invariant.
 
 led : (place : DatasetPlace) (octets : List ℕ) (events : List DatasetEvent) → LeadsTo count_octets octets events place → IsPlace place
 led (Tag held) octets events l =
@@ -232,7 +234,7 @@ led (Inside h left) octets events l =
 pub places_are_reached : PlacesAreReached
 places_are_reached place = (reached place, λ l. led place l.0 l.1 l.2)
 
--- ---- one place
+-- ---- The state is determined.
 
 same_place : (begun : Begun) (p q : DatasetPlace) → IsKeptAs p begun → IsKeptAs q begun → p ≡ q
 same_place (InTag octets) (Tag a) (Tag b) h k = λ i. Tag (record { items = (h ∙ sym k) i })

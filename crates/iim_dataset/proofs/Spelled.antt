@@ -1,4 +1,4 @@
--- Datasets and their spellings: lemmas for the proofs of every crate, of which nothing is to be believed.
+-- Datasets and their encodings: lemmas for the proofs of every crate.
 use Rattle.std.proofs.Common.{◌≡◌, ℕ, ◌+◌, ◌≤◌, List, [], ◌∷◌, ◌++◌, length, ap, sym, refl, arith, inl, inr, append-nil, append_assoc, ◌<◌, ◌∙◌, length-append}
 use Rattle.iim_dataset.specs.{Format.Octets.Octets, Steps.same_front}
 use Rattle.iim_dataset.specs.Format.Datasets.{Dataset, SpellsCount, SpellsTag, SpellsDataset, SpellsStream, count_octets, tag_octets, head_of, Head, InTag, IsBegun, Reads, IsPart, SplitsInto, BeginsTag}
@@ -16,28 +16,28 @@ count_length count (high ∷ low ∷ more) (inr s) = omega (arith, s.1, s.3)
 pub tag_length : (h : Head) (tag : List ℕ) → SpellsTag count_octets h tag → length tag ≤ tag_octets
 tag_length h tag s = omega (arith, ap length s.parts, count_length h.count s.count s.is_count)
 
--- a tag, and as many octets as it counts
+-- A tag with as many octets as it counts is a dataset.
 pub with_data : (h : Head) (tag xs : List ℕ) → SpellsTag count_octets h tag → Octets xs → length xs ≡ h.count
     → SpellsDataset count_octets (record { rec = h.rec; set = h.set; octets = xs }) (tag ++ xs)
 with_data h tag xs s o count = record { tag = tag; is_tag = rw count s; data_octets = o; parts = refl }
 
--- whole datasets and one more
+-- Complete datasets and one more are a stream.
 pub stream_more : (ds : List Dataset) (front : List ℕ) (d : Dataset) (x : List ℕ) → SpellsStream count_octets ds front → SpellsDataset count_octets d x
     → SpellsStream count_octets (ds ++ d ∷ []) (front ++ x)
 stream_more [] front d x s one = (x, [], one, refl, rw s (sym (append-nil x)))
 stream_more (c ∷ ds) front d x (p, q, first, more, joined) one = (p, q ++ x, first, stream_more ds q d x more one, rw joined (append_assoc p q x))
 
--- what begins a tag is held of it
+-- Octets that begin a tag are those of a partial dataset.
 pub held_of : {held rest : List ℕ} → BeginsTag count_octets held → rest ≡ held → IsBegun count_octets (InTag held) rest
 held_of {held} b e = (e, b.head, held ++ b.more, b.whole, (b.more, b.some_more, refl))
 
--- whole datasets were read, and nothing is begun
+-- The octets of complete datasets are read with nothing partial.
 pub whole_read : (xs : List ℕ) (ds : List Dataset) → SpellsStream count_octets ds xs → Reads count_octets xs ds (InTag [])
 whole_read xs ds s = record { front = xs; rest = []; is_front = s; is_rest = held_of begun_none refl; parts = sym (append-nil xs) }
 
--- ---- no spelling begins another
+-- ---- No encoding is a prefix of another.
 
--- what two spellings with tails that join to one list have in common
+-- Two encodings that begin the same list are the same, and so is the rest of the list.
 one_count : (limit c d : ℕ) (o p x y : List ℕ) → SpellsCount limit c o → SpellsCount limit d p → o ++ x ≡ p ++ y
     → (c ≡ d) × (o ≡ p) × (x ≡ y)
 one_count limit c d [] p x y h k e = absurd h
@@ -72,13 +72,13 @@ one_dataset limit d f o p x y s t e =
     let same : d.octets ≡ f.octets = both.0 in
     (dataset_is d f (ap (λ (h : Head). h.rec) head) (ap (λ (h : Head). h.set) head) same, cc, both.1)
 
--- no tag begins a longer one
+-- No tag is a proper prefix of another.
 pub no_longer : {limit : ℕ} {h k : Head} {tag whole : List ℕ} (more : List ℕ) → SpellsTag limit h tag → SpellsTag limit k whole → 0 < length more
     → tag ++ more ≡ whole → ⊥
 no_longer {limit} {h} {k} {tag} {whole} more s t some e =
     let one = one_tag limit h k tag whole more [] s t (e ∙ sym (append-nil whole)) in omega (arith, ap length one.2, some)
 
--- no part of a dataset begins with a whole one
+-- No proper prefix of a dataset begins with a complete one.
 pub no_whole : {limit : ℕ} {d : Dataset} {o t : List ℕ} (x : List ℕ) → SpellsDataset limit d o → IsPart limit t → o ++ x ≡ t → ⊥
 no_whole {limit} {d} {o} {t} x s part e =
     let (more, some, whole) = part.is_part in

@@ -1,4 +1,4 @@
--- What a front of octets leads to, and where a sink stops in it.
+-- What a prefix of octets reaches, and where a sink stops in it.
 use Rattle.std.specs.List.{slice_range}
 use Rattle.std.proofs.lemmas.List.{take_rest, map-append, length-take-le, take-take, get_or-take, get_or-append-add}
 use Rattle.std.proofs.lemmas.Bool.Decides.{nat_tests}
@@ -22,10 +22,10 @@ octet_at [] k o lt = absurd (omega (arith, lt))
 octet_at (x ∷ xs) zero o lt = o.0
 octet_at (x ∷ xs) (suc k) o lt = octet_at xs k o.1 (omega (arith, lt))
 
--- ---- where the sink stops
+-- ---- Where the sink stops.
 
 module _ {D : Type 0} {stops : D → List DatasetEvent → DatasetEvent → D → Type 0} where
-  -- at an octet of data
+  -- The sink stops at an octet of data.
   pub data_stops : {h : Head} {left t : ℕ} {rest : List ℕ} {a b : D} → Octets rest → t < length rest → t < left
       → stops a (map DataOctet (take t rest)) (DataOctet (slice_index rest t)) b → Stops stops (Inside h left) rest t a b
   data_stops {h} {left} {t} {rest} o lt more s =
@@ -35,7 +35,7 @@ module _ {D : Type 0} {stops : D → List DatasetEvent → DatasetEvent → D �
       data_on h left (left - t) (take t rest) (front_are t rest o) (omega (arith, more)) (omega (arith, more, length-take-le t rest (omega (arith, lt)))) in
       stops_at (Inside h (left - t)) next.1 (map DataOctet (take t rest)) (DataOctet x ∷ next.0) [] next.0 (DataOctet x) before next.2 refl (rw append-nil s)
 
-  -- at the end of a dataset, which its last octet completes
+  -- The sink stops at the end of a dataset, which its last octet completes.
   pub end_stops : {h : Head} {left : ℕ} {rest : List ℕ} {a b : D} → Octets rest → 0 < left → left ≤ length rest
       → stops a (map DataOctet (take left rest) ++ []) DatasetEnd b → Stops stops (Inside h left) rest (left - 1) a b
   end_stops {h} {left} {rest} o some within s =
@@ -48,7 +48,7 @@ module _ {D : Type 0} {stops : D → List DatasetEvent → DatasetEvent → D �
       (data_end h 1 (x ∷ []) (octet_at rest k o lt, tt) refl) refl
       (rw (append-nil, all, one_more [] rest k lt, map-append) at s)
 
-  -- at what the last octet of a tag completes
+  -- The sink stops at what the last octet of a tag completes.
   pub tag_stops : (held : ArrayVec ℕ) {rest : List ℕ} {h : Head} {k : ℕ} {a b : D} → k < length rest
       → SpellsTag count_octets h (held.items ++ take (k + 1) rest)
       → stops a [] (HeadRead h) b ⊎ ((h.count ≡ 0) × stops a (HeadRead h ∷ []) DatasetEnd b) → Stops stops (Tag held) rest k a b
@@ -61,14 +61,14 @@ module _ {D : Type 0} {stops : D → List DatasetEvent → DatasetEvent → D �
         | inr (none, at) ↦ stops_at (Tag before) (place_after_head h) [] (head_events h) (HeadRead h ∷ []) [] DatasetEnd on leads (no_data h none) at
       ]
 
-  -- nothing is begun then, and the fault says so
+  -- After a stop of the sink the state is between datasets, and the fault is a stop.
   pub stopped_at : {goes : D → List DatasetEvent → D → Type 0} {stands : D → Option ℕ → Type 0} {old : DatasetPlace} {octets : List ℕ} {k : ℕ}
       (given : DatasetPlace × Fault) {a b : D} → IsPlace given.0 → given.0 ≡ between → given.1 ≡ record { cause = Stopped; used = k } → k < length octets
       → Stops stops old octets k a b
       → RefusesOne goes stops stands (old, a) octets given.1 (given.0, b)
   stopped_at given is_place none is lt s = record { is_place = is_place; before = rw is lt; refused = rw is (s, none); onward = rw is tt }
 
--- ---- after a front
+-- ---- After a prefix.
 
 module _ {D : Type 0} {goes : D → List DatasetEvent → D → Type 0}
     (joined : (a b c : D) (xs ys : List DatasetEvent) → goes a xs b → goes b ys c → goes a (xs ++ ys) c) (piece : List ℕ) (i k : ℕ) where
@@ -112,13 +112,13 @@ after_tag h tag s = by_count (h.count == 0) refl
     by_count true e = begun_none
     by_count false e = (grind (arith, nat_tests, e), omega arith, tag, s)
 
--- What a sink answers to the end of a dataset says whether it can continue.
+-- What a sink returns at the end of a dataset determines whether it can continue.
 pub after_end : {D : Type 0} (stands : D → Option ℕ → Type 0) (ends : D → Type 0) (step : Step) (place : DatasetPlace) (a : D) → place ≡ between
     → AfterStep stands ends a step → TakesOnward stands ends step place a
 after_end stands ends More place a none s = rw none s
 after_end stands ends Last place a none s = (s, none)
 
--- five octets of which the last two are a standard count, and the data after them
+-- Five octets that end in a standard count, and the data after them.
 pub standard_front : (rest : List ℕ) (high low : ℕ) (xs : List ℕ) → Fit rest → 5 + (high * 256 + low) ≤ length rest → get_or rest 0 0 ≡ 28
     → get_or rest 3 0 < 128
     → high ≡ get_or rest 3 0 → low ≡ get_or rest 4 0 → xs ≡ take (high * 256 + low) (take (length rest - 5) (drop 5 rest))
@@ -137,15 +137,15 @@ standard_front rest high low xs fits within marker form is_high is_low are =
       parts = parts;
     }
 
--- the sink was told of a whole dataset
+-- The sink received a complete dataset.
 pub tells_whole : {D : Type 0} {goes : D → List DatasetEvent → D → Type 0} {rest xs : List ℕ} {h : Head} {used : ℕ} {a b : D} → WholeFront rest h xs used
     → goes a (HeadRead h ∷ (map DataOctet xs ++ DatasetEnd ∷ [])) b → TellsSink goes between (take used rest) between a b
 tells_whole {xs = xs} {h = h} f told =
     record { more = HeadRead h ∷ (map DataOctet xs ++ DatasetEnd ∷ []); told = told; brings = rw f.parts (whole_on f.tag xs h f.spells f.octets f.count) }
 
--- ---- where the sink stops in a whole dataset
+-- ---- Where the sink stops in a complete dataset.
 
--- the head, and some of the data
+-- The head, and a prefix of the data.
 front_on : (tag xs : List ℕ) (h : Head) (t : ℕ) → SpellsTag count_octets h tag → Octets xs → h.count ≡ length xs → t < length xs
     → Brings between (tag ++ take t xs) (HeadRead h ∷ map DataOctet (take t xs)) (Inside h (length xs - t))
 front_on tag xs h t s o all lt =
@@ -154,7 +154,7 @@ front_on tag xs h t s o all lt =
     (head_on (record { items = [] }) tag h s (omega (arith, all, lt)))
     (data_on h h.count (length xs - t) (take t xs) (front_are t xs o) (omega (arith, lt)) (omega (arith, lt, all, few)))
 
--- the tag has as many octets as the data leave of them
+-- The tag and the data together have `used` octets.
 tag_length : {rest xs : List ℕ} {h : Head} {used : ℕ} (f : WholeFront rest h xs used) → used ≡ length f.tag + length xs
 tag_length {rest} {xs} {used = used} f = sym (length-take-le used rest f.within) ∙ ap length f.parts ∙ length-append f.tag xs
 

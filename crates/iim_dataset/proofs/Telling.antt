@@ -1,9 +1,9 @@
--- What was handed on tells the datasets.
+-- The events that a reader emitted determine the datasets.
 use Rattle.std.proofs.Common.{◌≡◌, ℕ, List, [], ◌∷◌, ◌++◌, refl, ap, sym, ◌∙◌, append_assoc, append-nil, map}
 use Rattle.iim_dataset.specs.Format.Datasets.{Dataset, head_of, Begun, InTag, InData}
 use Rattle.iim_dataset.specs.States.Reading.{DatasetEvent, HeadRead, DataOctet, DatasetEnd, begun_events, begun_data, handed_on}
 
--- the data at the front, and what follows them
+-- the data octets at the start of the events, and the events after them
 abbrev led : List DatasetEvent → List ℕ × List DatasetEvent
 led (DataOctet b ∷ es) = (b ∷ (led es).0, (led es).1)
 led es = ([], es)
@@ -12,22 +12,22 @@ led_data : (xs : List ℕ) (r : List DatasetEvent) → led r ≡ ([], r) → led
 led_data [] r e = e
 led_data (x ∷ xs) r e = ap (λ (p : List ℕ × List DatasetEvent). (x ∷ p.0, p.1)) (led_data xs r e)
 
--- data before what are none, and these, are determined
+-- Data octets before an event that is not one, and the events after them, are determined.
 parted : (xs ys : List ℕ) (r s : List DatasetEvent) → led r ≡ ([], r) → led s ≡ ([], s) → map DataOctet xs ++ r ≡ map DataOctet ys ++ s → (xs ≡ ys) × (r ≡ s)
 parted xs ys r s none other e =
     let both : (xs, r) ≡ (ys, s) = sym (led_data xs r none) ∙ (ap led e ∙ led_data ys s other) in
     (ap (λ (p : List ℕ × List DatasetEvent). p.0) both, ap (λ (p : List ℕ × List DatasetEvent). p.1) both)
 
--- the data before an end, and what follows it, are determined
+-- The data before an end, and the events after it, are determined.
 pub same_data : (xs ys : List ℕ) (r s : List DatasetEvent) → map DataOctet xs ++ DatasetEnd ∷ r ≡ map DataOctet ys ++ DatasetEnd ∷ s → (xs ≡ ys) × (r ≡ s)
 same_data xs ys r s e = let both = parted xs ys (DatasetEnd ∷ r) (DatasetEnd ∷ s) refl refl e in let ends = both.1 in (both.0, cc)
 
--- the first dataset, and what follows it
+-- The events of the first dataset, and then the others.
 first_then : (d : Dataset) (ds : List Dataset) (b : Begun)
     → handed_on (d ∷ ds) b ≡ HeadRead (head_of d) ∷ (map DataOctet d.octets ++ DatasetEnd ∷ handed_on ds b)
 first_then d ds b = simp append_assoc
 
--- what is begun is no whole dataset
+-- The events of a partial dataset are not those of a complete one.
 not_whole : (b : Begun) (d : Dataset) (ds : List Dataset) (c : Begun) → begun_events b ≡ handed_on (d ∷ ds) c → ⊥
 not_whole (InTag x) d ds c e = absurd (let both = e ∙ first_then d ds c in cc)
 not_whole (InData h xs) d ds c e =

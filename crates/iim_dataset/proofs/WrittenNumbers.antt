@@ -1,11 +1,11 @@
--- Lemmas on numbers as they are written, for the proofs of every crate: nothing here is to be believed.
+-- Lemmas on numbers as they are written, for the proofs of every crate.
 use Rattle.std.proofs.Common.{◌≡◌, ℕ, ◌+◌, ◌^◌, ◌<◌, ◌≤◌, List, [], length, length-append, arith, inl, inr}
 use Rattle.std.proofs.lemmas.Bool.{cases_lt, lt-ltb, le-ltb}
 use Rattle.byteorder.specs.{Endian.big_bytes, Numbers.big_number-reads_back}
 use Rattle.iim_dataset.specs.Format.Octets.{Octets, number}
 use Rattle.iim_dataset.specs.Format.Datasets.{Dataset, canonical_count, canonical_dataset, tag_octets, written_number}
 
--- what holds of the number in four octets, and in eight
+-- What holds of a number in four octets and in eight holds of it as it is written.
 written : (P : List ℕ → Type 0) (n : ℕ) → (n < 2 ^ 32 → P (big_bytes 4 n)) → P (big_bytes 8 n) → P (written_number n)
 written P n four eight = elim (cases_lt n (2 ^ 32)) [ inl lt ↦ rw (lt-ltb n (2 ^ 32) lt) (four lt) | inr ge ↦ rw (le-ltb n (2 ^ 32) ge) eight ]
 
@@ -29,6 +29,6 @@ count_length n = elim (cases_lt n 32768) [
   | inr ge ↦ rw (le-ltb n 32768 ge) (omega (arith, few_octets n))
 ]
 
--- beside its data a dataset has the octets of a tag at most
+-- A canonical dataset is at most a tag longer than its data.
 pub dataset_length : (d : Dataset) → length (canonical_dataset d) ≤ tag_octets + length d.octets
 dataset_length d = omega (arith, count_length (length d.octets), length-append (canonical_count (length d.octets)) d.octets)

@@ -1,4 +1,4 @@
--- What holds of all octets, datasets and devices; the record at the end has a field for each law.
+-- Lemmas on all octets, datasets, readers and writers. The record at the end has a field for each.
 use Rattle.std.specs.Prelude.{◌≡◌, ℕ, List, [], ◌∷◌, ◌++◌, ◌+◌, length, ◌^◌, ◌<◌, ◌≤◌, ◌↔◌}
 use Rattle.iim_dataset.specs.Format.Datasets.{Dataset, SpellsTag, count_octets, SpellsDataset, SpellsStream, canonical_tag, canonical_stream, written_number, Head, InTag, InData, Reads, Begun, SplitsInto, IsBegun, CompletesData, BeginsTag, BeginsNoTag, HasTag, HasNoTag, HeadFault}
 use Rattle.iim_dataset.specs.States.Reading.{DatasetEvent, HeadRead, DataOctet, DatasetEnd, handed_on, begun_data, HandsOn, IsPlace, LeadsTo, DatasetPlace, Completes, TagDies}
@@ -7,7 +7,7 @@ use Rattle.iim_dataset.specs.Format.Octets.{IsOctet, Octets, number, IsAlive, Di
 use Rattle.iim_dataset.specs.declared.{device.IoFault.IoFault, head.HeadCause.HeadCause}
 use Rattle.std.specs.{Io.KnownBytes.Consumes, List.AllByRecursion}
 
--- ---- What one octet completes, as the octets themselves say it.
+-- ---- What one octet completes, by the octets themselves.
 
 -- The next octet is the last one of the tag of this head, after these events.
 pub record CompletesHead (octets : List ℕ) (next : ℕ) (events : List DatasetEvent) (head : Head) : Type 0 where
@@ -25,7 +25,8 @@ pub record CompletesOctet (octets : List ℕ) (next : ℕ) (events : List Datase
   pub reads : Reads count_octets octets whole (InData head taken)
   pub told : events ≡ handed_on whole (InData head taken)
 
--- The next octet is the last one of a dataset, after these events: its head and all of its data among them.
+-- The next octet is the last one of a dataset, after these events: its head and all of its data
+-- among them.
 pub record CompletesEnd (octets : List ℕ) (next : ℕ) (events : List DatasetEvent) : Type 0 where
   pub whole : List Dataset
   pub head : Head
@@ -33,148 +34,159 @@ pub record CompletesEnd (octets : List ℕ) (next : ℕ) (events : List DatasetE
   pub completes : CompletesData octets next whole head given
   pub told : events ≡ handed_on whole (InData head given)
 
--- The next octet completes this event, after these.
+-- After these events, the next octet completes this event.
 abbrev pub CompletesNow : List ℕ → ℕ → List DatasetEvent → DatasetEvent → Type 0
 CompletesNow octets next events (HeadRead h) = CompletesHead octets next events h
 CompletesNow octets next events (DataOctet b) = (b ≡ next) × CompletesOctet octets next events
 CompletesNow octets next events DatasetEnd = CompletesEnd octets next events
 
--- ---- What several calls of one device come to.
+-- ---- Several calls of one reader or writer.
 
--- Reads gave just these octets, and then one failed or was interrupted a million times in a row.
+-- Reads gave exactly these octets, and then one failed or was interrupted a million times in a row.
 abbrev pub BrokeAfterReads : Device → Device → List ℕ → Type 0
 BrokeAfterReads old new octets = Consumes old.octets new.octets octets × Broke old new
 
--- Octets that were given one after another were given joined, and a fault comes after all of them.
+-- Octets from one read after another are the same as their concatenation, and a fault comes after
+-- all of them.
 pub record GiftsJoin : Type 0 where
   pub none : (a : Device) → HasGiven a a []
   pub more : (a b c : Device) (xs ys : List ℕ) → HasGiven a b xs → HasGiven b c ys → HasGiven a c (xs ++ ys)
   pub fault : (a b c : Device) (xs : List ℕ) (fault : IoFault) → HasGiven a b xs → Missed b c fault → BrokeAfterReads a c xs
   pub missed : (a b c : Device) (xs : List ℕ) (fault : IoFault) → HasGiven a b xs → Missed b c fault → MissedAfter a c xs fault
 
--- Texts that were written one after another were written joined; where the second stopped, so did the joined one; and where
--- the device broke after the second, it broke after both.
+-- Texts written one after another are the same as their concatenation. If the second text stopped,
+-- so did the concatenation; and if the writer broke after the second text, it broke after both.
 pub record TextsJoin : Type 0 where
   pub none : (a : Device) → Wrote a a []
   pub more : (a b c : Device) (xs ys : List ℕ) → Wrote a b xs → Wrote b c ys → Wrote a c (xs ++ ys)
   pub stopped : (a b c : Device) (xs ys : List ℕ) (n : ℕ) → Wrote a b xs → Stopped b c ys n → Stopped a c (xs ++ ys) (length xs + n)
   pub broke : (a b c : Device) (xs ys : List ℕ) → Wrote a b xs → BrokeAfter b c ys → BrokeAfter a c (xs ++ ys)
 
--- ---- What holds of all spellings.
+-- ---- All encodings.
 
--- What is written of a number are octets, one at least and no more than a count may have, and they spell the number.
+-- The number is written in octets, at least one and no more than a count may have, and they encode
+-- the number.
 pub record IsReadBack (n : ℕ) : Type 0 where
   pub octets : Octets (written_number n)
   pub some : 1 ≤ length (written_number n)
   pub few : length (written_number n) ≤ count_octets
   pub back : number (written_number n) ≡ n
 
--- What `number_bytes` writes of a number are as many octets as a count or a size may have, and spell that number.
+-- `number_bytes` writes a number in as many octets as a count or a size may have, and they encode
+-- that number.
 abbrev pub NumbersAreReadBack : Type 0
 NumbersAreReadBack = (n : ℕ) → n < 2 ^ 64 → IsReadBack n
 
--- No tag begins another.
+-- No tag is a prefix of another: the tag at the start of octets is determined.
 abbrev pub NoTagBeginsAnother : Type 0
 NoTagBeginsAnother = (limit : ℕ) (h k : Head) (o p x y : List ℕ) → SpellsTag limit h o → SpellsTag limit k p → o ++ x ≡ p ++ y
     → (h ≡ k) × (o ≡ p) × (x ≡ y)
 
--- No spelling of a dataset begins another: what is spelled at the front of octets is determined.
+-- No encoding of a dataset is a prefix of another: the dataset at the start of octets is
+-- determined.
 abbrev pub NoDatasetBeginsAnother : Type 0
 NoDatasetBeginsAnother = (limit : ℕ) (d e : Dataset) (o p x y : List ℕ) → SpellsDataset limit d o → SpellsDataset limit e p → o ++ x ≡ p ++ y
     → (d ≡ e) × (o ≡ p) × (x ≡ y)
 
--- Octets split in one way at most into whole datasets and a rest that is less than one.
+-- Octets split in at most one way into complete datasets and a rest that is less than one.
 abbrev pub OctetsSplitOneWay : Type 0
 OctetsSplitOneWay = (limit : ℕ) (xs : List ℕ) (ds es : List Dataset) (t u : List ℕ) → SplitsInto limit xs ds t → SplitsInto limit xs es u
     → (ds ≡ es) × (t ≡ u)
 
--- Octets are handed on in one way, whatever the cut: their events are determined, and what they have begun.
+-- The octets determine the events that a reader emits and the partial dataset, however the octets
+-- are split into chunks.
 abbrev pub OctetsAreHandedOnOneWay : Type 0
 OctetsAreHandedOnOneWay = (octets : List ℕ) (es fs : List DatasetEvent) (b c : Begun) → HandsOn count_octets octets es b → HandsOn count_octets octets fs c → (es ≡ fs) × (b ≡ c)
 
--- A reader's invariant holds exactly of the places to which some octets lead.
+-- The invariant of a reader holds for exactly the states that some octets reach.
 abbrev pub PlacesAreReached : Type 0
 PlacesAreReached = (place : DatasetPlace) → IsPlace place ↔ ((octets : List ℕ) × (events : List DatasetEvent) × LeadsTo count_octets octets events place)
 
--- The same octets lead to one place, whatever the cut.
+-- The octets determine the state that they reach, however they are split into chunks.
 abbrev pub OctetsLeadToOnePlace : Type 0
 OctetsLeadToOnePlace = (octets : List ℕ) (es fs : List DatasetEvent) (p q : DatasetPlace) → LeadsTo count_octets octets es p → LeadsTo count_octets octets fs q → (es ≡ fs) × (p ≡ q)
 
--- Where no tag can continue with an octet, the octets so far with that one begin no datasets, whatever follows.
+-- If no tag can continue with an octet, the octets so far and that one begin no datasets, whatever
+-- follows.
 abbrev pub NoOctetsContinue : Type 0
 NoOctetsContinue = (octets more : List ℕ) (next : ℕ) (whole : List Dataset) (held : List ℕ) (w : List Dataset) (b : Begun) → Reads count_octets octets whole (InTag held)
     → BeginsNoTag count_octets (held ++ next ∷ []) → Reads count_octets (octets ++ next ∷ more) w b → ⊥
 
--- Octets that spell some datasets.
+-- The octets encode zero or more datasets.
 abbrev pub AreDatasets : List ℕ → Type 0
 AreDatasets octets = (ds : List Dataset) × SpellsStream count_octets ds octets
 
--- Octets that were read can continue to whole datasets, and some octets are still to come: the layer is alive.
+-- Octets that were read can continue to complete datasets with at least one more octet: they are a
+-- viable prefix.
 abbrev pub ReadOctetsContinue : Type 0
 ReadOctetsContinue = (octets : List ℕ) (whole : List Dataset) (begun : Begun) → Reads count_octets octets whole begun
     → (d : Dataset) × (more : List ℕ) × (0 < length more) × SpellsStream count_octets (whole ++ d ∷ []) (octets ++ more)
 
--- Octets that were read split into the whole datasets and what is begun, in the one way in which octets split.
+-- Octets that were read split into the complete datasets and the partial one, in the one way in
+-- which octets split.
 abbrev pub ReadOctetsSplit : Type 0
 ReadOctetsSplit = (octets : List ℕ) (whole : List Dataset) (begun : Begun) → Reads count_octets octets whole begun
     → (rest : List ℕ) × IsBegun count_octets begun rest × SplitsInto count_octets octets whole rest
 
--- Where octets of a tag are held, the next octet is the first that no datasets can have exactly where no tag begins with the
--- held ones and that one.
+-- After octets of a partial tag, the next octet is the first that no datasets can have there
+-- exactly if no tag begins with the buffered octets and that one.
 abbrev pub OctetsDieInTheirTag : Type 0
 OctetsDieInTheirTag = (octets : List ℕ) (next : ℕ) (whole : List Dataset) (held : List ℕ) → Reads count_octets octets whole (InTag held)
     → (BeginsNoTag count_octets (held ++ next ∷ []) ↔ DiesAt AreDatasets octets next)
 
--- What a reader handed on tells the whole datasets, and the head and the data so far of the begun one.
+-- The events that a reader emitted determine the complete datasets, and the head and the data so
+-- far of the partial one.
 abbrev pub EventsTellTheDatasets : Type 0
 EventsTellTheDatasets = (ds es : List Dataset) (b c : Begun) → handed_on ds b ≡ handed_on es c → (ds ≡ es) × (begun_data b ≡ begun_data c)
 
--- `HeadReader` refuses exactly where octets die: those that it took can continue to whole datasets, at a Marker or a CountForm
--- they can't with the refused octet, and at a stop of the sink they can.
+-- `HeadReader` rejects exactly the first octet that no datasets can have there. The octets that it
+-- consumed are a viable prefix; with an octet rejected for Marker or CountForm they are not; and
+-- with the octet of a stop of the sink they are.
 pub record ReadersDieExactly : Type 0 where
   pub alive : (octets : List ℕ) (events : List DatasetEvent) (place : DatasetPlace) → LeadsTo count_octets octets events place → IsAlive AreDatasets octets
   pub dies : (octets : List ℕ) (events : List DatasetEvent) (place : DatasetPlace) (next : ℕ) (cause : HeadCause) → LeadsTo count_octets octets events place → TagDies place next cause
       → DiesAt AreDatasets octets next
   pub stops : (octets : List ℕ) (next : ℕ) (events : List DatasetEvent) (event : DatasetEvent) → Completes octets next events event → IsAlive AreDatasets (octets ++ next ∷ [])
 
--- What an octet completes: the head whose tag it ends, itself as one of the data, or the end of the dataset whose last octet it
--- is.
+-- An octet completes the head whose tag it ends, itself as one of the data, or the end of the
+-- dataset whose last octet it is.
 abbrev pub WhatAnOctetCompletes : Type 0
 WhatAnOctetCompletes = (octets : List ℕ) (next : ℕ) (events : List DatasetEvent) (event : DatasetEvent) → Completes octets next events event → CompletesNow octets next events event
 
--- A tag of this head and length is all that a reader of tags can find at the front of the octets.
+-- A tag of this head and length is all that a reader of tags can find at the start of the octets.
 pub record ReadsAs (octets : List ℕ) (head : Head) (used : ℕ) : Type 0 where
   pub tag : HasTag octets head used
   pub only : (h : Head) (n : ℕ) → HasTag octets h n → (h ≡ head) × (n ≡ used)
   pub is_whole : BeginsTag count_octets octets → ⊥
   pub no_fault : (fault : HeadFault) → HasNoTag octets fault → ⊥
 
--- What `head_bytes` writes, followed by anything, is read as that head and no longer tag.
+-- What `head_bytes` writes, with anything after it, is read as that head and a tag of that length.
 abbrev pub CanonicalTagsReadBack : Type 0
 CanonicalTagsReadBack = (head : Head) (more : List ℕ) → IsOctet head.rec → IsOctet head.set → head.count < 256 ^ count_octets
     → ReadsAs (canonical_tag head ++ more) head (length (canonical_tag head))
 
--- The dataset has spellings: its numbers and its data are octets, and the data are no more than a count tells.
+-- The dataset has encodings: its numbers and its data are octets, and a count can encode the length
+-- of the data.
 pub record HasSpellings (d : Dataset) : Type 0 where
   pub rec : IsOctet d.rec
   pub set : IsOctet d.set
   pub octets : Octets d.octets
   pub few : length d.octets < 256 ^ count_octets
 
--- The canonical spellings of datasets, joined, are a spelling of the list.
+-- The canonical encodings of datasets, joined, are an encoding of the list.
 abbrev pub CanonicalStreamsAreSpelled : Type 0
 CanonicalStreamsAreSpelled = (ds : List Dataset) → AllByRecursion HasSpellings ds → SpellsStream count_octets ds (canonical_stream ds)
 
--- The laws of datasets, as one record: a field for each.
+-- The lemmas on datasets, as one record: a field for each.
 pub record DatasetLaws : Type 0 where
-  -- what octets spell:
+  -- what octets encode:
   pub numbers_are_read_back : NumbersAreReadBack
   pub no_tag_begins_another : NoTagBeginsAnother
   pub no_dataset_begins_another : NoDatasetBeginsAnother
   pub octets_split_one_way : OctetsSplitOneWay
   pub canonical_tags_read_back : CanonicalTagsReadBack
   pub canonical_streams_are_spelled : CanonicalStreamsAreSpelled
-  -- what octets are handed on as, and where they lead:
+  -- what events octets emit, and which states they reach:
   pub octets_are_handed_on_one_way : OctetsAreHandedOnOneWay
   pub events_tell_the_datasets : EventsTellTheDatasets
   pub octets_lead_to_one_place : OctetsLeadToOnePlace

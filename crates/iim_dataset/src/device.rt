@@ -1,4 +1,4 @@
-//! What sources and targets have in common.
+//! Errors and counters that sources and targets share.
 
 ghost use Rattle.std.specs.Prelude.{◌≡◌, ◌≢◌, ◌↔◌, None, Some};
 ghost use Rattle.std.specs.IoError.{error_kind};
@@ -12,14 +12,14 @@ use std::{error, fmt};
 /// Why a read or a write moved no octet.
 #[derive(Clone, Copy, Debug, PartialEq, Eq)]
 pub enum IoFault {
-    /// A signal came first: the call may be made again.
+    /// A signal interrupted the call, which may be made again.
     Interrupted,
-    /// The device failed.
+    /// The reader or the writer failed.
     Failed,
 }
 
 impl IoFault {
-    /// What is printed of it.
+    /// Returns the text of the error, as it is printed.
     pub fn text(self) -> &'static str
         ensures { result.now ≡ text_of_fault self }
     {
@@ -40,10 +40,10 @@ impl Display for IoFault {
 
 impl error::Error for IoFault {}
 
-/// The interruptions in a row that are answered as a fault.
+/// How many interruptions in a row are retried before the call returns an error.
 pub(crate) const MAX_INTERRUPTIONS: u32 = 1_000_000;
 
-/// What an error of std's is: an interruption exactly where its kind is "interrupted", and else a failure.
+/// Converts an error of `std`: kind `Interrupted` is an interruption, any other kind a failure.
 fn fault_of(error: Error) -> IoFault
     ensures interrupted { (result ≡ IoFault.Interrupted) ↔ (error_kind error ≡ ErrorKind.Interrupted) }
     ensures failed { (result ≡ IoFault.Failed) ↔ (error_kind error ≢ ErrorKind.Interrupted) }
@@ -54,7 +54,8 @@ fn fault_of(error: Error) -> IoFault
     }
 }
 
-/// The faults of a device of std's, counted up to the greatest number of 64 bits.
+/// Counters of the failures and interruptions of a `std` reader or writer. They saturate at
+/// `u64::MAX`.
 #[derive(Clone, Copy)]
 pub(crate) struct Faults {
     failures: u64,
@@ -62,7 +63,7 @@ pub(crate) struct Faults {
 }
 
 impl Faults {
-    /// None so far.
+    /// Creates counters that are zero.
     pub(crate) fn new() -> Faults
         ensures { result ≡ record { failures = 0; interruptions = 0 } }
     {
@@ -79,8 +80,8 @@ impl Faults {
         self.failures = self.failures.saturating_add(1);
     }
 
-    /// Counts an error of std's as the fault that it is, and answers this fault: an interruption exactly where the error's kind is
-    /// "interrupted", and else a failure.
+    /// Counts an error of `std` and returns what it is: kind `Interrupted` is an interruption, any
+    /// other kind a failure.
     pub(crate) fn count(&mut self, error: Error) -> IoFault
         ensures counted { Faulted (faulty None self.old) (faulty None self.new) result }
         ensures interrupted { (result ≡ IoFault.Interrupted) ↔ (error_kind error ≡ ErrorKind.Interrupted) }

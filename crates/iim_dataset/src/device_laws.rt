@@ -1,14 +1,16 @@
-//! What several calls of one device come to.
+//! Lemmas on several calls of one reader or writer.
 
 ghost use Rattle.iim_dataset.specs.Laws.{GiftsJoin, TextsJoin};
 
-/// Octets that a source gave one after another were given joined, and a fault comes after all of them.
+/// Proves that octets from several reads are the same as their concatenation from one, and that a
+/// fault comes after all of them.
 pub fn gifts_join()
     ensures { GiftsJoin }
 {}
 
-/// Texts that a target took one after another were taken joined; where the second stopped, so did the joined one; and where the
-/// target broke after the second, it broke after both.
+/// Proves that texts written one after another are the same as their concatenation written at once.
+/// If the second text stopped, so did the concatenation; and if the writer broke after the second
+/// text, it broke after both.
 pub fn texts_join()
     ensures { TextsJoin }
 {}

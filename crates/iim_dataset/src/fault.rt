@@ -1,4 +1,4 @@
-//! Why octets are refused.
+//! Why the reader of datasets rejects octets.
 
 ghost use Rattle.std.specs.Prelude.{◌≡◌, Some};
 ghost use Rattle.iim_dataset.specs.States.Reading.{tag_cause_of};
@@ -9,19 +9,19 @@ use std::error::Error;
 use std::fmt;
 use std::fmt::{Display, Formatter};
 
-/// Why an octet is refused.
+/// Why an octet is rejected.
 #[derive(Clone, Copy, Debug, PartialEq, Eq)]
 pub enum FaultCause {
     /// The first octet of a tag is not the tag marker.
     Marker,
-    /// The count of a tag has no form that a count may have.
+    /// The octets have neither form of a count.
     CountForm,
     /// The sink stopped.
     Stopped,
 }
 
 impl FaultCause {
-    /// Returns the number of the cause, as it is printed: 60 for a stop of the sink.
+    /// Returns the number of the cause, as it is printed. A stop of the sink is 60.
     pub fn number(self) -> u8
         ensures { result ≡ cause_number self }
     {
@@ -32,7 +32,7 @@ impl FaultCause {
         }
     }
 
-    /// Returns the name of the cause, as it is printed: `Sink` for a stop of the sink.
+    /// Returns the name of the cause, as it is printed. A stop of the sink is `Sink`.
     pub fn name(self) -> &'static str
         ensures { result.now ≡ cause_name self }
     {
@@ -57,16 +57,17 @@ impl Display for FaultCause {
 
 impl Error for FaultCause {}
 
-/// An octet of a piece was refused.
+/// An octet of a chunk was rejected.
 #[derive(Clone, Copy, Debug, PartialEq, Eq)]
 pub struct Fault {
-    /// Why the octet was refused.
+    /// Why the octet was rejected.
     pub cause: FaultCause,
-    /// How many octets of the piece stand before it.
+    /// The number of octets of the chunk before the rejected one.
     pub used: usize,
 }
 
-/// Writes the number of octets before the refused one, and the cause, as `refused after 5 octets, cause 1 Marker`.
+/// Writes the number of octets before the rejected one, and the cause, as `refused after 5 octets,
+/// cause 1 Marker`.
 impl Display for Fault {
     ghost output = { λ fault. Some (fault_text fault) };
 
@@ -79,7 +80,7 @@ impl Display for Fault {
 
 impl Error for Fault {}
 
-/// Why no tag can continue, as the cause of a fault.
+/// Converts the reason why no tag can continue to the cause of a fault.
 pub(crate) fn tag_fault(cause: HeadCause) -> FaultCause
     ensures { tag_cause_of result ≡ Some cause }
 {

@@ -12,24 +12,24 @@ use std::error::Error;
 use std::fmt;
 use std::fmt::{Display, Formatter};
 
-/// What a tag tells (IIM version 4, the chapter on DataSets): the number of the record, the number of the dataset in
-/// it, and how many octets of data follow.
+/// A decoded tag (IIM version 4, the chapter on DataSets): the number of the record, the number of
+/// the dataset in it, and the number of octets of data that follow.
 #[derive(Clone, Copy, Debug, PartialEq, Eq)]
 pub struct Head {
     /// The number of the record.
     pub rec: u8,
     /// The number of the dataset in its record.
     pub set: u8,
-    /// How many octets of data the dataset has.
+    /// The number of octets of data.
     pub count: u64,
 }
 
-/// Why octets are no tag. Definitions of the layers above cite it.
+/// Why octets are not a tag. Definitions of the layers above cite it.
 #[derive(Clone, Copy, Debug, PartialEq, Eq)]
 pub enum HeadCause {
     /// The first octet is not the tag marker.
     Marker,
-    /// The count has no form that a count may have.
+    /// The octets have neither form of a count.
     CountForm,
 }
 
@@ -45,35 +45,39 @@ impl Display for HeadCause {
 
 impl Error for HeadCause {}
 
-/// Octets that begin no tag.
+/// The octets begin no tag.
 #[derive(Clone, Copy)]
 pub(crate) struct HeadFault {
-    /// What was wrong with the octet there.
+    /// What is wrong with the rejected octet.
     pub cause: HeadCause,
-    /// How many octets stand before the first with which no tag can continue.
+    /// The number of octets before the first one with which no tag can continue.
     pub taken: usize,
 }
 
-/// The octet that each tag begins with.
+/// The first octet of each tag.
 pub const TAG_MARKER: u8 = 0x1c;
 
-/// The first octet of an extended count: its top bit is set, and no count has more than 255 octets.
+/// The first octet of an extended count. Its top bit is set, and the number that follows it is at
+/// most 255.
 pub const EXTENDED: u8 = 0x80;
 
-/// The octets of a tag up to the end of a standard count.
+/// The number of octets of a tag with a standard count.
 pub(crate) const TAG_LENGTH: usize = 5;
 
-/// The most octets of a tag.
+/// The greatest number of octets of a tag.
 pub const TAG_OCTETS: usize = TAG_LENGTH + COUNT_OCTETS as usize;
 
 /// The greatest count that has the standard form.
 const MAX_STANDARD: u64 = 32_767;
 
-/// Reads the tag at the front: its head and its length in octets. `None` where the octets end inside the tag. An error
-/// tells the first octet with which no tag can continue.
+/// Parses the tag at the start of the octets. Returns its head and its length in octets, or `None`
+/// if the octets end inside the tag.
 ///
-/// A count of two octets has its top bit clear. An extended count is 80 hex, how many octets follow (1 to 8), and the
-/// count in these, high octet first; leading zeros are accepted, and so is an extended count of few octets.
+/// A standard count is two octets, with the top bit clear. An extended count is 80 hex, the number
+/// of octets that follow (1 to 8), and the count in these, high octet first. Leading zeros are
+/// accepted, and so is an extended count that the standard form could hold.
+///
+/// **Errors:** the first octet with which no tag can continue.
 pub(crate) fn read_head(octets: &[u8]) -> Result<Option<(Head, usize)>, HeadFault>
     ensures found { IfOk result (λ found.
         MatchOption found (BeginsTag count_octets octets.now) (λ f. HasTag octets.now f.0 f.1)) }
@@ -105,8 +109,8 @@ fn fault(cause: HeadCause, taken: usize) -> HeadFault
     HeadFault { cause, taken }
 }
 
-/// The canonical tag of a head: a standard count up to 32,767, above that an extended count of four octets up to
-/// 4,294,967,295, and of eight octets above.
+/// Encodes a head as its canonical tag: a standard count up to 32,767, an extended count of four
+/// octets up to 4,294,967,295, and one of eight octets above that.
 pub fn head_bytes(head: Head) -> ArrayVec<u8, TAG_OCTETS>
     ensures canonical { result.items ≡ canonical_tag head }
     ensures spells { SpellsTag count_octets head result.items }

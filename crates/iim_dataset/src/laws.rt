@@ -1,13 +1,15 @@
-//! What holds of all spellings, whatever form the counts have.
+//! Lemmas on all encodings of datasets, with either form of a count.
 
 ghost use Rattle.iim_dataset.specs.Laws.{PlacesAreReached, DatasetLaws};
 
-/// What holds of all spellings, whatever form the counts have, and of readers of datasets: a field for each law.
+/// Proves the lemmas on encodings of datasets and on readers of datasets; the record has a field
+/// for each.
 pub fn dataset_laws()
     ensures { DatasetLaws }
 {}
 
-/// A [`crate::HeadReader`] stands at a place to which some octets lead, and each of those places is one at which it may stand.
+/// Proves that some octets reach each state that satisfies the invariant of [`crate::HeadReader`],
+/// and that octets reach no other state.
 #[tactic(auto, using(crate::proofs::Places::places_are_reached))]
 pub fn places_are_reached()
     ensures { PlacesAreReached }

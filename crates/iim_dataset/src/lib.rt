@@ -1,10 +1,11 @@
-//! Datasets of the Information Interchange Model: their tags, datasets in pieces, and the devices that octets come from and
-//! go to.
+//! Datasets of the Information Interchange Model: their tags, datasets in chunks, and the readers
+//! and writers that octets come from and go to.
 //!
-//! Stands on `byteorder` and `arrayvec`. Every crate stands on it, at least for its definitions. The unpacker
-//! feeds [`HeadReader`] with a sink of its own, and relies on the contract of [`HeadReader::feed`] and on
-//! `what_an_octet_completes` of [`laws::dataset_laws`]. Writers of objects and envelopes write each dataset by [`put_dataset`],
-//! and spell sizes by [`number_bytes`]. Sources and targets are reached by [`take`] and [`put`] alone.
+//! Depends on `byteorder` and `arrayvec`. Every crate depends on this one, at least for its
+//! definitions. The unpacker feeds [`HeadReader`] with its own sink, and relies on the contract of
+//! [`HeadReader::feed`] and on `what_an_octet_completes` of [`laws::dataset_laws`]. Writers of
+//! objects and envelopes write each dataset by [`put_dataset`], and encode sizes by
+//! [`number_bytes`]. Sources and targets are used through [`take`] and [`put`] alone.
 #![tactic(auto)]
 
 mod device;

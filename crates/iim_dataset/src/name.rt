@@ -9,20 +9,20 @@ use std::fmt::{Display, Formatter};
 /// The name of a dataset by its record and number, shown as `1:00` or `2:105`.
 #[derive(Clone, Copy, Debug, PartialEq, Eq)]
 pub struct DatasetName {
-    /// The record.
+    /// The number of the record.
     pub rec: u8,
-    /// The number in its record.
+    /// The number of the dataset in its record.
     pub set: u8,
 }
 
-/// What stands before a number of one digit.
+/// Returns the zero to write before a number of one digit, or nothing.
 fn padding(number: u8) -> &'static str
     ensures { result.now ≡ padding number }
 {
     if number < 10 { "0" } else { "" }
 }
 
-/// Record and number, the number with two digits at least.
+/// Writes the record, a colon and the number, which has at least two digits.
 impl Display for DatasetName {
     ghost output = { λ n. Some (dataset_name n.rec n.set) };
 

@@ -1,4 +1,4 @@
-//! Numbers whose length is told beside them.
+//! Numbers whose length in octets is encoded beside them.
 
 ghost use Rattle.std.specs.Prelude.{◌≡◌};
 ghost use Rattle.iim_dataset.specs.Format.Datasets.{written_number};
@@ -8,14 +8,14 @@ use crate::size::COUNT_OCTETS;
 use arrayvec::ArrayVec;
 use byteorder::{BigEndian, ByteOrder};
 
-/// The most octets of such a number.
+/// The greatest number of octets of such a number.
 pub const NUMBER_OCTETS: usize = COUNT_OCTETS as usize;
 
 /// The greatest number that is written in four octets.
 const MAX_FOUR: u64 = 4_294_967_295;
 
-/// How such a number is written: in four octets up to 4,294,967,295, above that in eight, high octet first. So are extended counts, and
-/// the sizes of the records 7 and 9.
+/// Encodes a number whose length is encoded beside it: in four octets up to 4,294,967,295, in eight
+/// above that, high octet first. Extended counts and the sizes of records 7 and 9 are written so.
 pub fn number_bytes(number: u64) -> ArrayVec<u8, NUMBER_OCTETS>
     ensures { result.items ≡ written_number number }
 {

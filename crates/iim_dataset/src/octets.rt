@@ -21,7 +21,7 @@ pub const TAB: u8 = 0x09;
 /// Line feed: a line ends.
 pub const LF: u8 = 0x0a;
 
-/// Carriage return: it may stand before the line feed of a line end.
+/// Carriage return: it may precede the line feed of a line end.
 pub const CR: u8 = 0x0d;
 
 /// Synchronous idle: filler around a message.

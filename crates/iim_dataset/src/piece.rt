@@ -1,7 +1,7 @@
-//! How octets are read from a place on: by whole tags, and by the longest runs that lie in one dataset.
+//! Reads octets from a state on: complete tags, and the longest slices that belong to one dataset.
 //!
-//! A fault comes with the place before its octet, where no tag can continue with that; and with the one between datasets, where the
-//! sink stopped.
+//! An error comes with a state. If no tag can continue with the rejected octet, it is the state
+//! before that octet. If the sink stopped, it is the state between datasets.
 
 ghost use Rattle.std.specs.Prelude.{◌≡◌, ◌==◌, if◌then◌else◌, ◌<◌, ◌⊎◌, [], ◌∷◌, length, Some, None, IfSome, IfOk, IfErr, OnOk, OnErr};
 ghost use Rattle.iim_dataset.specs.Format.Datasets.{count_octets, BeginsTag};
@@ -15,7 +15,8 @@ use crate::sink::{DatasetSink, Step};
 use crate::stop::Stop;
 use arrayvec::ArrayVec;
 
-/// Where a front of some octets leads, and how many it has.
+/// What a prefix of the octets reaches: the new state, whether more datasets may follow, and the
+/// length of the prefix.
 #[derive(Drop)]
 pub(crate) struct Front {
     pub(crate) place: DatasetPlace,
@@ -23,7 +24,7 @@ pub(crate) struct Front {
     pub(crate) used: usize,
 }
 
-/// Between datasets.
+/// Returns the state between datasets.
 pub(crate) fn start() -> DatasetPlace
     ensures place { result ≡ between }
     ensures is_place { IsPlace result }
@@ -31,7 +32,7 @@ pub(crate) fn start() -> DatasetPlace
     DatasetPlace::Tag(ArrayVec::new())
 }
 
-/// The sink stopped after `used` octets.
+/// Returns the state and the fault after a stop of the sink at octet `used`.
 fn stopped(used: usize) -> (DatasetPlace, Fault)
     ensures place { result.0 ≡ between }
     ensures is_place { IsPlace result.0 }
@@ -41,7 +42,8 @@ fn stopped(used: usize) -> (DatasetPlace, Fault)
     (start(), Fault { cause, used })
 }
 
-/// Hands on what the last octet of a tag completes.
+/// Passes to the sink what the last octet of a tag completes: the head, and the end of the dataset
+/// if it has no data.
 fn begin<D: DatasetSink>(head: Head, sink: &mut D) -> Result<(DatasetPlace, Step), Stop>
     requires { D.stands sink.old None }
     ensures place { IfOk result (λ next. next.0
@@ -60,7 +62,8 @@ fn begin<D: DatasetSink>(head: Head, sink: &mut D) -> Result<(DatasetPlace, Step
     Ok((start(), step))
 }
 
-/// Takes octets of a tag of which some are held: up to its end, or all of them.
+/// Consumes octets of a tag of which the octets in `held` are buffered: up to the end of the tag,
+/// or all of them.
 fn take_tag<D: DatasetSink>(
     held: ArrayVec<u8, HELD_OCTETS>,
     rest: &[u8],
@@ -100,7 +103,7 @@ fn take_tag<D: DatasetSink>(
     }
 }
 
-/// Takes octets of data of which `left` are to come: up to their end, or all of them.
+/// Consumes octets of data of which `left` remain: up to the end of the data, or all of them.
 fn take_data<D: DatasetSink>(
     head: Head,
     left: u64,
@@ -141,8 +144,9 @@ fn take_data<D: DatasetSink>(
     }
 }
 
-/// The dataset that lies at the front whole, its count a standard one: its head, its data, and how many octets it has. One with an
-/// extended count comes as a head, data and an end.
+/// Returns the dataset that is complete at the start of the octets, if its count is a standard one:
+/// its head, its data, and its length in octets. A dataset with an extended count goes to the sink
+/// as a head, data and an end instead.
 #[inline(always)]
 fn whole_dataset(rest: &[u8]) -> Option<(Head, &[u8], usize)>
     ensures { IfSome result (λ front. WholeFront rest.now front.0 front.1.now front.2) }
@@ -165,8 +169,11 @@ fn whole_dataset(rest: &[u8]) -> Option<(Head, &[u8], usize)>
     }
 }
 
-/// Takes whole datasets at the front, as long as the sink takes them at once: up to the one that it called the last, and answers
-/// its last answer and how many octets they have; or up to the octet that it refuses.
+/// Consumes complete datasets at the start of the octets, as long as the sink accepts each in one
+/// call. Returns what the sink returned last, and the number of octets consumed: up to the dataset
+/// that the sink called the last, if it did.
+///
+/// **Errors:** the number of octets before the one that the sink rejects.
 #[inline(always)]
 fn take_wholes<D: DatasetSink>(rest: &[u8], sink: &mut D) -> Result<(Step, usize), usize>
     requires stands { D.stands sink.old None }
@@ -188,7 +195,7 @@ fn take_wholes<D: DatasetSink>(rest: &[u8], sink: &mut D) -> Result<(Step, usize
     Ok((Step::More, at))
 }
 
-/// Takes whole datasets where no tag is begun, as long as the sink takes them at once.
+/// Consumes complete datasets if no tag is partial, as long as the sink accepts each in one call.
 #[inline(always)]
 fn take_wholes_after<D: DatasetSink>(
     held: &ArrayVec<u8, HELD_OCTETS>,
@@ -210,7 +217,8 @@ fn take_wholes_after<D: DatasetSink>(
     take_wholes(rest, sink)
 }
 
-/// Takes a front of the octets that are left: whole datasets, or else the longest that lies in one tag, or in the data of one dataset.
+/// Consumes a prefix of the remaining octets: complete datasets, or else the longest prefix that
+/// lies in one tag or in the data of one dataset.
 fn take_front<D: DatasetSink>(
     place: DatasetPlace,
     rest: &[u8],
@@ -242,8 +250,8 @@ fn take_front<D: DatasetSink>(
     }
 }
 
-/// Takes octets from a place on, all of them or up to the end of the dataset that the sink called the last, and answers the
-/// place after them and how many they are.
+/// Consumes octets from a state on: all of them, or up to the end of the dataset that the sink
+/// called the last. Returns the new state and the number of octets consumed.
 pub(crate) fn take_piece<D: DatasetSink>(
     place: DatasetPlace,
     octets: &[u8],

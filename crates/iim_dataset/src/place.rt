@@ -1,4 +1,4 @@
-//! Where the next octet stands, and the tag that it may complete.
+//! States of the reader of datasets, and the tag that the next octets may complete.
 
 ghost use Rattle.std.specs.Prelude.{◌≡◌, ◌↔◌, ◌+◌, ◌≤◌, ◌++◌, ℕ, List, length, take, IsTrue, IfOk, IfErr, MatchOption};
 ghost use Rattle.arrayvec.specs.ArrayVec.{array_vec_len};
@@ -9,24 +9,24 @@ use crate::head::{Head, HeadFault, TAG_OCTETS, read_head};
 use crate::laws::dataset_laws;
 use arrayvec::ArrayVec;
 
-/// The most octets of a tag that is not whole.
+/// The greatest number of octets of a partial tag.
 pub const HELD_OCTETS: usize = TAG_OCTETS - 1;
 
-/// Where the next octet of a stream of datasets stands.
+/// The state of a reader of datasets: where in a dataset the next octet is.
 #[derive(Debug, Drop)]
 pub enum DatasetPlace {
-    /// In a tag, of which these octets have come; between datasets none.
+    /// In a tag of which these octets were received; empty between datasets.
     Tag(ArrayVec<u8, HELD_OCTETS>),
     /// In the data of a dataset.
     Inside {
-        /// What the dataset's tag told.
+        /// The decoded tag of the dataset.
         head: Head,
-        /// How many octets of the data are to come.
+        /// The number of octets of data that remain.
         left: u64,
     },
 }
 
-/// Adds octets, for which there is room.
+/// Appends octets, for which there must be capacity.
 pub(crate) fn lengthen<const ROOM: usize>(held: &mut ArrayVec<u8, ROOM>, octets: &[u8])
     requires { array_vec_len held.old + length octets.now ≤ ROOM }
     ensures { held.new.items ≡ held.old.items ++ octets.now }
@@ -34,7 +34,7 @@ pub(crate) fn lengthen<const ROOM: usize>(held: &mut ArrayVec<u8, ROOM>, octets:
     held.try_extend_from_slice(octets).unwrap();
 }
 
-/// The first octets of two slices, joined: as many as a tag may have.
+/// Concatenates two slices, up to the greatest length of a tag.
 fn tag_room(held: &[u8], next: &[u8]) -> ArrayVec<u8, TAG_OCTETS>
     requires { length held.now ≤ HELD_OCTETS }
     ensures { result.items ≡ take TAG_OCTETS (held.now ++ next.now) }
@@ -46,7 +46,8 @@ fn tag_room(held: &[u8], next: &[u8]) -> ArrayVec<u8, TAG_OCTETS>
     tag
 }
 
-/// Reads the tag that begins with the held octets and continues with the next ones, as [`read_head`] does.
+/// Parses the tag that begins with the buffered octets and continues with the next ones, as
+/// [`read_head`] does.
 pub(crate) fn read_tag(held: &[u8], next: &[u8]) -> Result<Option<(Head, usize)>, HeadFault>
     requires { length held.now ≤ HELD_OCTETS }
     ensures found { IfOk result (λ found.
@@ -60,7 +61,7 @@ pub(crate) fn read_tag(held: &[u8], next: &[u8]) -> Result<Option<(Head, usize)>
     read_head(tag_room(held, next).as_slice())
 }
 
-/// Whether the octets begin a tag, and are not all of it.
+/// Checks whether the octets are a proper prefix of a tag.
 fn begins_tag(octets: &[u8]) -> bool
     ensures { IsTrue result ↔ BeginsTag count_octets octets.now }
 {
@@ -68,14 +69,15 @@ fn begins_tag(octets: &[u8]) -> bool
     matches!(read_head(octets), Ok(None))
 }
 
-/// Whether some octets of data are to come, no more than a tag counts: each count of 64 bits is one that a tag can tell.
+/// Checks whether at least one octet of data remains and no more than the tag counts. Any tag can
+/// encode a count of 64 bits.
 fn is_inside(head: Head, left: u64) -> bool
     ensures { IsTrue result ↔ IsPlace (DatasetPlace.Inside head left) }
 {
     0 < left && left <= head.count
 }
 
-/// Whether some octets lead to the place.
+/// Checks whether some octets reach the state.
 pub(crate) fn is_place(place: &DatasetPlace) -> bool
     ensures { IsTrue result ↔ IsPlace place.now }
 {

@@ -1,4 +1,4 @@
-//! The reader of datasets, for any cut into pieces.
+//! The push parser of datasets, for any split of the octets into chunks.
 
 ghost use Rattle.std.specs.Prelude.{◌≡◌, ℕ, List, [], IsTrue, IsSome, IfSome, MatchOption, ◌↔◌, IfOk, IfErr, OnOk, OnErr};
 ghost use Rattle.iim_dataset.specs.Format.Datasets.{count_octets};
@@ -12,8 +12,8 @@ use crate::sink::DatasetSink;
 use std::marker::Model;
 use std::mem;
 
-/// A reader of datasets. It holds the octets of a tag that is not whole, 12 at most, or a head and how many octets of its data
-/// are to come. No call takes memory.
+/// A push parser of datasets. It stores the octets of a partial tag, at most 12, or else a head and
+/// the number of octets of data that remain. No call allocates.
 #[derive(Debug, Drop)]
 pub struct HeadReader {
     place: DatasetPlace,
@@ -33,7 +33,7 @@ impl Model for HeadReader {
 ghost use Rattle.iim_dataset.specs.States.Reading.{LeadsTo, between, named_by, to_come, StandsAt, TakesCalls, IsFailed, TakesPiece, RefusesOne};
 
 impl HeadReader {
-    /// The reader of a stream of which no octet has come.
+    /// Creates a reader at the start of a stream.
     pub fn new() -> HeadReader
         ensures takes_calls { TakesCalls result }
         ensures between { result.place ≡ between }
@@ -45,14 +45,14 @@ impl HeadReader {
         }
     }
 
-    /// Whether a call was refused.
+    /// Checks whether a call returned an error.
     pub fn is_failed(&self) -> bool
         ensures { IsTrue result ↔ IsFailed self.now }
     {
         self.failed
     }
 
-    /// Where the next octet stands, or None after a refusal.
+    /// Returns the state of the reader, or `None` after an error.
     pub fn place(&self) -> Option<&DatasetPlace>
         ensures { MatchOption result (IsFailed self.now) (λ place. TakesCalls self.now × (place.now ≡ self.now.place)) }
     {
@@ -62,8 +62,9 @@ impl HeadReader {
         Some(&self.place)
     }
 
-    /// The reader at this place, where some octets lead there: where less than a tag is held, or some octets are to come of the
-    /// data that a tag can count.
+    /// Creates a reader in the state `place`. Returns `None` if no octets reach that state: the
+    /// buffered octets must be a proper prefix of a tag, and the remaining data must be non-empty
+    /// and no more than its tag counts.
     pub fn at(place: DatasetPlace) -> Option<HeadReader>
         ensures place { IfSome result (λ reader. (reader.place ≡ place) × TakesCalls reader) }
         ensures exactly { IsSome result ↔ ((octets : List ℕ) × (events : List DatasetEvent)
@@ -77,8 +78,9 @@ impl HeadReader {
         Some(HeadReader { place, failed })
     }
 
-    /// The record and the number of the dataset that is begun, each 0 while it is unread; both 0 between datasets. Where no tag
-    /// can continue with an octet they are those of the tag before it, and after a stop of the sink both are 0.
+    /// Returns the record and the number of the dataset in progress. Each is 0 until it has been
+    /// read, and both are 0 between datasets. After a rejected tag octet they are those of the tag
+    /// before that octet. After a stop of the sink both are 0.
     pub fn named(&self) -> (u8, u8)
         ensures { result ≡ named_by self.now.place }
     {
@@ -91,21 +93,25 @@ impl HeadReader {
         }
     }
 
-    /// Takes the next octets, and hands the sink what they complete: each head, the data in the longest runs that the octets
-    /// hold, and each end of a dataset. It answers how many it used: all of them, or those up to the end of the dataset that the
-    /// sink called the last one. After that one a further call needs a sink that takes heads again, and reads the next tag. A fault
-    /// stands at the first octet with which no tag can continue, or at the octet that completes what the sink refused. Then the
-    /// reader has failed ([`HeadReader::is_failed`]), and takes no further call.
+    /// Feeds the next octets, and passes to the sink what they complete: each head, the data in the
+    /// longest slices that the octets hold, and each end of a dataset. Returns the number of octets
+    /// consumed: all of them, or those up to the end of the dataset that the sink called the last.
+    /// A further call needs a sink that accepts heads again, and reads the next tag.
+    ///
+    /// **Errors:** the first octet with which no tag can continue, or the octet that completes what
+    /// the sink rejected. The reader has then failed ([`HeadReader::is_failed`]), and accepts no
+    /// further call.
     pub fn feed<D: DatasetSink>(&mut self, octets: &[u8], sink: &mut D) -> Result<usize, Fault>
         requires takes_calls { TakesCalls self.old }
         requires stands { D.stands sink.old (to_come self.old.place) }
 
-        // The used octets lead on, and the sink was told what they complete. It takes what comes next, or has ended.
+        // The consumed octets reach the new state, and the sink received what they complete. The
+        // sink accepts what comes next, or has ended.
         ensures takes_calls { OnOk result (TakesCalls self.new) }
         ensures taken { IfOk result (λ used.
             TakesPiece D.goes D.stands D.ends (self.old.place, sink.old) octets.now (self.new.place, sink.new) used) }
 
-        // With the refused octet no tag can continue, or the sink stopped at what it completes.
+        // No tag can continue with the rejected octet, or the sink stopped at what it completes.
         ensures failed { OnErr result (IsFailed self.new) }
         ensures refused { IfErr result (λ fault.
             RefusesOne D.goes D.stops D.stands (self.old.place, sink.old) octets.now fault (self.new.place, sink.new)) }

@@ -1,4 +1,4 @@
-//! Octets in memory that is taken once.
+//! A buffer of octets that is allocated once.
 
 ghost use Rattle.std.specs.Prelude.{◌≡◌, ◌+◌, ◌≤◌, ◌++◌, [], IfOk, length, take, vec_len, vec_capacity};
 
@@ -6,13 +6,14 @@ use std::alloc::{AllocError, Global};
 use std::marker::Model;
 use std::mem::replace;
 
-/// Octets in memory that is taken once, and never more: those that come after it was emptied lie over the earlier ones, and are
-/// copied there at once. Contracts see it as the octets, and how many there is room for.
+/// A buffer of octets that is allocated once and never grows. After [`ReservedOctets::clear`] new
+/// octets overwrite the earlier ones, and are copied in one step. Contracts see it as the octets
+/// and the capacity.
 #[derive(Drop)]
 pub struct ReservedOctets {
-    /// The octets, and after them what is left of earlier ones.
+    /// The octets, and after them what remains of earlier ones.
     places: Vec<u8>,
-    /// How many octets there are.
+    /// The number of octets in use.
     used: usize,
 }
 
@@ -27,10 +28,11 @@ impl Model for ReservedOctets {
     ghost invariant = { λ b. b.used ≤ vec_len b.places };
 }
 
-/// How many places are opened at once, where there is room for them.
+/// How many elements of the vector are initialised at once, if there is capacity for them.
 const STEP: usize = 512;
 
-/// The places with so many more after them, each of 0. They are owned here, so that the compiler can write all of them at once.
+/// Appends `more` zeros to the vector. The vector is owned here, so that the compiler can write all
+/// of them at once.
 #[inline(always)]
 fn with_more(places: Vec<u8>, more: usize) -> Vec<u8>
     requires { vec_len places + more ≤ vec_capacity places }
@@ -45,7 +47,8 @@ fn with_more(places: Vec<u8>, more: usize) -> Vec<u8>
     places
 }
 
-/// Opens places after those that there are, at least so many: octets that come later find most of them open.
+/// Appends at least `least` zeros to the vector, and up to [`STEP`] of them, so that later octets
+/// find most elements initialised.
 fn open(places: &mut Vec<u8>, least: usize)
     requires { vec_len places.old + least ≤ vec_capacity places.old }
     ensures front { take (vec_len places.old) places.new.items ≡ places.old.items }
@@ -59,7 +62,7 @@ fn open(places: &mut Vec<u8>, least: usize)
     *places = with_more(owned, more);
 }
 
-/// Copies octets over earlier ones, from a place on.
+/// Overwrites earlier octets from position `from` on.
 fn overwrite(places: &mut Vec<u8>, from: usize, octets: &[u8])
     requires { from + length octets.now ≤ vec_len places.old }
     ensures items { take (from + length octets.now) places.new.items ≡ take from places.old.items ++ octets.now }
@@ -69,7 +72,7 @@ fn overwrite(places: &mut Vec<u8>, from: usize, octets: &[u8])
     places[from..from + octets.len()].copy_from_slice(octets);
 }
 
-/// Writes octets from a place on: over earlier ones, as far as those go, and then after them.
+/// Writes octets from position `from` on: over the earlier ones, and then after them.
 #[inline(always)]
 fn write(places: &mut Vec<u8>, from: usize, octets: &[u8])
     requires within { from ≤ vec_len places.old }
@@ -85,7 +88,7 @@ fn write(places: &mut Vec<u8>, from: usize, octets: &[u8])
     lengthen(places, from, octets);
 }
 
-/// The same of octets that continue after all earlier ones.
+/// Writes octets from position `from` on, if they end after all earlier ones.
 #[inline(never)]
 fn lengthen(places: &mut Vec<u8>, from: usize, octets: &[u8])
     requires within { from ≤ vec_len places.old }
@@ -100,7 +103,9 @@ fn lengthen(places: &mut Vec<u8>, from: usize, octets: &[u8])
 }
 
 impl ReservedOctets {
-    /// No octets, with room for just `room` octets. An error says that memory was refused.
+    /// Allocates an empty buffer with capacity for exactly `room` octets.
+    ///
+    /// **Errors:** the allocation fails.
     pub fn new(alloc: Global, room: usize) -> Result<ReservedOctets, AllocError>
         ensures items { IfOk result (λ reserved. reserved.items ≡ []) }
         ensures room { IfOk result (λ reserved. reserved.room ≡ room) }
@@ -112,28 +117,28 @@ impl ReservedOctets {
         Ok(reserved)
     }
 
-    /// How many octets there is room for.
+    /// Returns the capacity in octets.
     pub fn room(&self) -> usize
         ensures { result ≡ self.now.room }
     {
         self.places.capacity()
     }
 
-    /// How many octets there are.
+    /// Returns the number of octets.
     pub fn len(&self) -> usize
         ensures { result ≡ length self.now.items }
     {
         self.used
     }
 
-    /// The octets.
+    /// Returns the octets.
     pub fn as_slice(&self) -> &[u8]
         ensures { result.now ≡ self.now.items }
     {
         &self.places[..self.used]
     }
 
-    /// Drops the octets, and keeps the room.
+    /// Removes the octets. The capacity remains.
     pub fn clear(&mut self)
         ensures items { self.new.items ≡ [] }
         ensures room { self.new.room ≡ self.old.room }
@@ -141,7 +146,7 @@ impl ReservedOctets {
         self.used = 0;
     }
 
-    /// Takes octets, for which there is room.
+    /// Appends octets, for which there must be capacity.
     #[inline(always)]
     pub fn take(&mut self, octets: &[u8])
         requires { length self.old.items + length octets.now ≤ self.old.room }

@@ -1,4 +1,4 @@
-//! Octets as text that can be printed.
+//! Octets as printable text.
 
 ghost use Rattle.std.specs.Prelude.{◌≡◌, ◌++◌, ◌<◌, ◌≤◌, length, slice_index, take, true, false, OnOk};
 ghost use Rattle.std.specs.List.{list_all};
@@ -7,7 +7,7 @@ ghost use Rattle.iim_dataset.specs.Format.Datasets.{escape, hex_digit, is_plain,
 use std::alloc::AllocError;
 use std::simd::prelude::*;
 
-/// The digit of a number below 16: `0` to `9`, `A` to `F`.
+/// Returns the hexadecimal digit of a number below 16: `0` to `9`, `A` to `F`.
 fn hex_digit(number: u8) -> u8
     requires { number < 16 }
     ensures { result ≡ hex_digit number }
@@ -19,28 +19,30 @@ fn hex_digit(number: u8) -> u8
     }
 }
 
-/// `\x` and the two digits of an octet.
+/// Returns `\x` and the two hexadecimal digits of an octet.
 pub fn escaped(octet: u8) -> [u8; 4]
     ensures { result ≡ escape octet }
 {
     [b'\\', b'x', hex_digit(octet / 16), hex_digit(octet % 16)]
 }
 
-/// Adds `\x` and the two digits of an octet. An error says that memory was refused.
+/// Appends `\x` and the two hexadecimal digits of an octet.
+///
+/// **Errors:** the allocation fails.
 pub fn push_escape(text: &mut Vec<u8>, octet: u8) -> Result<(), AllocError>
     ensures { OnOk result (text.new.items ≡ text.old.items ++ escape octet) }
 {
     text.extend_from_slice(&escaped(octet))
 }
 
-/// Whether an octet stands for itself where octets are shown: from 20 to 7E hexadecimal, but for the backslash.
+/// Checks whether an octet is shown as itself: from 20 to 7E hexadecimal, except the backslash.
 pub fn is_plain(octet: u8) -> bool
     ensures { result ≡ is_plain octet }
 {
     octet >= b' ' && octet <= b'~' && octet != b'\\'
 }
 
-/// Whether the first 16 octets stand for themselves.
+/// Checks whether the first 16 octets are all shown as themselves.
 #[inline(always)]
 fn are_plain_16(octets: &[u8]) -> bool
     requires { 16 ≤ length octets.now }
@@ -52,7 +54,8 @@ fn are_plain_16(octets: &[u8]) -> bool
         & x.simd_ne(u8x16::splat(b'\\'))).all()
 }
 
-/// How many octets stand for themselves before the first sixteen of which one doesn't, by sixteen at a time.
+/// Counts octets that are shown as themselves, sixteen at a time, up to the first sixteen of which
+/// one is not.
 fn plain_blocks(octets: &[u8]) -> usize
     ensures within { result ≤ length octets.now }
     ensures plain { list_all is_plain (take result octets.now) ≡ true }
@@ -64,7 +67,7 @@ fn plain_blocks(octets: &[u8]) -> usize
     at
 }
 
-/// How many octets stand for themselves before the first that doesn't.
+/// Counts the octets before the first one that is not shown as itself.
 fn plain_run(octets: &[u8]) -> usize
     ensures within { result ≤ length octets.now }
     ensures plain { list_all is_plain (take result octets.now) ≡ true }
@@ -77,8 +80,10 @@ fn plain_run(octets: &[u8]) -> usize
     at
 }
 
-/// Adds octets as they are shown: those from 20 to 7E hexadecimal but the backslash as they are, all others as `\x` and two
-/// digits. An error says that memory was refused.
+/// Appends octets as they are shown: those from 20 to 7E hexadecimal except the backslash as they
+/// are, all others as `\x` and two digits.
+///
+/// **Errors:** the allocation fails.
 pub fn push_shown(text: &mut Vec<u8>, octets: &[u8]) -> Result<(), AllocError>
     ensures { OnOk result (text.new.items ≡ text.old.items ++ shown octets.now) }
 {

@@ -1,4 +1,4 @@
-//! Where octets come from.
+//! The source that octets come from.
 
 ghost use Rattle.std.specs.Prelude.{◌≡◌, ◌<◌, IfOk, IfErr, OnOk};
 ghost use Rattle.iim_dataset.specs.States.Devices.{Device, Gave, Calm, Faulted, Took, Missed, WithinInterruptionLimit, LaterThan, unbroken, reader_device};
@@ -6,34 +6,39 @@ ghost use Rattle.iim_dataset.specs.States.Devices.{Device, Gave, Calm, Faulted, 
 use crate::device::{Faults, IoFault, MAX_INTERRUPTIONS};
 use std::io::Read;
 
-/// How many octets are asked for at once, at most, where an input is read by blocks.
+/// The number of octets to ask for at once when an input is read by blocks.
 pub const BLOCK: usize = 4096;
 
-/// Where octets come from. Contracts see it as a device: the octets that reads will give, where they are known, and
-/// its faults so far.
+/// A source of octets. Contracts see it as a `Device`: the octets that it will still give, if they
+/// are known, and its faults so far.
 pub trait Source {
     ghost state: { Self → Device };
 
-    /// To what values reads can lead.
+    /// Relates a source to the values that reads can change it to.
     ghost leads: { Self → Self → Type 0 };
 
-    /// Reads octets into the front of the buffer, and answers how many: none only at the end of the source, or where
-    /// the buffer is empty. A source that faults gave nothing.
+    /// Reads octets into the start of the buffer, and returns their number. The number is 0 only at
+    /// the end of the source, or if the buffer is empty.
+    ///
+    /// **Errors:** the source failed or was interrupted; no octet was read.
     fn read(&mut self, buffer: &mut [u8]) -> Result<usize, IoFault>
         ensures ok { IfOk result (Gave (state self.old) (state self.new) buffer.new) }
         ensures calm { OnOk result (Calm (state self.old) (state self.new)) }
         ensures err { IfErr result (Faulted (state self.old) (state self.new)) }
         ensures leads { leads self.old self.new };
 
-    /// No read leads to the value itself.
+    /// A source reaches itself, without a read.
     ghost stays: { (a : Self) → leads a a };
 
-    /// Reads and then others lead where all of them lead.
+    /// What reads reach by way of another value, they reach.
     ghost leads_on: { (a b c : Self) → leads a b → leads b c → leads a c };
 }
 
-/// Reads once, past interruptions: the millionth in a row is answered. Answers how many octets stand at the front of
-/// the buffer: none only at the end of the source, or where the buffer is empty. An error moved no octet.
+/// Reads once, and retries after an interruption, up to a million times in a row. Returns the
+/// number of octets at the start of the buffer. The number is 0 only at the end of the source, or
+/// if the buffer is empty.
+///
+/// **Errors:** the source failed, or was interrupted a million times in a row; no octet was read.
 pub fn take<R: Source>(reader: &mut R, buffer: &mut [u8]) -> Result<usize, IoFault>
     ensures ok { IfOk result (Took (R.state reader.old) (R.state reader.new) buffer.new) }
     ensures err { IfErr result (Missed (R.state reader.old) (R.state reader.new)) }
@@ -49,7 +54,7 @@ pub fn take<R: Source>(reader: &mut R, buffer: &mut [u8]) -> Result<usize, IoFau
     Err(IoFault::Interrupted)
 }
 
-/// A reader of std's as a source. It counts its faults up to the greatest number of 64 bits.
+/// A `std` reader as a source. Its counters of faults saturate at `u64::MAX`.
 #[derive(Drop)]
 pub struct FromRead<R> {
     reader: R,
@@ -57,7 +62,7 @@ pub struct FromRead<R> {
 }
 
 impl<R: Read> FromRead<R> {
-    /// The reader as a source without a fault so far.
+    /// Wraps a reader as a source without faults so far.
     pub fn new(reader: R) -> FromRead<R>
         ensures { reader_device R.remaining result ≡ unbroken (R.remaining reader) }
     {

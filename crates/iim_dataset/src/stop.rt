@@ -7,14 +7,14 @@ use std::error::Error;
 use std::fmt;
 use std::fmt::{Display, Formatter};
 
-/// A sink refused an octet of a call's run.
+/// A sink rejected an octet of the slice that it was given.
 #[derive(Clone, Copy, Debug, PartialEq, Eq)]
 pub struct Stop {
-    /// How many octets of the run it took before that one.
+    /// The number of octets of the slice that the sink accepted before that one.
     pub taken: usize,
 }
 
-/// Writes the number of octets that the sink took, as `stopped after 5 octets`.
+/// Writes the number of octets that the sink accepted, as `stopped after 5 octets`.
 impl Display for Stop {
     ghost output = { λ stop. Some (stop_text stop) };
 

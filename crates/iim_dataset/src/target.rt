@@ -1,4 +1,4 @@
-//! Where octets go.
+//! The target that octets go to.
 
 ghost use Rattle.std.specs.Prelude.{◌≡◌, ◌+◌, ◌<◌, ◌≤◌, length, take, IfOk, IfErr, OnOk, OnErr};
 ghost use Rattle.iim_dataset.specs.Format.Datasets.{canonical_dataset};
@@ -9,18 +9,21 @@ use crate::device_laws::texts_join;
 use crate::head::{Head, head_bytes};
 use std::io::Write;
 
-/// Where octets go. Contracts see it as a device: the octets that it took, where they are known, and its faults so far.
+/// A target of octets. Contracts see it as a `Device`: the octets that it accepted, if they are
+/// known, and its faults so far.
 pub trait Target {
     ghost state: { Self → Device };
 
-    /// Takes octets from the front of the piece, and answers how many. A target that faults took nothing, and nothing
-    /// taken of a piece that is not empty is a failure.
+    /// Writes octets from the start of the chunk, and returns their number. A number of 0 for a
+    /// non-empty chunk is a failure.
+    ///
+    /// **Errors:** the target failed or was interrupted; no octet was written.
     fn write(&mut self, piece: &[u8]) -> Result<usize, IoFault>
         ensures ok { IfOk result (Accepted (state self.old) (state self.new) piece.now) }
         ensures err { IfErr result (Faulted (state self.old) (state self.new)) };
 }
 
-/// Writes once, past interruptions: the millionth in a row is answered.
+/// Writes once, and retries after an interruption, up to a million times in a row.
 fn send<W: Target>(writer: &mut W, piece: &[u8]) -> Result<usize, IoFault>
     requires { 0 < length piece.now }
     ensures within { IfOk result (λ n. n ≤ length piece.now) }
@@ -38,13 +41,15 @@ fn send<W: Target>(writer: &mut W, piece: &[u8]) -> Result<usize, IoFault>
     Err(IoFault::Interrupted)
 }
 
-/// Writes the whole piece. At a failure, at a write that takes nothing and at a million interruptions in a row it
-/// answers how many octets of the piece are out.
+/// Writes all of the chunk.
+///
+/// **Errors:** the target failed, a write accepted nothing, or it was interrupted a million times
+/// in a row. The error is the number of octets that were written.
 pub fn put<W: Target>(writer: &mut W, piece: &[u8]) -> Result<(), usize>
     ensures ok { OnOk result (Wrote (W.state writer.old) (W.state writer.new) piece.now) }
     ensures err { IfErr result (Stopped (W.state writer.old) (W.state writer.new) piece.now) }
     ensures patience { WithinInterruptionLimit (length piece.now) (W.state writer.old) (W.state writer.new) }
-    // One million more than those before the octets that are out.
+    // One million more than those before the octets that were written.
     ensures given_up { IfErr result (λ out.
         WithinInterruptionLimit (out + 1) (W.state writer.old) (W.state writer.new)) }
 {
@@ -58,8 +63,10 @@ pub fn put<W: Target>(writer: &mut W, piece: &[u8]) -> Result<(), usize>
     Ok(())
 }
 
-/// Writes a dataset in its canonical spelling: its tag, and then its octets. It fails where [`put`] does. Both answers tell how many
-/// octets are out.
+/// Writes a dataset in its canonical encoding: its tag, and then its octets. Returns the number of
+/// octets written.
+///
+/// **Errors:** as those of [`put`], with the number of octets that were written.
 pub fn put_dataset<W: Target>(writer: &mut W, rec: u8, set: u8, octets: &[u8]) -> Result<u64, u64>
     ensures ok { OnOk result (Wrote (W.state writer.old) (W.state writer.new)
         (canonical_dataset record { rec = rec; set = set; octets = octets.now })) }
@@ -87,7 +94,7 @@ pub fn put_dataset<W: Target>(writer: &mut W, rec: u8, set: u8, octets: &[u8]) -
     }
 }
 
-/// A writer of std's as a target. It counts its faults up to the greatest number of 64 bits.
+/// A `std` writer as a target. Its counters of faults saturate at `u64::MAX`.
 #[derive(Drop)]
 pub struct FromWrite<W> {
     writer: W,
@@ -95,7 +102,7 @@ pub struct FromWrite<W> {
 }
 
 impl<W: Write> FromWrite<W> {
-    /// The writer as a target without a fault so far.
+    /// Wraps a writer as a target without faults so far.
     pub fn new(writer: W) -> FromWrite<W>
         ensures { writer_device W.contents result ≡ unbroken (W.contents writer) }
     {
@@ -105,7 +112,7 @@ impl<W: Write> FromWrite<W> {
         }
     }
 
-    /// The writer, with what it took.
+    /// Returns the writer, with what was written to it.
     pub fn into_inner(self) -> W
         ensures { W.contents result ≡ (writer_device W.contents self).octets }
     {

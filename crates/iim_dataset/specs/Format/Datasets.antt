@@ -1,4 +1,5 @@
--- Datasets (IIM version 4, the chapter on DataSets): how octets spell them, what octets so far split into, and how they are printed.
+-- Datasets (IIM version 4, the chapter on DataSets): how octets encode them, how a prefix of a
+-- stream divides into datasets, and how datasets are printed.
 use Rattle.std.specs.Prelude.{◌≡◌, ℕ, ◌+◌, ◌^◌, ◌<◌, ◌≤◌, nat_lt, ◌⊎◌, if◌then◌else◌, List, [], ◌∷◌, ◌++◌, length, flat_map, ◌==◌, take, ◌-◌, ◌/◌, ◌%◌, ◌&&◌, not, Bool, nat_le, codes, decimal, Option, Some, None}
 use Rattle.std.specs.List.{filter}
 use Rattle.byteorder.specs.Endian.{big_bytes}
@@ -14,19 +15,19 @@ pub record Dataset : Type 0 where
   pub set : ℕ
   pub octets : List ℕ
 
--- what the tag of a dataset tells
+-- the head that the tag of a dataset encodes
 abbrev pub head_of : Dataset → Head
 head_of d = record { rec = d.rec; set = d.set; count = length d.octets }
 
--- the most octets of an extended count after its first two (the profile's)
+-- the greatest number of octets of an extended count after its first two (the profile's)
 abbrev pub count_octets : ℕ
 count_octets = 8
 
--- the most octets of a tag: its first five, and those of an extended count
+-- the greatest number of octets of a tag: its first five, and those of an extended count
 abbrev pub tag_octets : ℕ
 tag_octets = 5 + count_octets
 
--- the tag marker, which each tag begins with
+-- the tag marker, with which each tag begins
 abbrev pub tag_marker : ℕ
 tag_marker = 0x1c
 
@@ -38,12 +39,13 @@ extended = 0x80
 abbrev pub IsStandardCount : ℕ → ℕ → ℕ → List ℕ → Type 0
 IsStandardCount count high low more = (high < extended) × IsOctet low × (more ≡ []) × (number (high ∷ low ∷ []) ≡ count)
 
--- The extended form: the first two octets hold 8000h and how many octets follow, at most `limit`, and those hold the count.
+-- The extended form: the first two octets are 8000h plus the number of octets that follow, at most
+-- `limit`, and those are the count.
 abbrev pub IsExtendedCount : ℕ → ℕ → ℕ → ℕ → List ℕ → Type 0
 IsExtendedCount limit count high low more =
     (high ≡ extended) × (low ≡ length more) × (1 ≤ low) × (low ≤ limit) × Octets more × (number more ≡ count)
 
--- The octets spell the count of a tag.
+-- The octets encode the count of a tag.
 abbrev pub SpellsCount : ℕ → ℕ → List ℕ → Type 0
 SpellsCount limit count (high ∷ low ∷ more) = IsStandardCount count high low more ⊎ IsExtendedCount limit count high low more
 SpellsCount limit count fewer = ⊥
@@ -63,30 +65,32 @@ pub record SpellsDataset (limit : ℕ) (d : Dataset) (xs : List ℕ) : Type 0 wh
   pub data_octets : Octets d.octets
   pub parts : xs ≡ tag ++ d.octets
 
--- A stream: spellings of the datasets, joined in order.
+-- A stream: the encodings of the datasets, joined in order.
 abbrev pub SpellsStream : ℕ → List Dataset → List ℕ → Type 0
 SpellsStream limit [] xs = xs ≡ []
 SpellsStream limit (d ∷ ds) xs = (first : List ℕ) × (rest : List ℕ)
     × SpellsDataset limit d first × SpellsStream limit ds rest × (xs ≡ first ++ rest)
 
--- ---- how a writer spells
+-- ---- the canonical encoding
 
--- a number where its length is told beside it: four octets up to 4,294,967,295, above that eight, high octet first
+-- a number whose length is encoded beside it: four octets up to 4,294,967,295, eight above that,
+-- high octet first
 abbrev pub written_number : ℕ → List ℕ
 written_number n = if nat_lt n (2 ^ 32) then big_bytes 4 n else big_bytes 8 n
 
--- the canonical spelling of a count: two octets up to 32,767, above that an extended count, the number as it is written
+-- the canonical encoding of a count: two octets up to 32,767, above that an extended count, in four
+-- octets or eight
 abbrev pub canonical_count : ℕ → List ℕ
 canonical_count n = if nat_lt n 32768 then big_bytes 2 n else extended ∷ length (written_number n) ∷ written_number n
 
 abbrev pub canonical_tag : Head → List ℕ
 canonical_tag h = tag_marker ∷ h.rec ∷ h.set ∷ canonical_count h.count
 
--- the canonical spelling of a dataset: its canonical tag, and its data
+-- the canonical encoding of a dataset: its canonical tag, and its data
 abbrev pub canonical_dataset : Dataset → List ℕ
 canonical_dataset d = canonical_tag (head_of d) ++ d.octets
 
--- the canonical spellings of datasets, joined in order
+-- the canonical encodings of datasets, joined in order
 abbrev pub canonical_stream : List Dataset → List ℕ
 canonical_stream ds = flat_map canonical_dataset ds
 
@@ -94,31 +98,32 @@ canonical_stream ds = flat_map canonical_dataset ds
 abbrev pub of_record : ℕ → List Dataset → List Dataset
 of_record r ds = filter (λ d. d.rec == r) ds
 
--- less than the whole spelling of one dataset
+-- a proper prefix of the encoding of one dataset
 pub record IsPart (limit : ℕ) (xs : List ℕ) : Type 0 where
   pub begun : Dataset
   pub octets : List ℕ
   pub spelled : SpellsDataset limit begun octets
   pub is_part : IsProperPrefix xs octets
 
--- The octets so far split into whole datasets and a rest that is less than a whole one.
+-- The octets so far split into complete datasets and a rest that is less than a complete one.
 pub record SplitsInto (limit : ℕ) (xs : List ℕ) (whole : List Dataset) (rest : List ℕ) : Type 0 where
   pub front : List ℕ
   pub is_front : SpellsStream limit whole front
   pub is_rest : IsPart limit rest
   pub parts : xs ≡ front ++ rest
 
--- A begun dataset: octets of its tag (none between datasets), or its head with less than all of its data.
+-- A partial dataset: octets of its tag (none between datasets), or its head with less than all of
+-- its data.
 pub data Begun : Type 0 where
   InTag : List ℕ → Begun
   InData : Head → List ℕ → Begun
 
--- The octets are those of the begun dataset.
+-- The octets are those of the partial dataset.
 abbrev pub IsBegun : ℕ → Begun → List ℕ → Type 0
 IsBegun limit (InTag held) xs = (xs ≡ held) × (h : Head) × (tag : List ℕ) × SpellsTag limit h tag × IsProperPrefix held tag
 IsBegun limit (InData h taken) xs = (tag : List ℕ) × SpellsTag limit h tag × (length taken < h.count) × Octets taken × (xs ≡ tag ++ taken)
 
--- The octets so far are these whole datasets and this begun one.
+-- The octets so far are these complete datasets and this partial one.
 pub record Reads (limit : ℕ) (xs : List ℕ) (whole : List Dataset) (begun : Begun) : Type 0 where
   pub front : List ℕ
   pub rest : List ℕ
@@ -126,13 +131,14 @@ pub record Reads (limit : ℕ) (xs : List ℕ) (whole : List Dataset) (begun : B
   pub is_rest : IsBegun limit begun rest
   pub parts : xs ≡ front ++ rest
 
--- The next octet completes the data of the head: it is the last of them, or the head has none and its tag ends there.
+-- The next octet completes the data of the head: it is the last of them, or the head has none and
+-- its tag ends there.
 abbrev pub CompletesData : List ℕ → ℕ → List Dataset → Head → List ℕ → Type 0
 CompletesData octets next whole head given =
     ((taken : List ℕ) × Reads count_octets octets whole (InData head taken) × (given ≡ taken ++ next ∷ []) × (length given ≡ head.count))
     ⊎ ((held : List ℕ) × Reads count_octets octets whole (InTag held) × SpellsTag count_octets head (held ++ next ∷ []) × (head.count ≡ 0) × (given ≡ []))
 
--- The octets begin a tag, and are not all of it.
+-- The octets are a proper prefix of a tag.
 pub record BeginsTag (limit : ℕ) (octets : List ℕ) : Type 0 where
   pub head : Head
   pub more : List ℕ
@@ -143,7 +149,7 @@ pub record BeginsTag (limit : ℕ) (octets : List ℕ) : Type 0 where
 abbrev pub BeginsNoTag : ℕ → List ℕ → Type 0
 BeginsNoTag limit octets = (h : Head) (more : List ℕ) → SpellsTag limit h (octets ++ more) → ⊥
 
--- The first octet of a tag is its marker, and those from the fourth on are its count.
+-- A wrong marker is the first octet of a tag, and a wrong count is the fourth octet or a later one.
 abbrev pub Concerns : HeadCause → ℕ → Type 0
 Concerns Marker at = at ≡ 0
 Concerns CountForm at = 3 ≤ at
@@ -154,22 +160,22 @@ pub record HasTag (octets : List ℕ) (head : Head) (used : ℕ) : Type 0 where
   pub within : used ≤ length octets
   pub tag : SpellsTag count_octets head (take used octets)
 
--- The octets before the one at `at` begin a tag, and with that one no tag does.
+-- The octets before the one at `taken` begin a tag, and no tag begins with these and that one.
 pub record HasNoTag (octets : List ℕ) (fault : HeadFault) : Type 0 where
   pub within : fault.taken < length octets
   pub begun : BeginsTag count_octets (take fault.taken octets)
   pub dead : BeginsNoTag count_octets (take (fault.taken + 1) octets)
   pub cause : Concerns fault.cause fault.taken
 
--- the digit of a number below 16: 0 to 9, A to F
+-- the hexadecimal digit of a number below 16: 0 to 9, A to F
 abbrev pub hex_digit : ℕ → ℕ
 hex_digit n = if nat_lt n 10 then digit_zero + n else capital_a - 10 + n
 
--- \x and the two digits of an octet
+-- \x and the two hexadecimal digits of an octet
 abbrev pub escape : ℕ → List ℕ
 escape octet = backslash ∷ small_x ∷ hex_digit (octet / 16) ∷ hex_digit (octet % 16) ∷ []
 
--- Octets from 20 to 7E stand for themselves, but for the backslash.
+-- Octets from 20h to 7Eh are shown as themselves, except the backslash.
 abbrev pub is_plain : ℕ → Bool
 is_plain octet = nat_le sp octet && nat_le octet 0x7e && not (octet == backslash)
 
@@ -188,12 +194,12 @@ padding n = if nat_lt n 10 then codes "0" else []
 abbrev pub dataset_name : ℕ → ℕ → List ℕ
 dataset_name rec set = decimal rec ++ (codes ":" ++ (padding set ++ decimal set))
 
--- a number in decimal digits, or - where there is none
+-- a number in decimal digits, or - if there is no number
 abbrev pub number_or_dash : Option ℕ → List ℕ
 number_or_dash None = codes "-"
 number_or_dash (Some n) = decimal n
 
--- how faults of devices are printed
+-- how faults of readers and writers are printed
 abbrev pub text_of_fault : IoFault → List ℕ
 text_of_fault Interrupted = codes "the device was interrupted"
 text_of_fault Failed = codes "the device failed"

@@ -1,4 +1,4 @@
--- Why an octet is refused, and how it is printed.
+-- Why an octet is rejected, and how this is printed.
 use Rattle.std.specs.Prelude.{ℕ, List, ◌++◌, codes, decimal}
 use Rattle.iim_dataset.specs.declared.{fault.FaultCause.FaultCause, fault.Fault.Fault, stop.Stop.Stop}
 use Rattle.iim_dataset.specs.declared.fault.FaultCause.TheVariants.{Marker, CountForm, Stopped}
@@ -19,10 +19,10 @@ cause_name Stopped = codes "Sink"
 abbrev pub cause_text : FaultCause → List ℕ
 cause_text cause = decimal (cause_number cause) ++ (codes " " ++ cause_name cause)
 
--- The number of octets before the refused one, and the cause, as they are printed.
+-- The number of octets before the rejected one, and the cause, as they are printed.
 abbrev pub fault_text : Fault → List ℕ
 fault_text fault = codes "refused after " ++ (decimal fault.used ++ (codes " octets, cause " ++ cause_text fault.cause))
 
--- The number of octets that a sink took before it stopped, as it is printed.
+-- The number of octets that a sink accepted before it stopped, as it is printed.
 abbrev pub stop_text : Stop → List ℕ
 stop_text stop = codes "stopped after " ++ (decimal stop.taken ++ codes " octets")

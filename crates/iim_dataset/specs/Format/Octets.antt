@@ -1,4 +1,5 @@
--- Octets, by the numbers that they spell and by their names in ISO 646; counts that rise; and languages of tokens.
+-- Octets, the numbers that they encode, and their names in ISO 646; counters that rise; and
+-- languages of tokens.
 use Rattle.std.specs.Prelude.{◌≡◌, ℕ, ◌-◌, ◌^◌, ◌<◌, List, ◌++◌, length, Bool, ◌&&◌, ◌||◌, nat_le, ◌+◌, ◌≤◌, ◌⊎◌, [], ◌∷◌}
 use Rattle.std.specs.List.{AllByRecursion}
 use Rattle.byteorder.specs.Endian.{big_number}
@@ -10,15 +11,16 @@ IsOctet b = b < 256
 abbrev pub Octets : List ℕ → Type 0
 Octets xs = AllByRecursion IsOctet xs
 
--- the unsigned binary number that the octets spell, high octet first
+-- the unsigned binary number that the octets encode, high octet first
 abbrev pub number : List ℕ → ℕ
 number xs = big_number (length xs) xs
 
--- xs begins ys and is shorter
+-- xs is a proper prefix of ys: it begins ys and is shorter
 abbrev pub IsProperPrefix : List ℕ → List ℕ → Type 0
 IsProperPrefix xs ys = (rest : List ℕ) × (0 < length rest) × (xs ++ rest ≡ ys)
 
--- the greatest size of an object, in octets, and so the greatest count that a row allows (the profile's)
+-- the greatest size of an object in octets, and so the greatest count that a row allows (the
+-- profile's)
 abbrev pub greatest_size : ℕ
 greatest_size = 9_223_372_036_854_775_807
 
@@ -26,7 +28,7 @@ greatest_size = 9_223_372_036_854_775_807
 abbrev pub greatest_u32 : ℕ
 greatest_u32 = 4_294_967_295
 
--- the greatest number of 64 bits, at which a stored count stays
+-- the greatest number of 64 bits, at which a stored counter saturates
 abbrev pub greatest_u64 : ℕ
 greatest_u64 = 2 ^ 64 - 1
 
@@ -116,14 +118,14 @@ small_a = 0x61
 abbrev pub small_x : ℕ
 small_x = 0x78
 
--- A count rose by one. Of a stored count that stands at the greatest number of 64 bits no rise is asked.
+-- A counter rose by one. A stored counter that is at the greatest number of 64 bits may stay.
 abbrev pub Rose : ℕ → ℕ → Type 0
 Rose old new = (new ≡ old + 1) ⊎ ((2 ^ 64 ≤ new + 1) × (old ≤ new) × (new ≤ old + 1))
 
--- Alive: some continuation of the tokens is in the language.
+-- A viable prefix: some continuation of the tokens is in the language.
 abbrev pub IsAlive : {T : Type 0} → (List T → Type 0) → List T → Type 0
 IsAlive {T} Language tokens = (rest : List T) × Language (tokens ++ rest)
 
--- Alive with the tokens, and dead with the next one.
+-- The tokens are a viable prefix, and with the next one they are not.
 abbrev pub DiesAt : {T : Type 0} → (List T → Type 0) → List T → T → Type 0
 DiesAt {T} Language tokens token = IsAlive Language tokens × (IsAlive Language (tokens ++ token ∷ []) → ⊥)

@@ -1,4 +1,4 @@
--- Where a reader of datasets stands, what it hands on, and how octets are refused.
+-- The states of a reader of datasets, the events that it emits, and how it rejects octets.
 use Rattle.std.specs.Prelude.{ℕ, List, [], ◌∷◌, ◌++◌, map, flat_map, Option, Some, None, ◌≡◌, ◌+◌, ◌<◌, ◌≤◌, length, get_or, ◌⊎◌, take, slice_index, Bool, true, false}
 use Rattle.iim_dataset.specs.Format.Datasets.{Dataset, head_of, Head, Begun, InTag, InData, SpellsTag, count_octets, Reads, BeginsTag, BeginsNoTag, Concerns}
 use Rattle.iim_dataset.specs.declared.fault.FaultCause.TheVariants.{Marker, CountForm, Stopped}
@@ -13,27 +13,29 @@ pub data DatasetEvent : Type 0 where
   DataOctet : ℕ → DatasetEvent
   DatasetEnd : DatasetEvent
 
--- Of a whole dataset: its head, its data and its end.
+-- The events of a complete dataset: its head, its data and its end.
 abbrev pub events_of : Dataset → List DatasetEvent
 events_of d = HeadRead (head_of d) ∷ (map DataOctet d.octets ++ DatasetEnd ∷ [])
 
--- Of a begun one: nothing while its tag is not whole, then its head and the data so far.
+-- The events of a partial dataset: none while its tag is incomplete, then its head and the data so
+-- far.
 abbrev pub begun_events : Begun → List DatasetEvent
 begun_events (InTag held) = []
 begun_events (InData h taken) = HeadRead h ∷ map DataOctet taken
 
--- the head of what is begun, and the data so far, where its head has come
+-- the head of the partial dataset and its data so far, once its tag is complete
 abbrev pub begun_data : Begun → Option (Head × List ℕ)
 begun_data (InTag held) = None
 begun_data (InData h taken) = Some (h, taken)
 
--- Of whole datasets and a begun one.
+-- The events of complete datasets and a partial one.
 abbrev pub handed_on : List Dataset → Begun → List DatasetEvent
 handed_on whole begun = flat_map events_of whole ++ begun_events begun
 
--- ---- Where the next octet stands in a stream of datasets.
+-- ---- The state of a reader in a stream of datasets.
 
--- Less than a tag is held; or some octets of data are to come, no more than the head counts, and some tag tells that head.
+-- The buffered octets are a proper prefix of a tag; or at least one octet of data remains and no
+-- more than the head counts, and some tag encodes that head.
 abbrev pub IsPlace : DatasetPlace → Type 0
 IsPlace (Tag held) = BeginsTag count_octets held.items
 IsPlace (Inside h left) = (0 < left) × (left ≤ h.count) × (tag : List ℕ) × SpellsTag count_octets h tag
@@ -42,46 +44,48 @@ IsPlace (Inside h left) = (0 < left) × (left ≤ h.count) × (tag : List ℕ) �
 abbrev pub between : DatasetPlace
 between = Tag (record { items = [] })
 
--- how many octets of data are to come; none is said while no head is complete
+-- the number of octets of data that remain, once the head is complete
 abbrev pub to_come : DatasetPlace → Option ℕ
 to_come (Tag held) = None
 to_come (Inside h left) = Some left
 
--- the record and the number that the octets of a tag tell, each 0 while it is unread
+-- the record and the number that the octets of a tag encode, each 0 until it has been read
 abbrev pub named_by : DatasetPlace → ℕ × ℕ
 named_by (Tag held) = (get_or held.items 1 0, get_or held.items 2 0)
 named_by (Inside h left) = (h.rec, h.set)
 
--- The place keeps what is begun: the octets of a tag, or its head and how many octets of data are to come.
+-- The state stores the partial dataset: the octets of its tag, or its head and the number of octets
+-- of data that remain.
 abbrev pub IsKeptAs : DatasetPlace → Begun → Type 0
 IsKeptAs (Tag held) (InTag octets) = held.items ≡ octets
 IsKeptAs (Tag held) (InData head taken) = ⊥
 IsKeptAs (Inside h left) (InTag octets) = ⊥
 IsKeptAs (Inside h left) (InData head taken) = (h ≡ head) × (length taken + left ≡ head.count)
 
--- The octets so far are whole datasets and this begun one, of which these events were handed on.
+-- The octets so far are complete datasets and this partial one, and these are their events.
 pub record HandsOn (limit : ℕ) (octets : List ℕ) (events : List DatasetEvent) (begun : Begun) : Type 0 where
   pub whole : List Dataset
   pub reads : Reads limit octets whole begun
   pub handed : events ≡ handed_on whole begun
 
--- The octets so far led to this place, and these events were handed on.
+-- The octets so far reach this state, and these are their events.
 pub record LeadsTo (limit : ℕ) (octets : List ℕ) (events : List DatasetEvent) (place : DatasetPlace) : Type 0 where
   pub begun : Begun
   pub hands : HandsOn limit octets events begun
   pub keeps : IsKeptAs place begun
 
--- From place to place by octets, which add these events wherever they stand.
+-- From the old state the octets reach the new one, and add these events, whatever octets came
+-- before.
 abbrev pub Brings : DatasetPlace → List ℕ → List DatasetEvent → DatasetPlace → Type 0
 Brings old xs more new = (octets : List ℕ) (events : List DatasetEvent) → LeadsTo count_octets octets events old → LeadsTo count_octets (octets ++ xs) (events ++ more) new
 
--- The same, and the sink was told these events.
+-- From the old state the octets reach the new one, and the sink received the events that they add.
 pub record TellsSink {D : Type 0} (goes : D → List DatasetEvent → D → Type 0) (old : DatasetPlace) (xs : List ℕ) (new : DatasetPlace) (a b : D) : Type 0 where
   pub more : List DatasetEvent
   pub told : goes a more b
   pub brings : Brings old xs more new
 
--- ---- refusals
+-- ---- Rejected octets.
 
 -- why no tag can continue
 abbrev pub tag_cause_of : FaultCause → Option HeadCause
@@ -89,15 +93,15 @@ tag_cause_of Marker = Some tags.Marker
 tag_cause_of CountForm = Some tags.CountForm
 tag_cause_of Stopped = None
 
--- A tag is held at the place, and no tag begins with it and the next octet.
+-- The state is in a tag, and no tag begins with its octets and the next one.
 pub record TagDies (place : DatasetPlace) (next : ℕ) (cause : HeadCause) : Type 0 where
   pub held : List ℕ
   pub tag : place ≡ Tag (record { items = held })
   pub dead : BeginsNoTag count_octets (held ++ next ∷ [])
   pub concerns : Concerns cause (length held)
 
--- The next octet completes this event, after these: those that the octets completed, and some that the next one completes
--- before this one. It may complete others after it.
+-- The next octet completes this event, after these: those that the octets completed, and any that
+-- the next one completes before this one. It may complete others after it.
 pub record Completes (octets : List ℕ) (next : ℕ) (events : List DatasetEvent) (event : DatasetEvent) : Type 0 where
   pub before : List DatasetEvent
   pub begun : Begun
@@ -108,7 +112,7 @@ pub record Completes (octets : List ℕ) (next : ℕ) (events : List DatasetEven
   pub next_begun : Begun
   pub with_next : HandsOn count_octets (octets ++ next ∷ []) (events ++ event ∷ later) next_begun
 
--- The sink refused an event that octet k of the piece completes.
+-- The sink rejected an event that octet k of the chunk completes.
 pub record Stops {D : Type 0} (stops : D → List DatasetEvent → DatasetEvent → D → Type 0) (place : DatasetPlace) (piece : List ℕ) (k : ℕ) (a b : D) : Type 0 where
   pub more : List DatasetEvent
   pub event : DatasetEvent
@@ -116,8 +120,8 @@ pub record Stops {D : Type 0} (stops : D → List DatasetEvent → DatasetEvent 
   pub completes : (octets : List ℕ) (events : List DatasetEvent) → LeadsTo count_octets octets events place
       → Completes (octets ++ take k piece) (slice_index piece k) (events ++ more) event
 
--- Octet k of the piece is refused: the octets before it lead to a place where no tag can continue with it, or the sink stopped, and
--- then the place tells nothing.
+-- Octet k of the chunk is rejected: the octets before it reach a state in which no tag can continue
+-- with it, or the sink stopped, and then the new state is between datasets.
 abbrev pub RefusesFor : {D : Type 0} → (D → List DatasetEvent → D → Type 0) → (D → List DatasetEvent → DatasetEvent → D → Type 0) → Option HeadCause → DatasetPlace → List ℕ → ℕ → DatasetPlace → D → D → Type 0
 RefusesFor goes stops None old piece k new a b = Stops stops old piece k a b × (new ≡ between)
 RefusesFor goes stops (Some cause) old piece k new a b = TellsSink goes old (take k piece) new a b × TagDies new (slice_index piece k) cause
@@ -125,49 +129,51 @@ RefusesFor goes stops (Some cause) old piece k new a b = TellsSink goes old (tak
 abbrev pub Refuses : {D : Type 0} → (D → List DatasetEvent → D → Type 0) → (D → List DatasetEvent → DatasetEvent → D → Type 0) → DatasetPlace → List ℕ → Fault → DatasetPlace → D → D → Type 0
 Refuses goes stops old piece fault new a b = RefusesFor goes stops (tag_cause_of fault.cause) old piece fault.used new a b
 
--- Where no tag can continue with the refused octet, the sink takes what comes next: it has not ended.
+-- If no tag can continue with the rejected octet, the sink accepts what comes next: it has not
+-- ended.
 abbrev pub StillStands : {D : Type 0} → (D → Option ℕ → Type 0) → Option HeadCause → DatasetPlace → D → Type 0
 StillStands stands None place sink = Unit {0}
 StillStands stands (Some cause) place sink = stands sink (to_come place)
 
 -- ---- sinks
 
--- After this answer to the end of a dataset the sink takes a head, or it has ended.
+-- After this return value at the end of a dataset, the sink accepts a head, or it has ended.
 abbrev pub AfterStep : {D : Type 0} → (D → Option ℕ → Type 0) → (D → Type 0) → D → Step → Type 0
 AfterStep stands ends sink More = stands sink None
 AfterStep stands ends sink Last = ends sink
 
--- All of the octets were used, or the sink has ended after a whole dataset.
+-- All of the octets were consumed, or the sink has ended after a complete dataset.
 abbrev pub TookAll : {D : Type 0} → (D → Option ℕ → Type 0) → (D → Type 0) → DatasetPlace → D → ℕ → ℕ → Type 0
 TookAll stands ends place sink all used = ((used ≡ all) × stands sink (to_come place)) ⊎ (ends sink × (place ≡ between))
 
 -- ---- the reader
 
--- A reader is seen as its place, and whether a call was refused.
+-- A reader is seen as its state, and whether a call returned an error.
 pub record Reader : Type 0 where
   pub place : DatasetPlace
   pub failed : Bool
 
--- No call was refused.
+-- No call returned an error.
 abbrev pub TakesCalls : Reader → Type 0
 TakesCalls reader = reader.failed ≡ false
 
 abbrev pub IsFailed : Reader → Type 0
 IsFailed reader = reader.failed ≡ true
 
--- The octets so far led here, and these events were handed on.
+-- The octets so far reach the state of the reader, and these are their events.
 abbrev pub StandsAt : Reader → List ℕ → List DatasetEvent → Type 0
 StandsAt reader octets events = LeadsTo count_octets octets events reader.place
 
--- All of the octets were taken, or those up to the end of the last dataset. (Place and sink, before and after.)
+-- All of the octets were consumed, or those up to the end of the last dataset. (State and sink,
+-- before and after.)
 pub record TakesPiece {D : Type 0} (goes : D → List DatasetEvent → D → Type 0) (stands : D → Option ℕ → Type 0) (ends : D → Type 0) (old : DatasetPlace × D) (octets : List ℕ) (new : DatasetPlace × D) (used : ℕ) : Type 0 where
   pub is_place : IsPlace new.0
   pub within : used ≤ length octets
   pub told : TellsSink goes old.0 (take used octets) new.0 old.1 new.1
   pub onward : TookAll stands ends new.0 new.1 (length octets) used
 
--- One of the octets was refused: no tag can continue with it, or the sink stopped at what it completes. (Place and sink, before and
--- after.)
+-- One of the octets was rejected: no tag can continue with it, or the sink stopped at what it
+-- completes. (State and sink, before and after.)
 pub record RefusesOne {D : Type 0} (goes : D → List DatasetEvent → D → Type 0) (stops : D → List DatasetEvent → DatasetEvent → D → Type 0) (stands : D → Option ℕ → Type 0) (old : DatasetPlace × D) (octets : List ℕ) (fault : Fault) (new : DatasetPlace × D) : Type 0 where
   pub is_place : IsPlace new.0
   pub before : fault.used < length octets

@@ -8,7 +8,7 @@ use Rattle.iim_dataset.specs.declared.device.IoFault.TheVariants.{Interrupted, F
 use Rattle.iim_dataset.proofs.DeviceLaws.{missed_later}
 use Rattle.iim_dataset.proofs.device_laws.gifts_join.Goals as goal
 
--- octets that stay as they were were not consumed
+-- If the octets stayed as they were, none was consumed.
 keeps_consumes : (a b : Option (List ℕ)) → Keeps a b → Consumes a b []
 keeps_consumes None b h = tt
 keeps_consumes (Some x) None h = absurd h

@@ -2,7 +2,7 @@ use Rattle.std.proofs.Common.{◌-◌, ◌≤◌, length, take}
 use Rattle.iim_dataset.specs.States.Reading.{IsPlace, TellsSink, to_come}
 use Rattle.iim_dataset.proofs.piece.take_piece.Given as goal
 
--- the octets so far have led here, and the sink was told what they completed
+-- The octets so far reach this state, and the sink received what they completed.
 abbrev pub invariant-loop-at : goal.invariant-loop-at
 invariant-loop-at g l = record {
   is_place : IsPlace l.now;

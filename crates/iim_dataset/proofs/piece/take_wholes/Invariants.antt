@@ -2,7 +2,7 @@ use Rattle.std.proofs.Common.{◌≡◌, ◌-◌, ◌≤◌, length, take, None}
 use Rattle.iim_dataset.specs.States.Reading.{TellsSink, between}
 use Rattle.iim_dataset.proofs.piece.take_wholes.Given as goal
 
--- whole datasets so far, of which the sink was told
+-- The octets so far are complete datasets, which the sink received.
 abbrev pub invariant-loop-head : goal.invariant-loop-head
 invariant-loop-head g l = record {
   within : l.at ≤ length l.rest;

@@ -1,7 +1,7 @@
 use Rattle.std.proofs.Common.{◌≡◌, ◌+◌, take, vec_len, vec_capacity}
 use Rattle.iim_dataset.proofs.reserved.with_more.Given as goal
 
--- so many places came after those that there were, in the same room
+-- One zero was appended in each round, with the same capacity.
 abbrev pub invariant-loop : goal.invariant-loop
 invariant-loop l =
     (take (vec_len l.fn.places) l.places.items ≡ l.fn.places.items)
