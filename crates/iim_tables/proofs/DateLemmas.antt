@@ -23,17 +23,17 @@ two_digits-pair a b h =
     let ones : 48 + pair a b % 10 ≡ b = omega arith in
     cc
 
--- and the number is that of its text
+-- The number of the text of a number is that number.
 pub pair-two_digits : (n : ℕ) → pair (48 + n / 10) (48 + n % 10) ≡ n
 pair-two_digits n = omega arith
 
--- the text of a number goes before digits
+-- The text of a number and then digits are digits.
 pub digits_before : (n : ℕ) (xs : List ℕ) → n < 100 → list_all is_digit xs ≡ true → list_all is_digit (two_digits n ++ xs) ≡ true
 digits_before n xs h k =
     and_from (is_digit (48 + n / 10)) (list_all is_digit ((48 + n % 10) ∷ xs)) (grind (arith, nat_tests))
     (and_from (is_digit (48 + n % 10)) (list_all is_digit xs) (grind (arith, nat_tests)) k)
 
--- the first two of a list of digits, and the rest
+-- The first two of a list of digits, and the rest.
 pub record Front (a b : ℕ) (xs : List ℕ) : Type 0 where
   pub two : AreTwoDigits a b
   pub rest : list_all is_digit xs ≡ true

@@ -1,4 +1,4 @@
--- What rows say of datasets, for the proofs of every crate: nothing here is to be believed.
+-- Lemmas on rows and good datasets, for the proofs of every crate.
 use Rattle.std.proofs.Common.{◌≡◌, ℕ, ◌+◌, ◌≤◌, true, false, cond, nat_eq, nat_le, List, [], ◌∷◌, ◌++◌, length, Option, Some, None, refl, arith}
 use Rattle.std.proofs.lemmas.Bool.{le-leb, or_parts}
 use Rattle.std.proofs.lemmas.List.Sums.{sum_by-append, sum_by-cons}
@@ -9,22 +9,22 @@ use Rattle.iim_tables.specs.Format.Rows.{row_of, table, is_admitted, Meets}
 use Rattle.iim_tables.specs.Format.Records.{occurrences, occurs, repeats, IsGoodDataset}
 use Rattle.iim_tables.specs.declared.shape.Row.{Row}
 
--- octets meet a row that admits them
+-- Octets meet a row that accepts them, and a row that they meet accepts them.
 pub meets_as : (rec set : ℕ) (row : Row) (xs : List ℕ) → row_of rec set ≡ Some row → is_admitted row xs ≡ true → Meets rec set xs
 meets_as rec set row xs known admitted = rw known admitted
 
 pub admitted_as : (rec set : ℕ) (row : Row) (xs : List ℕ) → row_of rec set ≡ Some row → Meets rec set xs → is_admitted row xs ≡ true
 admitted_as rec set row xs known meets = rw known at meets
 
--- nothing meets a row that there is not
+-- No octets meet the row of a dataset that has no row.
 pub none_meets : (rec set : ℕ) (xs : List ℕ) → row_of rec set ≡ None → Meets rec set xs → ⊥
 none_meets rec set xs none meets = rw none at meets
 
--- what a row says of repetition
+-- Whether a dataset may repeat, by its row.
 pub repeats_as : (rec n : ℕ) (o : Option Row) → row_of rec n ≡ o → repeats rec n ≡ option_map_or (λ (r : Row). r.repeats) o true
 repeats_as rec n o is = rw is refl
 
--- beside its row nothing is asked of a dataset of another record than the first
+-- A dataset of a record other than 1 is good if it meets its row.
 pub good_elsewhere : {d : Dataset} → nat_eq d.rec 1 ≡ false → IsOctet d.set → Octets d.octets → Meets d.rec d.set d.octets → IsGoodDataset d
 good_elsewhere other small octets meets = record { numbered = small; octets = octets; meets = meets; file_format = rw other refl }
 

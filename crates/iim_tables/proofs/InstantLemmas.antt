@@ -1,4 +1,5 @@
--- An admitted time's parts are in range, and the instant that jiff gives is the one that the words say.
+-- The parts of a valid time are in range, and the instant that `jiff` computes is that of the
+-- definitions.
 use Rattle.std.proofs.Common.{Option, Some, None, Bool, ◌↔◌, refl, ap, if◌then◌else◌, ◌≡◌, ℕ, ◌*◌, ◌<◌, true, ◌&&◌, ◌==◌, IsSome, IfSome, Result, Ok, Err, IsOk, IfOk, List, ℤ, pos, ◌-ℤ◌, arith}
 use Rattle.std.specs.Result.{result_ok}
 use Rattle.std.specs.Option.{option_map}
@@ -16,7 +17,7 @@ use Rattle.iim_tables.specs.Format.Dates.{pair_at, year_in, month_in, day_in, is
 in_range : (hour minute : ℕ) → is_clock hour minute 0 ≡ true → (hour < 24) × (minute < 60)
 in_range hour minute h = (grind (arith, nat_tests), grind (arith, nat_tests))
 
--- an admitted time's parts are in range
+-- The parts of a valid time are in range.
 pub clocks : (xs : List ℕ) → is_time xs ≡ true → (is_clock (pair_at xs 0) (pair_at xs 2) (pair_at xs 4) ≡ true) × (pair_at xs 7 < 24) × (pair_at xs 9 < 60)
 clocks xs h =
     let outer = and_parts (has_time_form xs && is_clock (pair_at xs 0) (pair_at xs 2) (pair_at xs 4)) (is_clock (pair_at xs 7) (pair_at xs 9) 0) h in
@@ -32,7 +33,7 @@ same_instant dt o date time h k e =
     let day : epoch_day dt.date ≡ days_from_civil (pos (year_in date)) (month_in date) (day_in date) = cc in
     omega (arith, signed_arith, civil_nanos-parts dt, day, k, e)
 
--- what `ok` keeps
+-- `ok` of a result that is `Ok` is `Some`.
 pub ok-some : {T E : Type 0} (r : Result T E) → IsOk r → IsSome (result_ok r)
 ok-some (Ok x) h = h
 ok-some (Err e) h = h
@@ -55,7 +56,7 @@ pick (Some t) a b r n h k e =
     rw (all.0, all.1, all.2) (ap (λ (z : ℤ). Some z) e)
 pick None a b r n h k e = grind arith
 
--- the two clauses as one function
+-- The two clauses of `instant` as one function.
 pub instant_is : (o : Option Timestamp) (date time : List ℕ) → (IsSome o ↔ HasInstant date time) → IfSome o (λ t. t.nanosecond ≡ instant_nanos date time)
     → option_map (λ t. t.nanosecond) o ≡ instant_in date time
 instant_is o date time h e =

@@ -1,4 +1,4 @@
--- Classes of octets, several octets tested at once.
+-- Classes of octets, with several octets tested at once.
 use Rattle.std.proofs.Common.{◌≡◌, ℕ, ◌+◌, ◌-◌, ◌≤◌, Bool, true, false, not, ◌&&◌, ◌||◌, nat_eq, nat_le, List, [], ◌∷◌, length, get_or, map, replicate, take, drop, refl, ap, sym, subst, ◌∙◌, arith, bit_and, bit_or, w8, Fits, length-drop}
 use Rattle.std.proofs.lemmas.Bool.Decides.{nat_tests}
 use Rattle.std.specs.Simd.Lanes.{zip2, Each1}
@@ -18,9 +18,9 @@ either_lane true false = refl
 either_lane false true = refl
 either_lane false false = refl
 
--- ---- the classes of octets
+-- ---- The classes of octets.
 
--- the lanes that are the octet
+-- the lanes whose octet is a given one
 abbrev equal_to : ℕ → ℕ → List ℕ → List ℕ
 equal_to n octet xs = zip2 (λ a b. lane (nat_eq a b)) xs (replicate n octet)
 
@@ -28,7 +28,7 @@ equal_to n octet xs = zip2 (λ a b. lane (nat_eq a b)) xs (replicate n octet)
 abbrev digit_lanes : ℕ → List ℕ → List ℕ
 digit_lanes n xs = zip2 bit_and (from_on n 48 xs) (up_to n 57 xs)
 
--- the lanes from an octet on, but for DEL
+-- the lanes whose octet is at least a given one, and not DEL
 abbrev calm_lanes : ℕ → ℕ → List ℕ → List ℕ
 calm_lanes least n xs = zip2 bit_and (from_on n least xs) (other_than n 127 xs)
 
@@ -52,7 +52,7 @@ text_told least true [] = refl
 text_told least false (x ∷ xs) = λ i. both_lanes (nat_le least x) (not (nat_eq x 127)) i ∷ text_told least false xs i
 text_told least true (x ∷ xs) = λ i. line_lane (nat_le least x) (not (nat_eq x 127)) (nat_eq x 10) (nat_eq x 13) i ∷ text_told least true xs i
 
--- ---- the first octets
+-- ---- The first octets.
 
 module _ (xs : List ℕ) (n : ℕ) (room : n ≤ length xs) (le : n ≤ 64) where
   pub text_first : (least : ℕ) (asked lines : Bool) → asked ≡ lines
@@ -61,7 +61,7 @@ module _ (xs : List ℕ) (n : ℕ) (room : n ≤ length xs) (le : n ≤ 64) wher
       first_of xs n room le (is_text least lines) (text_lanes least lines) (text_told least lines)
       ∙ sym (ap (λ (b : Bool). list_all (is_text least b) (take n xs)) is)
 
--- ---- the classes of text by their names
+-- ---- The classes of text by their names.
 
 graphic_is : (x : ℕ) → x ≤ 255 → is_text 33 false x ≡ is_graphic x
 graphic_is x le = grind (arith, nat_tests)
@@ -89,35 +89,35 @@ module _ (xs : List ℕ) (fits : (i : ℕ) → Fits w8 (get_or xs i 0)) where
   pub all_spaced_or_line_ends : list_all (is_text 32 true) xs ≡ list_all is_spaced_or_line_end xs
   all_spaced_or_line_ends = same_class _ _ line_is xs small
 
--- ---- parts that overlap
+-- ---- Parts that overlap.
 
--- both parts pass where all do, and one fails where not
+-- Both parts pass exactly if all octets pass.
 parted : (q : ℕ → Bool) (xs : List ℕ) (n : ℕ) → (list_all q (take n xs) && list_all q (drop n xs)) ≡ list_all q xs
 parted q xs n = sym (list_all-append q (take n xs) (drop n xs)) ∙ ap (list_all q) (take-append-drop n xs)
 
--- all fail where the first n do
+-- If the first n octets fail, all fail.
 pub front_fails : (q : ℕ → Bool) (xs : List ℕ) (n : ℕ) → list_all q (take n xs) ≡ false → list_all q xs ≡ false
 front_fails q xs n e = sym (rw e at (parted q xs n))
 
 and_fails : (a b : Bool) → b ≡ false → (a && b) ≡ false
 and_fails a b e = grind arith
 
--- all fail where n do from some on
+-- If n octets from some position on fail, all fail.
 pub part_fails : (q : ℕ → Bool) (xs : List ℕ) (at n : ℕ) → list_all q (take n (take (length xs - at) (drop at xs))) ≡ false → list_all q xs ≡ false
 part_fails q xs at n e = sym (parted q xs at) ∙ and_fails (list_all q (take at xs)) (list_all q (drop at xs)) (front_fails q (drop at xs) n (rw take_rest at e))
 
--- the first n pass where the first m do, which are as many or more
+-- If the first m octets pass, the first n pass, for n at most m.
 fewer : (q : ℕ → Bool) (xs : List ℕ) (n m : ℕ) → n ≤ m → list_all q (take m xs) ≡ true → list_all q (take n xs) ≡ true
 fewer q xs n m le all =
     let part = and_parts (list_all q (take n (take m xs))) (list_all q (drop n (take m xs))) (parted q (take m xs) n ∙ all) in
     sym (ap (list_all q) (take-take n m xs le)) ∙ part.0
 
--- more pass where n more do
+-- If the first octets pass and the next n pass, all of these pass.
 pub more_pass : (q : ℕ → Bool) (xs : List ℕ) (at n : ℕ) → list_all q (take at xs) ≡ true → list_all q (take n (take (length xs - at) (drop at xs))) ≡ true
     → list_all q (take (at + n) xs) ≡ true
 more_pass q xs at n first more = rw (take-add at n xs, list_all-append, first) (rw take_rest at more)
 
--- where the first m pass, all do exactly where the last n do, which reach back to those
+-- If the first m octets pass, all pass exactly if the last n pass, which overlap those.
 pub last_pass : (q : ℕ → Bool) (xs : List ℕ) (m n : ℕ) → n ≤ length xs → length xs ≤ m + n → list_all q (take m xs) ≡ true
     → list_all q (take n (take (length xs - (length xs - n)) (drop (length xs - n) xs))) ≡ list_all q xs
 last_pass q xs m n room reach all =

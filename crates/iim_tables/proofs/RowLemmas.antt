@@ -1,4 +1,5 @@
--- For each row and each length in its bounds there is data that the row admits: a head with such a count can always continue.
+-- For each row and each length within its bounds some data meet the row, so a head with such a
+-- count can always continue.
 use Rattle.std.proofs.Common.{◌⊎◌, inl, inr, if◌then◌else◌, Option, Some, None, ◌≡◌, ℕ, zero, suc, ◌^◌, ◌<◌, ◌≤◌, Bool, true, false, ◌&&◌, ◌||◌, ◌==◌, nat_le, List, [], ◌∷◌, ◌++◌, length, replicate, codes, refl, sym, arith, length-append, zero-mul}
 use Rattle.std.specs.List.{list_all, find}
 use Rattle.std.proofs.lemmas.List.{length-replicate}
@@ -15,7 +16,7 @@ use Rattle.iim_tables.specs.declared.shape.Kind.{Kind}
 use Rattle.iim_tables.specs.declared.shape.Kind.TheVariants as kinds
 use Rattle.iim_tables.proofs.GoodDatasets.{table_bounded}
 
--- the lengths that data of the kind has
+-- the lengths that data of the kind may have
 abbrev pub has_length : Kind → ℕ → Bool
 has_length kinds.Date n = n == 8
 has_length kinds.PartDate n = n == 8
@@ -76,7 +77,7 @@ value_of kinds.SizeFromOne (suc n) h =
       octets_append (replicate n 0) (1 ∷ []) (octets_same 0 n (omega arith)) (omega arith, tt),
     )
 
--- the lengths of a kind are a run: what lies between two of them is one
+-- The lengths of a kind are an interval: a length between two of them is one of them.
 between : (k : Kind) (low high n : ℕ) → has_length k low ≡ true → has_length k high ≡ true → within low high n ≡ true → has_length k n ≡ true
 between kinds.Date low high n h k t = grind (arith, nat_tests)
 between kinds.PartDate low high n h k t = grind (arith, nat_tests)
@@ -86,7 +87,7 @@ between kinds.Size low high n h k t = grind (arith, nat_tests)
 between kinds.SizeFromOne low high n h k t = grind (arith, nat_tests)
 between _ low high n h k t = refl
 
--- the kind has both lengths that bound the row
+-- Both bounds of the row are lengths of its kind.
 abbrev bounds_fit : Row → Bool
 bounds_fit r = has_length r.kind r.min && has_length r.kind r.max
 
@@ -99,7 +100,7 @@ found_first : (b : Bool) (q : Row → Bool) (e : Entry) (rest : Option Entry) (r
 found_first true q e rest r h later found = let same : e.row ≡ r = cc in rw same at h
 found_first false q e rest r h later found = later found
 
--- what a search finds passes each test that all pass
+-- What a search finds passes each test that all entries pass.
 found_passes : (p : Entry → Bool) (q : Row → Bool) (es : List Entry) (r : Row) → list_all (λ e. q e.row) es ≡ true
     → option_map (λ x. x.row) (find p es) ≡ Some r → q r ≡ true
 found_passes p q [] r h found = absurd cc
@@ -114,7 +115,8 @@ first_or_other None b r h = inr h
 only_kept : (b : Bool) (r : Row) → (if b then Some kept_row else None) ≡ Some r → kept_row ≡ r
 only_kept b r h = grind arith
 
--- a test that each row of the table passes, and the kept row
+-- Each row of a dataset passes a test that each row of the table passes, and the row of unread
+-- datasets.
 row_passes : (q : Row → Bool) (rec set : ℕ) (r : Row) → list_all (λ e. q e.row) table ≡ true → q kept_row ≡ true → row_of rec set ≡ Some r → q r ≡ true
 unfolding row_of
 row_passes q rec set r all kept found = elim (first_or_other (row_in table rec set) (row_of_others rec) r found) [
@@ -122,7 +124,7 @@ row_passes q rec set r all kept found = elim (first_or_other (row_in table rec s
   | inr other ↦ rw (only_kept (rec == 1 || rec == 2) r other) at kept
 ]
 
--- each number of octets that a row allows is that of some that it admits
+-- For each length that a row allows, some octets of that length meet it.
 pub row_values : (rec set n : ℕ) (r : Row) → row_of rec set ≡ Some r → within r.min r.max n ≡ true → HasValue rec set n
 row_values rec set n r found t =
     let fits = row_passes bounds_fit rec set r table_fits refl found in
@@ -132,7 +134,7 @@ row_values rec set n r found t =
     let admitted : is_admitted r value.0 ≡ true = and_from (within r.min r.max (length value.0)) (has_kind r.kind value.0) in_bounds value.2 in
     (value.0, value.3, value.1, rw found admitted)
 
--- ---- no row allows more octets than the greatest size
+-- ---- No row allows more octets than the greatest size.
 
 pub row_bounded : (rec set : ℕ) (r : Row) → row_of rec set ≡ Some r → r.max ≤ greatest_size
 row_bounded rec set r found = leb-true r.max greatest_size (row_passes (λ x. nat_le x.max greatest_size) rec set r table_bounded refl found)

@@ -7,7 +7,7 @@ use Rattle.iim_dataset.specs.Format.Octets.{plus, minus, is_digit}
 use Rattle.iim_tables.specs.Format.Dates.{pair_at, two_digits, has_time_form, time_text}
 use Rattle.iim_tables.proofs.DateLemmas.{pair, front, two_digits-pair}
 
--- what a time is made of, whole
+-- The parts of the form of a time.
 record TimeForm (xs : List ℕ) : Type 0 where
   eleven : length xs ≡ 11
   clock : list_all is_digit (take 6 xs) ≡ true

@@ -1,3 +1,3 @@
--- What octets are, and what is said of them.
+-- Kinds, rows, dates and times: the definitions.
 pub mod Format
 pub mod Text

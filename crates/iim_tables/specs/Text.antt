@@ -1,8 +1,8 @@
--- The classes of text as one.
+-- The three classes of text as one test.
 use Rattle.std.specs.Prelude.{ℕ, Bool, true, false, not, ◌&&◌, ◌||◌, ◌==◌, nat_le}
 use Rattle.iim_dataset.specs.Format.Octets.{lf, cr}
 
--- from a least octet on, but for DEL; with LF and CR, or without
+-- from `least` on except DEL; with LF and CR, or without them
 abbrev pub is_text : ℕ → Bool → ℕ → Bool
 is_text least false b = nat_le least b && not (b == 0x7f)
 is_text least true b = ((nat_le least b && not (b == 0x7f)) || b == lf) || b == cr

@@ -1,4 +1,4 @@
-//! Dates: full ones, and those whose month or day may be missing.
+//! Dates: complete ones, and those whose month or day may be missing.
 
 ghost use Rattle.std.specs.Prelude.{◌≡◌, ◌↔◌, ◌+◌, ◌<◌, ◌&&◌, ◌||◌, ◌==◌, nat_le, pos, length, IsTrue, IsSome, IfSome};
 ghost use Rattle.iim_dataset.specs.Format.Octets.{within};
@@ -9,7 +9,7 @@ use crate::kinds::are_digits;
 use crate::octets::DIGIT_ZERO;
 use jiff::civil::Date;
 
-/// The number that the two digits at a place write.
+/// Returns the number that the two digits at position `at` write.
 pub(crate) fn pair_at(octets: &[u8], at: usize) -> u16
     requires { at + 1 < length octets.now }
     ensures { result ≡ pair_at octets.now at }
@@ -19,7 +19,7 @@ pub(crate) fn pair_at(octets: &[u8], at: usize) -> u16
     10 * u16::from(tens) + u16::from(ones)
 }
 
-/// The year of a date, from century and year.
+/// Returns the year of a date, from its century and year.
 fn year_in(octets: &[u8]) -> u32
     requires { length octets.now ≡ 8 }
     ensures { result ≡ year_in octets.now }
@@ -39,7 +39,7 @@ fn is_month(month: u16) -> bool
     (1..=12).contains(&month)
 }
 
-/// The day, where the calendar has it.
+/// Returns the day if the calendar has it.
 fn day_of(year: u32, month: u16, day: u16) -> Option<Date>
     ensures exactly { IsSome result ↔ IsTrue (is_day year month day) }
     ensures day { IfSome result (IsYmd (pos year) (pos month) (pos day)) }
@@ -50,7 +50,7 @@ fn day_of(year: u32, month: u16, day: u16) -> Option<Date>
     Date::new(year as i16, month as i8, day as i8).ok()
 }
 
-/// Whether the month is missing, and the day is then 00 to 31, or the day is missing.
+/// Checks whether the month is missing and the day is 00 to 31, or the day is missing.
 fn lacks_part(month: u16, day: u16) -> bool
     ensures { result ≡ (((month == 0) && nat_le day 31) || (within 1 12 month && (day == 0))) }
 {
@@ -69,11 +69,11 @@ fn are_eight_digits(octets: &[u8]) -> bool
     octets.len() == 8 && are_digits(octets)
 }
 
-/// The day that eight digits name, CCYYMMDD, and `None` where they name none: where they are no eight
-/// digits, or the proleptic Gregorian calendar has no such day in the years 1 to 9999.
+/// Parses the day of a date of eight digits, CCYYMMDD. Returns `None` if the octets are not eight
+/// digits, or if the proleptic Gregorian calendar has no such day in the years 1 to 9999.
 ///
-/// So are 1:70 Date Sent and 2:55 Date Created written, the latter with parts that may be missing: a
-/// date that lacks a part has no day.
+/// 1:70 Date Sent is written so, and 2:55 Date Created with parts that may be missing. A date that
+/// lacks a part has no day.
 pub fn date_of(octets: &[u8]) -> Option<Date>
     ensures exactly { IsSome result ↔ IsTrue (is_date octets.now) }
     ensures day { IfSome result
@@ -85,7 +85,7 @@ pub fn date_of(octets: &[u8]) -> Option<Date>
     day_of(year_in(octets), pair_at(octets, 4), pair_at(octets, 6))
 }
 
-/// Whether the octets are a full date.
+/// Checks whether the octets are a complete date.
 #[inline(never)]
 pub(crate) fn is_date(octets: &[u8]) -> bool
     ensures { result ≡ is_date octets.now }
@@ -93,7 +93,7 @@ pub(crate) fn is_date(octets: &[u8]) -> bool
     date_of(octets).is_some()
 }
 
-/// Whether the octets are a date whose month or day may be missing.
+/// Checks whether the octets are a date whose month or day may be missing.
 #[inline(never)]
 pub(crate) fn is_part_date(octets: &[u8]) -> bool
     ensures { result ≡ is_part_date octets.now }

@@ -1,4 +1,4 @@
-//! Times of day with an offset, and the instants that dates and times name.
+//! Times of day with an offset, and the instants of dates and times.
 
 ghost use Rattle.std.specs.Prelude.{◌≡◌, ◌↔◌, ◌*◌, ◌<◌, length, IsTrue, IsSome, IfSome};
 ghost use Rattle.std.specs.Option.{option_map};
@@ -28,7 +28,7 @@ fn is_clock(hour: u16, minute: u16, second: u16) -> bool
     hour < 24 && minute < 60 && second < 60
 }
 
-/// Whether the octets are a time of day with its offset.
+/// Checks whether the octets are a time of day with its offset.
 #[inline(never)]
 pub(crate) fn is_time(octets: &[u8]) -> bool
     ensures exactly { result ≡ is_time octets.now }
@@ -39,7 +39,7 @@ pub(crate) fn is_time(octets: &[u8]) -> bool
         && is_clock(pair_at(octets, 7), pair_at(octets, 9), 0)
 }
 
-/// The time that the clock shows.
+/// Returns the time of day.
 fn clock_of(hour: u16, minute: u16, second: u16) -> Time
     requires { IsTrue (is_clock hour minute second) }
     ensures { time_nanos result ≡ clock_seconds hour minute second * nanoseconds_in_second }
@@ -47,7 +47,7 @@ fn clock_of(hour: u16, minute: u16, second: u16) -> Time
     time(hour as i8, minute as i8, second as i8, 0)
 }
 
-/// How many seconds the clock is ahead of universal time.
+/// Returns how many seconds the clock is ahead of universal time.
 fn offset_seconds(is_behind: bool, hour: u16, minute: u16) -> i32
     requires hour_in { hour < 24 }
     requires minute_in { minute < 60 }
@@ -61,7 +61,7 @@ fn offset_seconds(is_behind: bool, hour: u16, minute: u16) -> i32
     ahead
 }
 
-/// How far the clock is ahead of universal time.
+/// Returns how far the clock is ahead of universal time.
 fn offset_of(is_behind: bool, hour: u16, minute: u16) -> Offset
     requires hour_in { hour < 24 }
     requires minute_in { minute < 60 }
@@ -70,7 +70,7 @@ fn offset_of(is_behind: bool, hour: u16, minute: u16) -> Offset
     Offset::from_seconds(offset_seconds(is_behind, hour, minute)).unwrap()
 }
 
-/// The instant, by the words of `jiff`.
+/// Returns the instant of a date and a time, computed by `jiff`.
 fn instant(date: &[u8], time: &[u8]) -> Option<Timestamp>
     ensures exactly { IsSome result ↔ HasInstant date.now time.now }
     ensures instant { IfSome result (λ t. t.nanosecond ≡ instant_nanos date.now time.now) }
@@ -84,15 +84,16 @@ fn instant(date: &[u8], time: &[u8]) -> Option<Timestamp>
     offset.to_timestamp(day.to_datetime(clock)).ok()
 }
 
-/// The instant of a date and a time: local time less its offset. `None` where the date is no full date,
-/// the time is none, or `jiff` has no such instant: its last is 9999-12-30T22:00:00.999999999Z.
+/// Returns the instant of a date and a time: local time less its offset. Returns `None` if the date
+/// is not a complete date, the time is invalid, or `jiff` has no such instant: its last is
+/// 9999-12-30T22:00:00.999999999Z.
 ///
-/// So do 1:70 Date Sent and 1:80 Time Sent name the instant at which an envelope was sent.
+/// 1:70 Date Sent and 1:80 Time Sent give the instant at which an envelope was sent.
 pub fn instant_of(date: &[u8], time: &[u8]) -> Option<Timestamp>
     ensures exactly { IsSome result ↔ HasInstant date.now time.now }
     ensures instant { IfSome result (λ t. t.nanosecond ≡ instant_nanos date.now time.now) }
 
-    // The same by one function of the two texts.
+    // The same result as one function of the two texts.
     ensures value { option_map (λ t. t.nanosecond) result ≡ instant_in date.now time.now }
 {
     instant(date, time)

@@ -16,7 +16,7 @@ use iim_dataset::GREATEST_SIZE;
 use iim_dataset::octets::{CR, LF, SP};
 use std::simd::prelude::*;
 
-/// Whether each lane is one of text, as `is_text` says of an octet.
+/// Checks whether each lane is an octet of text, as `is_text` does for one octet.
 macro_rules! lanes_are_text {
     ($vector:ident; $least:expr, $lines:expr, $octets:expr) => {{
         let lanes = $vector::from_slice($octets);
@@ -29,7 +29,7 @@ macro_rules! lanes_are_text {
     }};
 }
 
-/// Whether the first 16 octets are text.
+/// Checks whether the first 16 octets are text.
 #[inline(always)]
 fn text_in_16(least: u8, lines: bool, octets: &[u8]) -> bool
     requires { 16 ≤ length octets.now }
@@ -38,7 +38,7 @@ fn text_in_16(least: u8, lines: bool, octets: &[u8]) -> bool
     lanes_are_text!(u8x16; least, lines, octets)
 }
 
-/// Whether the first 8 octets are text.
+/// Checks whether the first 8 octets are text.
 #[inline(always)]
 fn text_in_8(least: u8, lines: bool, octets: &[u8]) -> bool
     requires { 8 ≤ length octets.now }
@@ -47,7 +47,7 @@ fn text_in_8(least: u8, lines: bool, octets: &[u8]) -> bool
     lanes_are_text!(u8x8; least, lines, octets)
 }
 
-/// Whether the first 4 octets are text.
+/// Checks whether the first 4 octets are text.
 #[inline(always)]
 fn text_in_4(least: u8, lines: bool, octets: &[u8]) -> bool
     requires { 4 ≤ length octets.now }
@@ -56,7 +56,8 @@ fn text_in_4(least: u8, lines: bool, octets: &[u8]) -> bool
     lanes_are_text!(u8x4; least, lines, octets)
 }
 
-/// Whether all octets are text: by parts of 16, 8 or 4, of which the last one reaches back into that before.
+/// Checks whether all octets are text, in parts of 16, 8 or 4. The last part overlaps the one
+/// before.
 #[inline(always)]
 fn are_text(least: u8, lines: bool, octets: &[u8]) -> bool
     ensures { result ≡ list_all (is_text least lines) octets.now }
@@ -106,7 +107,7 @@ fn are_letters(octets: &[u8]) -> bool
     octets.iter().all(|octet| octet.is_ascii_alphabetic())
 }
 
-/// Whether the first 8 octets are digits.
+/// Checks whether the first 8 octets are digits.
 #[inline(always)]
 fn digits_in_8(octets: &[u8]) -> bool
     requires { 8 ≤ length octets.now }
@@ -137,7 +138,7 @@ fn is_size_from(least: u64, octets: &[u8]) -> bool
     number_of(octets).is_some_and(|number| (least..=GREATEST_SIZE).contains(&number))
 }
 
-/// Whether the octets are of the kind, whichever it is.
+/// Checks whether the octets are of the kind, whichever it is.
 #[inline(never)]
 fn has_any_kind(kind: Kind, octets: &[u8]) -> bool
     ensures { result ≡ has_kind kind octets.now }
@@ -158,7 +159,7 @@ fn has_any_kind(kind: Kind, octets: &[u8]) -> bool
     }
 }
 
-/// Whether the octets are of the kind: the most common one needs no table of jumps.
+/// Checks whether the octets are of the kind. The most common kind needs no jump table.
 #[inline(always)]
 pub fn has_kind(kind: Kind, octets: &[u8]) -> bool
     ensures { result ≡ has_kind kind octets.now }
@@ -169,8 +170,9 @@ pub fn has_kind(kind: Kind, octets: &[u8]) -> bool
     }
 }
 
-/// Whether octets are as the row says: as many as its bounds allow, and of its kind. That 1:20 File
-/// Format has the value 2, and how often a dataset occurs, are no matter of its row.
+/// Checks whether the octets meet the row: their number is within its bounds, and they are of its
+/// kind. The value of 1:20 File Format, which must be 2, and how often a dataset occurs are not
+/// part of a row.
 pub fn admits(row: &Row, octets: &[u8]) -> bool
     ensures { result ≡ is_admitted row.now octets.now }
 {

@@ -1,4 +1,4 @@
-//! What holds of all dates, times and rows.
+//! Lemmas on all dates, times and rows.
 
 ghost use Rattle.std.specs.Prelude.{◌≡◌, ◌==◌, ◌<◌, ℕ, Bool, List, slice_index, ◌≤◌, Some, IsTrue};
 ghost use Rattle.iim_dataset.specs.Format.Octets.{minus, within, greatest_size};
@@ -7,7 +7,8 @@ ghost use Rattle.iim_tables.specs.Format.Rows.{row_of};
 ghost use Rattle.iim_tables.specs.Format.Records.{HasValue};
 ghost use Rattle.iim_tables.specs.declared.shape.Row.{Row};
 
-/// Eight digits are the text of one year, month and day, and what is read of that text are these.
+/// Proves that eight digits are the text of exactly one year, month and day, and that parsing that
+/// text returns them.
 #[tactic(auto, using(crate::proofs::DateLemmas::eight_digits_written, crate::proofs::DateLemmas::dates_read_back))]
 pub fn dates_are_written_in_one_way()
     ensures only { (xs : List ℕ) → IsTrue (are_eight_digits xs)
@@ -15,8 +16,8 @@ pub fn dates_are_written_in_one_way()
     ensures each { (y m d : ℕ) → y < 10_000 → m < 100 → d < 100 → ReadsDate (date_text y m d) y m d }
 {}
 
-/// Six digits, a sign and four digits are the text of one time and offset, and what is read of that
-/// text are these.
+/// Proves that six digits, a sign and four digits are the text of exactly one time and offset, and
+/// that parsing that text returns them.
 #[tactic(auto, using(crate::proofs::TimeLemmas::times_written))]
 pub fn times_are_written_in_one_way()
     ensures only { (xs : List ℕ) → IsTrue (has_time_form xs)
@@ -28,15 +29,16 @@ pub fn times_are_written_in_one_way()
         hour minute second is_behind hours minutes }
 {}
 
-/// Each number of octets that a row allows is that of some octets that meet it: no row bounds what its
-/// kind can't have.
+/// Proves that for each length that a row allows some octets of that length meet the row: no row
+/// has bounds that its kind cannot have.
 #[tactic(auto, using(crate::proofs::RowLemmas::row_values))]
 pub fn each_row_has_values()
     ensures { (rec set n : ℕ) (r : Row) → row_of rec set ≡ Some r → IsTrue (within r.min r.max n)
         → HasValue rec set n }
 {}
 
-/// No row allows more octets than the greatest size: a count can tell them all.
+/// Proves that no row allows more octets than the greatest size, so that a count can encode each
+/// length.
 #[tactic(auto, using(crate::proofs::RowLemmas::row_bounded))]
 pub fn rows_allow_no_more_than_the_greatest_size()
     ensures { (rec set : ℕ) (r : Row) → row_of rec set ≡ Some r → r.max ≤ greatest_size }

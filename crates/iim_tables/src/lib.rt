@@ -1,11 +1,11 @@
 //! The tables of the Information Interchange Model, version 4, with the choices of this project's
-//! profile: which octets each dataset of the records 1, 2, 7, 8 and 9 may have, the numbers that octets
-//! spell, and the days and instants that dates and times name.
+//! profile: which octets each dataset of records 1, 2, 7, 8 and 9 may have, the numbers that octets
+//! encode, and the days and instants of dates and times.
 //!
-//! The crates above ask two questions: [`row`], what the table says of a dataset; and [`admits`], whether octets
-//! are as a row says. (The crate of records asks them in the forms of [`internals`].) Nothing here
-//! takes memory. It stands on `iim_dataset` for octets and datasets, on `jiff` for days and instants, and on
-//! `byteorder` for numbers.
+//! The crates above call two functions: [`row`] returns the row of a dataset, and [`admits`] checks
+//! octets against a row. (The crate of records calls them in the forms of [`internals`].) Nothing
+//! here allocates. The crate depends on `iim_dataset` for octets and datasets, on `jiff` for days
+//! and instants, and on `byteorder` for numbers.
 #![tactic(auto)]
 
 mod dates;

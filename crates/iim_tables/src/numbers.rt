@@ -1,4 +1,4 @@
-//! The numbers that octets spell.
+//! The numbers that octets encode.
 
 ghost use Rattle.std.specs.Prelude.{◌≡◌, ◌↔◌, length, IsSome, IfSome};
 ghost use Rattle.std.specs.Int.{IsInRange};
@@ -8,19 +8,19 @@ ghost use Rattle.iim_dataset.specs.Format.Octets.{number};
 use byteorder::{BigEndian, ByteOrder};
 use iim_dataset::COUNT_OCTETS;
 
-/// The most octets of a size.
+/// The greatest number of octets of a size.
 pub const SIZE_OCTETS: usize = COUNT_OCTETS as usize;
 
-/// The unsigned binary number that 1 to `SIZE_OCTETS` octets spell, high octet first, and `None` for no
-/// octets and for more.
+/// Decodes an unsigned binary number of 1 to `SIZE_OCTETS` octets, high octet first. Returns `None`
+/// for no octets and for more.
 ///
-/// The sizes of the records 7 and 9 are such numbers (IIM version 4, pre-ObjectData and post-ObjectData
+/// The sizes of records 7 and 9 are such numbers (IIM version 4, pre-ObjectData and post-ObjectData
 /// descriptor records).
 pub fn number_of(octets: &[u8]) -> Option<u64>
     ensures exactly { IsSome result ↔ IsInRange 1 size_octets (length octets.now) }
     ensures value { IfSome result (λ n. n ≡ number octets.now) }
 {
-    // Most numbers have one, two or four octets. These are read where they lie, and others from a copy.
+    // Most numbers have one, two or four octets. These are read in place, and others from a copy.
     match octets.len() {
         1 => Some(u64::from(octets[0])),
         2 => Some(u64::from(BigEndian::read_u16(octets))),

@@ -1,4 +1,4 @@
-//! Octets and the classes that they are of.
+//! Octets, and the class of text.
 
 ghost use Rattle.std.specs.Prelude.{◌≡◌};
 ghost use Rattle.iim_tables.specs.Text.{is_text};
@@ -13,7 +13,7 @@ pub(crate) const MINUS: u8 = b'-';
 
 pub(crate) const DIGIT_ZERO: u8 = b'0';
 
-/// Whether the octet is one of text: from `least` on and not DEL, or one of a line end where `lines` says so.
+/// Checks whether the octet is text: at least `least` and not DEL, or CR or LF if `lines` is true.
 pub(crate) fn is_text(least: u8, lines: bool, octet: u8) -> bool
     ensures { result ≡ is_text least lines octet }
 {

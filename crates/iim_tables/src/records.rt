@@ -1,4 +1,5 @@
-//! The numbers of the records, and of the datasets that other layers speak of, by their names in the standard.
+//! The numbers of the records, and of the datasets that other layers name, by their names in the
+//! standard.
 
 /// The Envelope Record.
 pub const ENVELOPE: u8 = 1;
@@ -9,7 +10,7 @@ pub const FILE_FORMAT: u8 = 20;
 /// The Application Record.
 pub const APPLICATION: u8 = 2;
 
-/// The pre-ObjectData Descriptor Record: sizes that are told before the object.
+/// The pre-ObjectData Descriptor Record: sizes that are stated before the object.
 pub const PRE_OBJECT: u8 = 7;
 
 /// 7:10 Size Mode.

@@ -1,4 +1,4 @@
-//! The table.
+//! The table of the datasets.
 
 ghost use Rattle.std.specs.Prelude.{◌≡◌, Some, None, MatchOption};
 ghost use Rattle.iim_tables.specs.Format.Rows.{row_of};
@@ -7,7 +7,7 @@ use crate::numbers::SIZE_OCTETS;
 use crate::shape::{Duty, Kind, Row};
 use iim_dataset::GREATEST_SIZE;
 
-/// What stands for the other numbers of the records 1 and 2: they are kept unread.
+/// The row of all other numbers of records 1 and 2: such datasets are stored unread.
 const KEPT: Row = Row {
     min: 0,
     max: 8192,
@@ -16,7 +16,8 @@ const KEPT: Row = Row {
     repeats: true,
 };
 
-/// A match on a dataset's record and number, with each line as an arm: dataset, octets, kind, duty, whether it repeats.
+/// Matches a dataset's record and number, with each line as an arm: dataset, octets, kind, duty,
+/// whether it repeats.
 macro_rules! row_by {
     ($dataset:expr; $($rec:literal:$set:literal $min:literal..=$max:tt $kind:ident $duty:ident $repeats:literal)*) => {
         match $dataset {
@@ -98,7 +99,7 @@ macro_rules! row_in_table {
     };
 }
 
-/// The row of a dataset, where it lies.
+/// Returns a reference to the row of a dataset.
 #[tactic(auto, unfolding(crate::specs::Format::Rows::row_of, crate::specs::Format::Rows::table))]
 #[inline(always)]
 pub fn line(rec: u8, set: u8) -> Option<&'static Row>
@@ -107,13 +108,14 @@ pub fn line(rec: u8, set: u8) -> Option<&'static Row>
     row_in_table!((rec, set))
 }
 
-/// The row of the dataset with that record and number. `None` where it has none: in the records 7, 8
-/// and 9 for every number that the table lacks, and in all other records but 1 and 2.
+/// Returns the row of the dataset with that record and number, or `None` if it has no row. Numbers
+/// that the table lacks have none in records 7, 8 and 9, and neither has any number of a record
+/// that the standard does not name here.
 ///
-/// The table has the datasets of the Envelope Record (1), the Application Record (2), the pre-ObjectData
-/// Descriptor Record (7), the ObjectData Record (8) and the post-ObjectData Descriptor Record (9) of IIM
-/// version 4. Every other number of the records 1 and 2 is kept unread: up to 8,192 octets, as often as
-/// it comes.
+/// The table has the datasets of the Envelope Record (1), the Application Record (2), the
+/// pre-ObjectData Descriptor Record (7), the ObjectData Record (8) and the post-ObjectData
+/// Descriptor Record (9) of IIM version 4. Every other number of records 1 and 2 is stored unread:
+/// up to 8,192 octets, as often as it occurs.
 #[inline(always)]
 pub fn row(rec: u8, set: u8) -> Option<Row>
     ensures { result ≡ row_of rec set }

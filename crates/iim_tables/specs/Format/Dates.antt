@@ -1,31 +1,32 @@
--- Dates, times of day, and the instants that they name.
+-- Dates, times of day, and the instants that they give.
 use Rattle.std.specs.Prelude.{◌≡◌, IsTrue, ℕ, ◌+◌, ◌*◌, ◌-◌, ◌/◌, ◌%◌, Bool, ◌&&◌, ◌||◌, ◌==◌, nat_le, List, [], ◌∷◌, ◌++◌, length, slice_index, pos, nat_lt, if◌then◌else◌, take, drop, Option, Some, None, ℤ, neg_ℤ, ◌+ℤ◌, ◌-ℤ◌, ◌*ℤ◌, int_le}
 use Rattle.std.specs.List.{list_all}
 use Rattle.jiff.specs.Words.{days_in_month, IsTimestampNanos, nanos_of_seconds}
 use Rattle.iim_dataset.specs.Format.Octets.{digit_zero, within, is_digit, plus, minus}
 use Rattle.jiff_core.specs.Calendar.{days_from_civil}
 
--- the number that the two digits at a place write
+-- the number that the two digits at position i write
 abbrev pub pair_at : List ℕ → ℕ → ℕ
 pair_at xs i = 10 * (slice_index xs i - digit_zero) + (slice_index xs (i + 1) - digit_zero)
 
--- CCYY
+-- the year, CCYY
 abbrev pub year_in : List ℕ → ℕ
 year_in xs = 100 * pair_at xs 0 + pair_at xs 2
 
--- MM
+-- the month, MM
 abbrev pub month_in : List ℕ → ℕ
 month_in xs = pair_at xs 4
 
--- DD
+-- the day, DD
 abbrev pub day_in : List ℕ → ℕ
 day_in xs = pair_at xs 6
 
--- the calendar has the day: of the years 0001 to 9999, and the months 01 to 12
+-- the calendar has the day: in the years 0001 to 9999, and the months 01 to 12
 abbrev pub is_day : ℕ → ℕ → ℕ → Bool
 is_day y m d = within 1 9999 y && within 1 12 m && within 1 (days_in_month (pos y) m) d
 
--- the calendar has the day; or the month is 00, and then the day 00 to 31; or the day is 00
+-- the calendar has the day; or the month is 00 and the day 00 to 31; or the month is 01 to 12 and
+-- the day 00
 abbrev pub is_part_day : ℕ → ℕ → ℕ → Bool
 is_part_day y m d = is_day y m d || (within 1 9999 y && (((m == 0) && nat_le d 31) || (within 1 12 m && (d == 0))))
 
@@ -33,11 +34,11 @@ is_part_day y m d = is_day y m d || (within 1 9999 y && (((m == 0) && nat_le d 3
 abbrev pub are_eight_digits : List ℕ → Bool
 are_eight_digits xs = (length xs == 8) && list_all is_digit xs
 
--- eight digits that name a day
+-- eight digits that are a day of the calendar
 abbrev pub is_date : List ℕ → Bool
 is_date xs = are_eight_digits xs && is_day (year_in xs) (month_in xs) (day_in xs)
 
--- eight digits that name a day, or lack the month, the day or both
+-- eight digits that are a day of the calendar, or lack the month, the day or both
 abbrev pub is_part_date : List ℕ → Bool
 is_part_date xs = are_eight_digits xs && is_part_day (year_in xs) (month_in xs) (day_in xs)
 
@@ -53,9 +54,9 @@ date_text y m d = two_digits (y / 100) ++ two_digits (y % 100) ++ two_digits m +
 abbrev pub ReadsDate : List ℕ → ℕ → ℕ → ℕ → Type 0
 ReadsDate xs y m d = IsTrue (are_eight_digits xs) × (year_in xs ≡ y) × (month_in xs ≡ m) × (day_in xs ≡ d)
 
--- ---- Times of day in eleven octets, HHMMSS, + or -, HHMM, and the instant that a date and a time name.
+-- ---- Times of day in eleven octets, HHMMSS, + or -, HHMM, and the instant of a date and a time.
 
--- six digits, a sign (+ where the clock is ahead of universal time, - where it is behind), four digits
+-- six digits, a sign (+ if the clock is ahead of universal time, - if it is behind), four digits
 abbrev pub has_time_form : List ℕ → Bool
 has_time_form xs = (length xs == 11) && list_all is_digit (take 6 xs)
     && (slice_index xs 6 == plus || slice_index xs 6 == minus) && list_all is_digit (drop 7 xs)
@@ -64,7 +65,7 @@ has_time_form xs = (length xs == 11) && list_all is_digit (take 6 xs)
 abbrev pub is_clock : ℕ → ℕ → ℕ → Bool
 is_clock hour minute second = nat_lt hour 24 && nat_lt minute 60 && nat_lt second 60
 
--- a time of day, and how far the clock is from universal time, in hours and minutes
+-- a time of day, and the offset of the clock from universal time, in hours and minutes
 abbrev pub is_time : List ℕ → Bool
 is_time xs = has_time_form xs && is_clock (pair_at xs 0) (pair_at xs 2) (pair_at xs 4) && is_clock (pair_at xs 7) (pair_at xs 9) 0
 
@@ -80,7 +81,7 @@ ReadsTime xs hour minute second is_behind hours minutes =
     IsTrue (has_time_form xs) × (pair_at xs 0 ≡ hour) × (pair_at xs 2 ≡ minute) × (pair_at xs 4 ≡ second)
     × ((slice_index xs 6 == minus) ≡ is_behind) × (pair_at xs 7 ≡ hours) × (pair_at xs 9 ≡ minutes)
 
--- how many nanoseconds a second has
+-- the number of nanoseconds in a second
 abbrev pub nanoseconds_in_second : ℕ
 nanoseconds_in_second = 1_000_000_000
 
@@ -88,7 +89,7 @@ nanoseconds_in_second = 1_000_000_000
 abbrev pub clock_seconds : ℕ → ℕ → ℕ → ℕ
 clock_seconds hour minute second = hour * 3600 + minute * 60 + second
 
--- how many seconds the clock is ahead of universal time
+-- the number of seconds that the clock is ahead of universal time
 abbrev pub offset_seconds : Bool → ℕ → ℕ → ℤ
 offset_seconds is_behind hour minute =
     if is_behind then neg_ℤ (pos (clock_seconds hour minute 0)) else pos (clock_seconds hour minute 0)
@@ -99,15 +100,15 @@ instant_nanos date time = nanos_of_seconds ((days_from_civil (pos (year_in date)
     +ℤ pos (clock_seconds (pair_at time 0) (pair_at time 2) (pair_at time 4))
     -ℤ offset_seconds (slice_index time 6 == minus) (pair_at time 7) (pair_at time 9))
 
--- both texts are admitted, and the instant lies in the library's range
+-- both texts are valid, and the instant is in the range of `jiff`
 abbrev pub HasInstant : List ℕ → List ℕ → Type 0
 HasInstant date time = IsTrue (is_date date) × IsTrue (is_time time) × IsTimestampNanos (instant_nanos date time)
 
--- the library's range of instants, as a test
+-- the range of instants of `jiff`, as a test
 abbrev pub is_instant : ℤ → Bool
 is_instant n = int_le (neg_ℤ (pos 377_705_023_201_000_000_000)) n && int_le n (pos 253_402_207_200_999_999_999)
 
--- the instant that the texts name, if they name one, in nanoseconds
+-- the instant of the texts in nanoseconds, if they have one
 abbrev pub instant_in : List ℕ → List ℕ → Option ℤ
 instant_in date time =
     if is_date date && is_time time && is_instant (instant_nanos date time) then Some (instant_nanos date time) else None

@@ -7,7 +7,7 @@ use Rattle.iim_tables.specs.Format.Dates.{is_date, is_part_date, is_time}
 use Rattle.iim_tables.specs.declared.shape.Kind.{Kind}
 use Rattle.iim_tables.specs.declared.shape.Kind.TheVariants.{Graphic, Spaced, SpacedLines, Letters, Digits, Date, PartDate, Time, Binary, Octets, Mode, Size, SizeFromOne}
 
--- 21 to 7E and 80 to FF
+-- a graphic octet: 21h to 7Eh, or 80h to FFh
 abbrev pub is_graphic : ℕ → Bool
 is_graphic b = within 0x21 0x7e b || within 0x80 0xff b
 
@@ -19,7 +19,7 @@ is_spaced b = is_graphic b || b == sp
 abbrev pub is_spaced_or_line_end : ℕ → Bool
 is_spaced_or_line_end b = is_spaced b || b == lf || b == cr
 
--- the most octets of a size: as many as an extended count may have (the profile's)
+-- the greatest number of octets of a size: as many as an extended count may have (the profile's)
 abbrev pub size_octets : ℕ
 size_octets = count_octets
 
@@ -27,7 +27,7 @@ size_octets = count_octets
 abbrev pub is_mode : List ℕ → Bool
 is_mode xs = (length xs == 1) && list_all (λ b. nat_le b 1) xs
 
--- as many octets as a size may have, that spell a number from the least to the greatest size
+-- as many octets as a size may have, which encode a number from `least` to the greatest size
 abbrev pub is_size_from : ℕ → List ℕ → Bool
 is_size_from least xs = within 1 size_octets (length xs) && within least greatest_size (number xs)
 

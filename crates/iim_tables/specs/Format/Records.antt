@@ -1,12 +1,14 @@
--- Good records: each dataset as its row says, those that must occur, and those that occur once (IIM version 4, the chapters on
--- the envelope, application, pre-ObjectData descriptor, ObjectData and post-ObjectData descriptor records).
+-- Good records: each dataset meets its row, those that must occur do, and those that may occur once
+-- do not repeat (IIM version 4, the chapters on the envelope, application, pre-ObjectData
+-- descriptor, ObjectData and post-ObjectData descriptor records).
 use Rattle.std.specs.Prelude.{◌≡◌, ℕ, Bool, true, false, not, ◌&&◌, ◌||◌, ◌==◌, ◌≤◌, List, map, count_by, length}
 use Rattle.std.specs.{List.AllByRecursion, List.list_any, List.filter, Option.option_map_or}
 use Rattle.iim_dataset.specs.Format.{Octets.IsOctet, Octets.Octets, Octets.number, Datasets.Dataset}
 use Rattle.iim_tables.specs.Format.Rows.{Meets, row_of, table}
 use Rattle.iim_tables.specs.declared.shape.Duty.{Duty, TheVariants.Mandatory}
 
--- 7:90 has to occur by the mode: that is a matter of sizes
+-- the dataset must occur in each such record (whether 7:90 must occur depends on the mode, and is a
+-- matter of sizes)
 abbrev pub has_to_occur : Duty → Bool
 has_to_occur Mandatory = true
 has_to_occur other = false
@@ -15,35 +17,37 @@ has_to_occur other = false
 abbrev pub mandatory : ℕ → List ℕ
 mandatory rec = map (λ e. e.set) (filter (λ e. e.rec == rec && has_to_occur e.row.duty) table)
 
--- no row says that the dataset occurs once at most
+-- the dataset may occur more than once: its row says so, or it has no row
 abbrev pub repeats : ℕ → ℕ → Bool
 repeats rec n = option_map_or (λ r. r.repeats) (row_of rec n) true
 
--- how many datasets have the number
+-- how many datasets have the number n
 abbrev pub occurrences : ℕ → List Dataset → ℕ
 occurrences n ds = count_by (λ d. d.set == n) ds
 
--- a dataset has the number
+-- a dataset has the number n
 abbrev pub occurs : ℕ → List Dataset → Bool
 occurs n ds = list_any (λ d. d.set == n) ds
 
--- 1:20 File Format has the value 2
+-- the dataset is not 1:20 File Format, or its value is 2
 abbrev pub has_file_format : Dataset → Bool
 has_file_format d = not (d.rec == 1 && d.set == 20) || number d.octets == 2
 
--- The number is an octet, the data are octets as the row of the dataset says, and a file format is 2.
+-- The number is an octet, the data are octets that meet the row of the dataset, and a file format
+-- is 2.
 pub record IsGoodDataset (d : Dataset) : Type 0 where
   pub numbered : IsOctet d.set
   pub octets : Octets d.octets
   pub meets : Meets d.rec d.set d.octets
   pub file_format : has_file_format d ≡ true
 
--- Each dataset is good and of this record, the mandatory ones occur, and those that don't repeat occur once at most.
+-- Each dataset is good and of this record, the mandatory ones occur, and those that do not repeat
+-- occur at most once.
 pub record IsGoodRecord (rec : ℕ) (ds : List Dataset) : Type 0 where
   pub each : AllByRecursion (λ d. (d.rec ≡ rec) × IsGoodDataset d) ds
   pub mandatory : AllByRecursion (λ n. occurs n ds ≡ true) (mandatory rec)
   pub once : (n : ℕ) → repeats rec n ≡ false → occurrences n ds ≤ 1
 
--- Some octets, n of them, meet the row of the dataset.
+-- Some n octets meet the row of the dataset.
 abbrev pub HasValue : ℕ → ℕ → ℕ → Type 0
 HasValue rec set n = (xs : List ℕ) × Octets xs × (length xs ≡ n) × Meets rec set xs

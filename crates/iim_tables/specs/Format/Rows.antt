@@ -1,4 +1,5 @@
--- The rows: how many octets each dataset may have, of which kind, whether it must occur and whether it may repeat.
+-- The rows: how many octets each dataset may have, of which kind, whether it must occur and whether
+-- it may repeat.
 use Rattle.std.specs.Prelude.{ℕ, IsTrue, Bool, true, false, ◌&&◌, ◌||◌, ◌==◌, if◌then◌else◌, List, [], ◌∷◌, length, Option, Some, None, IsSomeAnd}
 use Rattle.std.specs.{List.find, Option.option_map, Option.option_or}
 use Rattle.iim_dataset.specs.Format.Octets.{within, greatest_size}
@@ -13,7 +14,8 @@ pub record Entry : Type 0 where
   pub set : ℕ
   pub row : Row
 
--- a line of the table: record and number, least and greatest number of octets, kind, duty, whether it repeats
+-- a line of the table: record and number, least and greatest number of octets, kind, duty, whether
+-- it repeats
 abbrev pub entry : ℕ → ℕ → ℕ → ℕ → Kind → Duty → Bool → Entry
 entry rec set least greatest kind duty repeats =
     record { rec = rec; set = set; row = record { min = least; max = greatest; kind = kind; duty = duty; repeats = repeats } }
@@ -72,11 +74,12 @@ table =
 abbrev pub row_in : List Entry → ℕ → ℕ → Option Row
 row_in entries rec set = option_map (λ e. e.row) (find (λ e. e.rec == rec && e.set == set) entries)
 
--- a dataset that has no line and is kept unread: up to 8192 octets of any kind, as often as it comes
+-- the row of a dataset that has no line and is stored unread: up to 8192 octets of any kind, as
+-- often as it occurs
 abbrev pub kept_row : Row
 kept_row = record { min = 0; max = 8192; kind = Octets; duty = Optional; repeats = true }
 
--- every other number of records 1 and 2 is kept, and no other record has another number
+-- every other number of records 1 and 2 is stored unread, and no other record has another number
 abbrev pub row_of_others : ℕ → Option Row
 row_of_others rec = if rec == 1 || rec == 2 then Some kept_row else None
 
@@ -84,10 +87,10 @@ row_of_others rec = if rec == 1 || rec == 2 then Some kept_row else None
 unfoldable pub row_of : ℕ → ℕ → Option Row
 row_of rec set = option_or (row_in table rec set) (row_of_others rec)
 
--- the number of octets lies in the row's bounds, and they are of its kind
+-- the number of octets is within the row's bounds, and they are of its kind
 abbrev pub is_admitted : Row → List ℕ → Bool
 is_admitted r xs = within r.min r.max (length xs) && has_kind r.kind xs
 
--- the dataset has a row, and the octets are as it says
+-- the dataset has a row, and the octets meet it
 abbrev pub Meets : ℕ → ℕ → List ℕ → Type 0
 Meets rec set xs = IsSomeAnd (row_of rec set) (λ r. IsTrue (is_admitted r xs))
