@@ -1,28 +1,28 @@
--- What a builder has.
+-- What a builder stores.
 use Rattle.std.proofs.Common.{◌≡◌, ℕ, Bool, true, not, cond, List, [], ◌∷◌, ◌++◌, length, ap, sym, ◌∙◌, arith, subst, length-append, Option, Some, None}
 use Rattle.iim_fields.proofs.Words.{Building, store_room, vec_len, option_or, Dataset, head_of, record_fault, limits_fault, room_fault, value_fault, first_fault, is_kept, kept, joined, fault_on, HasChecked, IsChecking, HasTaken, HasStored, fields_of, IsBuilding, add_fault, Limits, Store, FieldFault, RecordOrder, RecordPlace, HasRoom}
 use Rattle.iim_fields.proofs.Stand.{fields_held, joined_more, kept_more, kept_not_object, counts, room_fault_is, room_within}
 use Rattle.iim_fields.proofs.Dies.{head_no_fault}
 
--- what a builder has with these limits and this store
+-- the view of a builder with these limits and this store
 abbrev pub building_of : Limits → Store → Building
 building_of limits store = record { limits = limits; fields = fields_of store; room = store_room store }
 
--- the fault of a dataset whose record is kept
+-- The fault of a dataset whose record is stored.
 pub add_fault_of : (limits : Limits) (ds : List Dataset) (d : Dataset) → is_kept d.rec ≡ true
     → add_fault limits ds d ≡ option_or (option_or (record_fault ds (head_of d)) (limits_fault limits ds (head_of d))) (value_fault d)
 add_fault_of limits ds d is = ap (λ (b : Bool). cond (not b) (Some (fault_on (head_of d) RecordOrder))
     (option_or (first_fault limits ds (head_of d)) (value_fault d))) is
 
--- ---- a dataset that is added
+-- ---- A dataset that is added.
 
--- a copy of the check has taken the head: the value is checked next
+-- A copy of the check has accepted the head, and checks the value next.
 pub checking_of : {check copied after : Option RecordPlace} {limits : Limits} {store : Store} (d : Dataset) → IsBuilding check limits store
     → is_kept d.rec ≡ true
     → copied ≡ check → ((ds : List Dataset) → HasChecked copied ds → HasTaken after ds (head_of d)) → IsChecking after (fields_of store) (head_of d)
 checking_of {store = store} d building keeps same took = (took (fields_of store) (rw same building.checked)).checking (kept_not_object d.rec keeps)
 
--- the fault is that of the limits, or else of the value
+-- The fault is that of the limits, or else of the value.
 pub added_as : {check copied after : Option RecordPlace} {limits : Limits} {store : Store} {b : Building} (octets fields : ℕ) (o : Option FieldFault)
     → (d : Dataset) → IsBuilding check limits store → building_of limits store ≡ b → is_kept d.rec ≡ true → copied ≡ check
     → ((ds : List Dataset) → HasChecked copied ds → HasTaken after ds (head_of d)) → octets ≡ length store.octets.items → fields ≡ vec_len store.entries

@@ -1,4 +1,4 @@
--- Where a check of records stands, token by token.
+-- The state of a check of records, token by token.
 use Rattle.std.proofs.Common.{set, ◌≡◌, ◌≢◌, ℕ, zero, suc, ◌<◌, ◌≤◌, Bool, true, false, ◌||◌, nat_eq, List, [], ◌∷◌, ◌++◌, length, replicate, get_or, refl, ap, sym, ◌∙◌, inl, inr, arith, subst, length-set, Option, Some, None}
 use Rattle.iim_tables.specs.declared.shape.Kind.{Kind}
 use Rattle.iim_fields.proofs.Words.{nat_tests, option_or, list_any-append, and_from, eqb_tells, same_Some, Octets, within, Dataset, head_of, of_record, Head, are_octets, row_of, is_admitted, Row, has_kind, records, occurs, SectionsLiveAt, head_fault, record_fault, value_fault, limits_fault, section_after, section_run, has_seen, IsOrderOf, AddsHead, data_of, number_told, AwaitsHead, TakesHead, AwaitsNone, IsIn, HasChecked, IsChecking, HasTaken, IsRecordFault, IsValueFault, IsRecordPlace, Order, Begun, RecordPlace, FieldFault, good_elsewhere, meets_as, DatasetsLeadToOnePlace}
@@ -8,7 +8,7 @@ use Rattle.iim_fields.proofs.Telling.{head_fault_told, values_tell}
 use Rattle.iim_fields.proofs.Dies.{HasNoFault, no_fault_parts, in_order_cases, head_alive, head_no_fault, head_octet, good_value, value_alive, value_no_fault}
 use Rattle.std.proofs.lemmas.List.{ext_get_or}
 
--- ---- which numbers have occurred
+-- ---- The numbers that occurred.
 
 nothing_seen : (k n : ℕ) → get_or (replicate k false) n false ≡ false
 nothing_seen zero n = refl
@@ -22,7 +22,7 @@ tells_start o first none = record {
   seen = λ n. ap (λ (xs : List Bool). get_or xs n false) none ∙ nothing_seen 256 n;
 }
 
--- a number was added to those that occurred in the dataset's record
+-- A number joins those that occurred in the record of the dataset.
 tells_by : (new : Order) (ds : List Dataset) (d : Dataset) (before : List Bool) → d.set < 256 → length before ≡ 256 → new.rec ≡ d.rec
     → new.seen ≡ set before d.set true → ((n : ℕ) → get_or before n false ≡ occurs n (of_record d.rec ds)) → IsOrderOf new (ds ++ d ∷ [])
 tells_by new ds d before fits long rec seen told = record {
@@ -47,20 +47,20 @@ tells_more o new ds d follows fits f takes tells = elim (in_order_cases (section
       (λ n. nothing_seen 256 n ∙ ap (occurs n) (sym (fresh_next ds d follows next)))
 ]
 
--- the fault by what is kept is the fault by the datasets
+-- The fault by the state is the fault by the datasets.
 pub record_fault_is : (o : Order) (ds : List Dataset) (h : Head) → IsOrderOf o ds → head_fault o.rec (has_seen o) h ≡ record_fault ds h
 record_fault_is o ds h tells = λ i. head_fault (tells.present i) (λ n. tells.seen n i) h
 
--- the count of a head without a fault is within its row
+-- The count of a head without a fault is within its row.
 pub count_fits : (present : ℕ) (has : ℕ → Bool) (h : Head) (row : Row) → head_fault present has h ≡ None → row_of h.rec h.set ≡ Some row → h.count ≤ row.max
 count_fits present has h row none known =
     let f = no_fault_parts present has h none in
     let same : f.row ≡ row = cc (sym f.known ∙ known) in
     let fits = rw same at f.fits in grind (arith, nat_tests)
 
--- ---- octets
+-- ---- Octets.
 
--- subfiles have no fault
+-- Subfiles have no fault.
 subfile_value : (ds : List Dataset) (d : Dataset) → SectionsLiveAt ds (head_of d) → d.rec ≡ 8 → Octets d.octets → value_fault d ≡ None
 subfile_value ds d at eight octets =
     let f = no_fault_parts (section_after ds) (λ n. occurs n (section_run ds)) (head_of d) (head_no_fault ds (head_of d) at) in
@@ -69,20 +69,20 @@ subfile_value ds d at eight octets =
     and_from (within f.row.min f.row.max (length d.octets)) (has_kind f.row.kind d.octets) f.fits (ap (λ (k : Kind). has_kind k d.octets) kind) in
     good_value d (good_elsewhere (ap (λ (r : ℕ). nat_eq r 1) eight) (head_octet ds (head_of d) at) octets (meets_as d.rec d.set f.row d.octets f.known any))
 
--- ---- the start
+-- ---- The start.
 
 pub checked_start : EachRowHasValues → (o : Order) → o.rec ≡ 0 → o.seen ≡ replicate 256 false → HasChecked (Some (record { order = o; begun = None })) []
 checked_start values o first none =
     record { order = o; begun = None; at = refl; none = tt; alive = records_to_come values records; tells = tells_start o first none }
 
--- ---- places
+-- ---- States.
 
--- it tells of the datasets
+-- The order is that of the datasets.
 pub told_at : (place : RecordPlace) (ds : List Dataset) → HasChecked (Some place) ds → IsOrderOf place.order ds
 told_at place ds s =
     let same = same_Some place (record { order = s.order; begun = s.begun }) s.at in subst (λ (p : RecordPlace). IsOrderOf p.order ds) (sym same) s.tells
 
--- one dataset is begun, or none
+-- The dataset in progress is determined.
 pub one_begun : (check : Option RecordPlace) (o p : Order) (a b : Option Begun) → check ≡ Some (record {
   order = o;
   begun = a;
@@ -92,7 +92,7 @@ one_begun check o p a b e f = ap (λ (p : RecordPlace). p.begun) (same_Some {A =
   begun = a;
 }) (record { order = p; begun = b }) (sym e ∙ f))
 
--- one order is kept
+-- The order is determined.
 pub same_order : (check : Option RecordPlace) (o p : Order) (a b : Option Begun) → check ≡ Some (record {
   order = o;
   begun = a;
@@ -102,23 +102,23 @@ same_order check o p a b e f = ap (λ (p : RecordPlace). p.order) (same_Some {A 
   begun = a;
 }) (record { order = p; begun = b }) (sym e ∙ f))
 
--- between datasets none is begun
+-- Between datasets none is in progress.
 pub none_begun : (place : RecordPlace) → AwaitsHead (Some place) → place.begun ≡ None
 none_begun place b = ap (λ (p : RecordPlace). p.begun) (same_Some place (record { order = b.order; begun = None }) b.between)
 
--- where no value is to come, none is
+-- A check that expects no value has no dataset in progress that needs one.
 pub not_both : (check : Option RecordPlace) (o p : Order) (a : Option Begun) (begun : Begun) → check ≡ Some (record { order = o; begun = a }) → AwaitsNone a
     → check ≡ Some (record { order = p; begun = Some begun }) → begun.head.rec ≢ 8 → ⊥
 not_both check o p a begun e none f other = other (subst AwaitsNone (one_begun check o p a (Some begun) e f) none)
 
--- ---- a head
+-- ---- A head.
 
--- a head without a fault at the place has none after the datasets
+-- A head without a fault in the state has none after the datasets.
 clear_after : (old : RecordPlace) (h : Head) → head_fault old.order.rec (has_seen old.order) h ≡ None → (ds : List Dataset) → HasChecked (Some old) ds
     → record_fault ds h ≡ None
 clear_after old h none ds s = sym (record_fault_is old.order ds h (told_at old ds s)) ∙ none
 
--- the order tells of the datasets, and of one more with the head that was added
+-- The new order is that of the datasets, and of one more with the head that was added.
 tells_headed : (old new : RecordPlace) (h : Head) → h.set < 256 → AddsHead old.order h new.order → (ds : List Dataset) → HasChecked (Some old) ds
     → record_fault ds h ≡ None → (d : Dataset) → head_of d ≡ h → IsOrderOf new.order (ds ++ d ∷ [])
 tells_headed old new h small adds ds s clear d is =
@@ -126,7 +126,7 @@ tells_headed old new h small adds ds s clear d is =
     (λ fits takes none. tells_more old.order new.order ds d (alive_follows ds s.alive) fits
     (no_fault_parts (section_after ds) (λ n. occurs n (section_run ds)) (head_of d) none) takes (told_at old ds s)) small adds clear
 
--- a whole dataset was taken, of which no value is to come
+-- A complete dataset was accepted, and no value is expected.
 pub checked_more : EachRowHasValues → (old new : RecordPlace) (h : Head) (begun : Option Begun) → new.begun ≡ begun → AwaitsNone begun → h.set < 256
     → AddsHead old.order h new.order → head_fault old.order.rec (has_seen old.order) h ≡ None → (ds : List Dataset) → HasChecked (Some old) ds
     → (d : Dataset) → head_of d ≡ h → Octets d.octets → (h.rec ≢ 8 → value_fault d ≡ None) → HasChecked (Some new) (ds ++ d ∷ [])
@@ -146,7 +146,7 @@ checked_more values old new h begun begun_is no_value small adds none ds s d is 
       tells = tells_headed old new h small adds ds s clear d is;
     }
 
--- the head was taken
+-- The head was accepted.
 pub taken_by : EachRowHasValues → (old new : RecordPlace) (h : Head) (row : Row) → h.set < 256 → AddsHead old.order h new.order
     → new.begun ≡ Some (record { head = h; row = row }) → row_of h.rec h.set ≡ Some row → head_fault old.order.rec (has_seen old.order) h ≡ None
     → (ds : List Dataset) → HasChecked (Some old) ds → HasTaken (Some new) ds h
@@ -166,7 +166,7 @@ taken_by values old new h row small adds begun known none ds s =
           checked_more values old new h (Some (record { head = h; row = row })) begun eight small adds none ds s d is octets (λ other. absurd (other eight));
     }
 
--- the head has this fault
+-- The head has this fault.
 pub record_fault_by : (old : RecordPlace) (h : Head) (fault : FieldFault) → head_fault old.order.rec (has_seen old.order) h ≡ Some fault → (ds : List Dataset)
     → HasChecked (Some old) ds → IsRecordFault ds h fault
 record_fault_by old h fault some ds s =
@@ -177,7 +177,7 @@ record_fault_by old h fault some ds s =
       dead = λ alive. let none = head_no_fault ds h alive in cc;
     }
 
--- some datasets led to the place, and the head to the next
+-- If some datasets reach the state, some datasets with the head reach the next state.
 pub place_headed : (old new : RecordPlace) (h : Head) → TakesHead (Some old) → IsRecordPlace old
     → ((ds : List Dataset) → HasChecked (Some old) ds → HasTaken (Some new) ds h) → IsRecordPlace new
 place_headed old new h takes (inl (ds, s)) on = elim (eqb_tells h.rec 8) [
@@ -189,7 +189,8 @@ place_headed old new h takes (inr (ds, g, s)) on = absurd (not_both (Some old) t
   row = s.row;
 }) takes.at takes.none s.inside s.value)
 
--- and a whole dataset to the next, or nothing did
+-- If some datasets reach the state, some datasets with a complete one more reach the next state, or
+-- the state is the same.
 pub place_led : (old new : RecordPlace) (taken : Bool) (d : Dataset) → AwaitsHead (Some old) → IsRecordPlace old
     → (taken ≡ true → (ds : List Dataset) → HasChecked (Some old) ds → HasChecked (Some new) (ds ++ d ∷ [])) → (taken ≡ false → new ≡ old)
     → IsRecordPlace new
@@ -198,7 +199,7 @@ place_led old new true d between (inr (ds, g, s)) took left =
     absurd (not_both (Some old) between.order s.order None (record { head = g; row = s.row }) between.between tt s.inside s.value)
 place_led old new false d between is took left = subst IsRecordPlace (sym (left refl)) is
 
--- what is begun is another, and the same datasets are told
+-- The state with another dataset in progress, after the same datasets.
 pub checked_as : {old new : Option RecordPlace} (order : Order) (before after : Option Begun) → old ≡ Some (record { order = order; begun = before })
     → new ≡ Some (record { order = order; begun = after }) → AwaitsNone after → (ds : List Dataset) → HasChecked old ds → HasChecked new ds
 checked_as {old} order before after old_is new_is none ds s = record {
@@ -210,9 +211,9 @@ checked_as {old} order before after old_is new_is none ds s = record {
   tells = subst (λ (o : Order). IsOrderOf o ds) (same_order old s.order order s.begun before s.at old_is) s.tells;
 }
 
--- ---- a value
+-- ---- A value.
 
--- the check awaits the value of one dataset
+-- The check expects the value of one dataset.
 pub one_awaited : (place : RecordPlace) (begun : Begun) → place.begun ≡ Some begun → (o : Order) (h : Head) (row : Row)
     → Some place ≡ Some (record { order = o; begun = Some (record { head = h; row = row }) }) → (place.order ≡ o) × (begun ≡ record { head = h; row = row })
 one_awaited place begun is o h row e =
@@ -253,13 +254,13 @@ value_fault_by old begun xs fault is some ds h s =
       dead = λ alive. let none = value_no_fault ds (data_of h xs) alive in cc;
     }
 
--- the head whose value is awaited is that of the begun dataset
+-- The head whose value is expected is that of the dataset in progress.
 pub awaited_count : (place : RecordPlace) (begun : Begun) → place.begun ≡ Some begun → (h : Head) → IsIn (Some place) h → begun.head.count ≡ h.count
 awaited_count place begun is h s = ap (λ (b : Begun). b.head.count) (one_awaited place begun is s.order h s.row s.inside).1
 
--- ---- datasets lead to one place
+-- ---- Datasets determine the state.
 
--- one order tells of datasets
+-- Datasets determine the order.
 one_order : (o p : Order) (ds : List Dataset) → IsOrderOf o ds → IsOrderOf p ds → o ≡ p
 one_order o p ds s t =
     let seen : o.seen ≡ p.seen = ext_get_or false o.seen p.seen (s.places ∙ sym t.places) (λ n _. s.seen n ∙ sym (t.seen n)) in

@@ -1,10 +1,10 @@
--- A builder takes the datasets of an envelope that is within its limits.
+-- A builder accepts the datasets of an envelope that is within its limits.
 use Rattle.std.proofs.Common.{◌≡◌, ℕ, ◌+◌, Bool, true, cond, List, [], ◌∷◌, ◌++◌, append_assoc, length, length-append, refl, ap, sym, ◌∙◌, subst, arith, Some, None, Result, Ok, Err, IfErr, IsOk}
 use Rattle.std.proofs.lemmas.List.Concat.{flat_map-append}
 use Rattle.iim_fields.proofs.Words.{AllByRecursion, option_or, nat_tests, Octets, Dataset, head_of, IsGoodDataset, SectionsLive, IsEnvelope, add_fault, passed_by, joined, kept, kept_octets, is_kept, limits_fault, fault_on, HeadsDieWithTheirFault, ValuesDieWithTheirFault, DatasetsOfEnvelopesAreAdded, AreRecords, AreSections, IsWithin, FieldFault, RecordOrder, Limits, all_append, all_front, all_back}
 use Rattle.iim_fields.proofs.{Runs.records_to_come, Table.EachRowHasValues, Table.passes}
 
--- the datasets of an envelope can be followed by those of an object
+-- The datasets of an object can follow those of an envelope.
 sections_of : (ds object : List Dataset) → IsEnvelope ds → AreRecords (7 ∷ 8 ∷ 9 ∷ []) object → AreSections (ds ++ object)
 sections_of ds object e follows = (
   e.r1,
@@ -14,7 +14,7 @@ sections_of ds object e follows = (
   (e.r2, object, refl, e.application, follows),
 )
 
--- ---- what holds of each dataset
+-- ---- What holds of each dataset.
 
 record IsTakeable (d : Dataset) : Type 0 where
   is_kept : is_kept d.rec ≡ true
@@ -32,7 +32,7 @@ all_kept : (ds : List Dataset) → AllByRecursion IsTakeable ds → kept ds ≡ 
 all_kept [] h = refl
 all_kept (d ∷ ds) h = ap (λ (b : Bool). cond b (d ∷ kept ds) (kept ds)) h.0.is_kept ∙ ap (λ (l : List Dataset). d ∷ l) (all_kept ds h.1)
 
--- ---- no fault
+-- ---- No fault.
 
 joined_more : (before : List Dataset) (d : Dataset) (ds : List Dataset)
     → length (joined (before ++ d ∷ ds)) ≡ length (joined before) + (length d.octets + length (joined ds))
@@ -61,12 +61,12 @@ added rows heads values limits before ds d e within =
     let value = (values before d (d, refl, alive) this.octets).1 alive in
     passes (is_kept d.rec) (fault_on (head_of d) RecordOrder) _ this.is_kept (λ i. option_or (option_or (head i) (room i)) (value i))
 
--- ---- within the limits
+-- ---- Within the limits.
 
 within_of : (limits : Limits) (ds : List Dataset) → passed_by limits ds ≡ None → IsWithin limits (length (joined ds)) (length ds)
 within_of limits ds none = record { octets_in = grind (arith, nat_tests); fields_in = grind (arith, nat_tests) }
 
--- the next dataset of an envelope is taken
+-- The next dataset of an envelope is accepted.
 pub takes : {T : Type 0} → DatasetsOfEnvelopesAreAdded → (limits under : Limits) (all done rest : List Dataset) (d : Dataset) (result : Result T FieldFault)
     → IsEnvelope all → passed_by limits all ≡ None
     → under ≡ limits → done ++ d ∷ rest ≡ all → IfErr result (λ fault. add_fault under done d ≡ Some fault) → IsOk result

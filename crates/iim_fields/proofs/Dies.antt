@@ -1,4 +1,4 @@
--- The record layer dies exactly with a fault.
+-- Datasets are no longer a viable prefix exactly if there is a fault.
 use Rattle.std.proofs.Common.{◌≡◌, ℕ, ◌+◌, ◌⊎◌, Bool, true, false, not, ◌&&◌, cond, nat_eq, List, [], ◌∷◌, ◌++◌, length, refl, ap, sym, ◌∙◌, inl, inr, arith, subst, append_assoc, Option, Some, None}
 use Rattle.iim_fields.proofs.Words.{of_record, IsSomeAnd, IsTrue, AllByRecursion, find, and_parts, or_cases, eqb-true, eq-eqb, IsOctet, Octets, within, Dataset, head_of, Head, all_there, has_kind, row_of, is_admitted, Row, after, mandatory, repeats, occurs, occurrences, has_file_format, IsGoodDataset, IsGoodRecord, SectionsLive, SectionsLiveAt, section_after, section_run, is_first, is_in_order, fault_on, missing_of, head_fault, record_fault, fault_by_row, value_fault, BadValue, FileFormat, repeats_as, meets_as, occurrences_append, some_counts, all_back, false_from_ne_true, cases_Bool, ne_eqb, nat_tests, occurrences_cons}
 use Rattle.iim_fields.proofs.Table.{passed, passes, EachRowHasValues, next_of, not_after_itself, not_record0, value_for}
@@ -6,7 +6,7 @@ use Rattle.iim_fields.proofs.Sections.{front_alive}
 use Rattle.iim_fields.proofs.Runs.{IsPart, part_front, part_of, part_more, no_part, part_completes, records_to_come, MayCome}
 use Rattle.iim_fields.proofs.Follows.{From, FromRun, Follows, MayStand, alive_follows, cons_from, fresh_next, from_cons, from_less, from_more, run_more}
 
--- ---- what a head without a fault has
+-- ---- What a head without a fault has.
 
 pub record HasNoFault (present : ℕ) (has : ℕ → Bool) (h : Head) : Type 0 where
   pub order : is_in_order present h.rec ≡ true
@@ -28,14 +28,14 @@ no_fault_parts present has h none = parts_by present has h (row_of h.rec h.set) 
 pub no_fault_built : (present : ℕ) (has : ℕ → Bool) (h : Head) → HasNoFault present has h → head_fault present has h ≡ None
 no_fault_built present has h f = let whole = f.whole in rw (f.order, f.known, f.once, f.fits) (grind arith)
 
--- ---- what is missing
+-- ---- What is missing.
 
 pub none_missing : (has : ℕ → Bool) (ns : List ℕ) → find (λ n. not (has n)) ns ≡ None → AllByRecursion (λ n. has n ≡ true) ns
 none_missing has [] h = tt
 none_missing has (n ∷ ns) h =
     let parts = passed (has n) n (find (λ m. not (has m)) ns) h in (parts.0, none_missing has ns parts.1)
 
--- ---- the order
+-- ---- The order.
 
 pub next_is : (present r : ℕ) → is_first r (after present) ≡ true → after present ≡ r ∷ after r
 next_is present r h = elim (next_of present) [
@@ -52,7 +52,7 @@ in_order_cases present r h = elim (or_cases (nat_eq r present && not (nat_eq r 0
 is_first_of : (present r : ℕ) → after present ≡ r ∷ after r → is_first r (after present) ≡ true
 is_first_of present r e = ap (is_first r) e ∙ eq-eqb r r refl
 
--- ---- no fault where the layer is alive
+-- ---- No fault in a viable prefix.
 
 -- the row that good data meet
 abbrev MeetsRow : Option Row → List ℕ → Type 0
@@ -62,7 +62,7 @@ meets_row : (o : Option Row) (xs : List ℕ) → IsSomeAnd o (λ r. IsTrue (is_a
 meets_row None xs h = absurd h
 meets_row (Some row) xs h = (row, refl, (and_parts (within row.min row.max (length xs)) (has_kind row.kind xs) h).0, h)
 
--- a dataset that doesn't repeat has not occurred before
+-- A dataset that does not repeat has not occurred before.
 not_before : (r : ℕ) (xs : List Dataset) (d : Dataset) (ys : List Dataset) → IsGoodRecord r (xs ++ d ∷ ys) → repeats r d.set ≡ false → occurs d.set xs ≡ false
 not_before r xs d ys good single =
     let most = good.once d.set single in
@@ -76,7 +76,7 @@ good_next ds d more (run, rest, parts, good, later) =
     let here = rw (run_more ds d, append_assoc) at good.each in
     (all_back (λ (x : Dataset). (x.rec ≡ section_after (ds ++ d ∷ [])) × IsGoodDataset x) (of_record d.rec ds) (d ∷ run) here).0.1
 
--- a dataset that may stand there has no fault
+-- A dataset that may come next has no fault.
 from_no_fault : (ds : List Dataset) (d : Dataset) (more : List Dataset) → MayStand ds d → From (ds ++ d ∷ []) more → record_fault ds (head_of d) ≡ None
 from_no_fault ds d more may from =
     let present : ℕ = section_after ds in
@@ -108,7 +108,7 @@ from_no_fault ds d more may from =
           }
     ])
 
--- ---- alive where there is no fault
+-- ---- A viable prefix, if there is no fault.
 
 part_so_far : (ds : List Dataset) (more : List Dataset) → From ds more → IsPart (section_after ds) (section_run ds)
 part_so_far ds more (run, rest, parts, good, later) = part_front (section_after ds) (section_run ds) run
@@ -120,7 +120,7 @@ may_come r xs d row known once = elim (cases_Bool row.repeats) [
   | inr single ↦ inr (grind arith)
 ]
 
--- a dataset whose head has no fault may stand there, and continues a part of its record
+-- A dataset whose head has no fault may come next, and continues a part of its record.
 place : (ds : List Dataset) (d : Dataset) → Follows ds → IsPart (section_after ds) (section_run ds)
     → HasNoFault (section_after ds) (λ n. occurs n (section_run ds)) (head_of d)
     → MayStand ds d × IsPart d.rec (of_record d.rec ds) × MayCome d.rec (of_record d.rec ds) d
@@ -132,7 +132,7 @@ place ds d follows part f = elim (in_order_cases (section_after ds) d.rec f.orde
       (inr (next, record { each = part.each; mandatory = whole; once = part.once }), rw fresh (no_part d.rec), rw fresh (inr refl))
 ]
 
--- a head without a fault, and good data of it, may come
+-- With a head without a fault, and good data of it, datasets are a viable prefix.
 pub alive_next : EachRowHasValues → (ds : List Dataset) (d : Dataset) → SectionsLive ds → record_fault ds (head_of d) ≡ None → IsGoodDataset d
     → SectionsLive (ds ++ d ∷ [])
 alive_next values ds d alive none good =
@@ -145,7 +145,7 @@ alive_next values ds d alive none good =
     let from = from_more ds d (done.0 ++ later.0) (done.0, later.0, refl, done.1, later.1) in
     (done.0 ++ later.0, rw append_assoc (follows.comes (d ∷ done.0 ++ later.0) (cons_from ds d (done.0 ++ later.0) follows may from)))
 
--- ---- the laws
+-- ---- The lemmas.
 
 pub from_alive : (ds : List Dataset) (d : Dataset) → (alive : SectionsLive (ds ++ d ∷ [])) → MayStand ds d × From (ds ++ d ∷ []) alive.0
 from_alive ds d alive =
@@ -162,7 +162,7 @@ pub head_no_fault : (ds : List Dataset) (h : Head) → SectionsLiveAt ds h → r
 head_no_fault ds h (d, is, alive) =
     let from = from_alive ds d alive in subst (λ (k : Head). record_fault ds k ≡ None) is (from_no_fault ds d alive.0 from.0 from.1)
 
--- a head that continues has an octet for its number
+-- The number of a head that can continue is an octet.
 pub head_octet : (ds : List Dataset) (h : Head) → SectionsLiveAt ds h → IsOctet h.set
 head_octet ds h (d, is, alive) = subst (λ (k : Head). IsOctet k.set) is (good_next ds d alive.0 (from_alive ds d alive).1).numbered
 

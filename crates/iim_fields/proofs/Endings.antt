@@ -3,7 +3,7 @@ use Rattle.std.proofs.Common.{◌≡◌, ℕ, ◌+◌, ◌<◌, ◌≤◌, false
 use Rattle.iim_fields.proofs.Words.{cond_both, eq-eqb, None, AllByRecursion, eqb_tells, Dataset, of_record, table, row_of, SectionsLive, AreRecords, AreSections, repeats, occurrences, IsGoodDataset, IsGoodRecord, none_meets, occurrences_append, last_record, section_after, EnvelopesEndWithTheLastRecord, NoSectionsBeginOthers}
 use Rattle.iim_fields.proofs.{Table.mandatory_is, Runs.not_empty, Follows.Follows, Follows.alive_follows, Follows.present_more, Sections.last_of_joined}
 
--- ---- the last record has one dataset
+-- ---- The last record has one dataset.
 
 no_row_but_ten : (n : ℕ) → nat_eq 10 n ≡ false → row_of 9 n ≡ None
 unfolding row_of table
@@ -36,7 +36,7 @@ nothing_after_one own [] some good = refl
 nothing_after_one own (d ∷ run) some good =
     let most = at_most_one (own ++ d ∷ run) good in absurd (omega (arith, length-append own (d ∷ run)))
 
--- ---- the last dataset of an envelope is of record 9
+-- ---- The last dataset of an envelope is of record 9.
 
 last_of_all : (r s : ℕ) (ds : List Dataset) → AllByRecursion (λ d. (d.rec ≡ s) × IsGoodDataset d) ds → 0 < length ds → last_record r ds ≡ s
 last_of_all r s [] each some = absurd (omega arith)
@@ -56,9 +56,9 @@ ends_with_nine (s ∷ rs) r ds (run, rest, parts, good, later) =
 pub sections_end : (ds : List Dataset) → AreSections ds → section_after ds ≡ 9
 sections_end ds sections = ends_with_nine (1 ∷ 2 ∷ 7 ∷ 8 ∷ []) 0 ds sections
 
--- ---- nothing follows
+-- ---- Nothing follows.
 
--- where the last dataset is of record 9, one is
+-- If the last dataset is of record 9, that record has a dataset.
 of_last : (d : Dataset) (ds : List Dataset) → last_record d.rec ds ≡ 9 → 0 < length (of_record 9 (d ∷ ds))
 of_last d [] last = rw (eq-eqb d.rec 9 last) (omega arith)
 of_last d (e ∷ ds) last =
@@ -79,7 +79,7 @@ nothing_more ds more follows last sections =
 pub no_sections_begin_others : NoSectionsBeginOthers
 no_sections_begin_others ds more whole sections = nothing_more ds more (alive_follows ds (more, sections)) (sections_end ds whole) sections
 
--- datasets that are alive, and whose last is of record 9, are whole
+-- A viable prefix whose last dataset is of record 9 is all of an envelope.
 pub whole_after_nine : (ds : List Dataset) → SectionsLive ds → section_after ds ≡ 9 → AreSections ds
 whole_after_nine ds alive nine =
     let none : alive.0 ≡ [] = nothing_more ds alive.0 (alive_follows ds alive) nine alive.1 in

@@ -12,7 +12,7 @@ ends_last [] x h = absurd cc
 ends_last (e ∷ es) x h =
     let last : length (e ∷ es) - 1 ≡ length es = omega arith in ends_with 0 e es x (sym (ap (slice_get (e ∷ es)) last) ∙ h)
 
--- ---- they end in order
+-- ---- They end in order.
 
 sound_by : (from n : ℕ) (ks : List Dataset) → length (joined ks) ≤ n → is_sound from (entries_of from ks) n ≡ true
 sound_by from n [] fits = refl
@@ -22,7 +22,7 @@ sound_by from n (k ∷ ks) fits =
     let later : is_sound end (entries_of end ks) (n - (end - from)) ≡ true = sound_by end (n - (end - from)) ks (omega arith) in
     and_from (nat_le from end) _ (le-leb from end (omega arith)) (and_from (nat_le (end - from) n) _ (le-leb (end - from) n (omega arith)) later)
 
--- of a store whose entries tell where the octets of their datasets are
+-- The entries of a store end in order.
 pub sound_holding : (store : Store) (ks : List Dataset) (more : List ℕ) → HasStored store ks more
     → is_sound 0 store.entries.items (length store.octets.items) ≡ true
 sound_holding store ks more holds =

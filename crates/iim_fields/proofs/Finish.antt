@@ -1,11 +1,12 @@
--- When a builder's datasets are whole records 1 and 2, and when a reader of records hands over an envelope.
+-- When the datasets of a builder are complete records 1 and 2, and when a reader of records returns
+-- an envelope.
 use Rattle.std.proofs.Common.{arith, ◌≡◌, ℕ, Bool, true, false, nat_eq, List, [], ◌∷◌, ◌++◌, refl, ap, sym, ◌∙◌, inl, inr, subst, append-nil, Option, None, length}
 use Rattle.iim_fields.proofs.Words.{all_back, eqb_tells, AllByRecursion, list_any, filter, option_or, filter-append, filter_passes, recursion_from_All, or_cases, eqb-true, Dataset, of_record, all_there, after, AreRecords, AreSections, mandatory, occurs, IsGoodDataset, IsGoodRecord, SectionsLive, last_record, section_after, is_kept, kept, missing_fault, missing_of, has_seen, IsOrderOf, end_fault, IsEnvelope, finish_fault, IsEnvelopeStore, IsBuilding, fields_of, Limits, Store, RecordPlace, Order, joined, HasChecked, HasEnded, AwaitsHead, HasStored, IsReading, place_of, FieldFault, IsSomeAnd}
 use Rattle.iim_fields.proofs.{Table.EachRowHasValues, Table.no_application_fault, Runs.part_front, Runs.part_of, Runs.records_to_come, Dies.none_missing}
 use Rattle.iim_fields.proofs.{Follows.From, Follows.alive_follows, Stand.between_after, Stand.holds_after, Endings.sections_end, Endings.whole_after_nine}
 use Rattle.iim_fields.proofs.Checking.{same_order}
 
--- ---- the datasets whose record passes a test
+-- ---- The datasets whose record passes a test.
 
 abbrev those : (ℕ → Bool) → List Dataset → List Dataset
 those p ds = filter (λ d. p d.rec) ds
@@ -23,9 +24,9 @@ records_lack p [] ds none h = ap (those p) none
 records_lack p (r ∷ rs) ds (run, rest, parts, good, later) h =
     rw (parts, filter-append (λ (d : Dataset). p d.rec) run rest, run_lacks p r run good.each h.0) (records_lack p rs rest later h.1)
 
--- ---- after record 2
+-- ---- After record 2.
 
--- record 1 is whole
+-- Record 1 is complete.
 first_whole : (ds : List Dataset) → SectionsLive ds → section_after ds ≡ 2 → IsGoodRecord 1 (of_record 1 ds)
 first_whole ds alive two =
     let (run, rest, parts, good, later) = (alive_follows ds alive).goes alive.0 alive.1 in
@@ -40,7 +41,7 @@ first_whole ds alive two =
     let right : those p (r1 ++ rest1) ≡ r1 = rw (filter-append (λ (d : Dataset). p d.rec) r1 rest1, run_has p 1 r1 good1.each refl, none1, append-nil) refl in
     subst (IsGoodRecord 1) (sym right ∙ (sym (ap (those p) parts1) ∙ left)) good1
 
--- ---- the fault
+-- ---- The fault.
 
 two_case : (ds : List Dataset) (o : Order) → SectionsLive ds → IsOrderOf o ds → section_after ds ≡ 2 → end_fault 2 (has_seen o) ≡ finish_fault ds
 two_case ds o alive tells two =
@@ -52,7 +53,7 @@ one_case : (ds : List Dataset) (o : Order) → ((n : ℕ) → has_seen o n ≡ o
     → option_or (missing_fault 1 (missing_of 1 (has_seen o))) (missing_fault 2 (missing_of 2 (λ _. false))) ≡ finish_fault ds
 one_case ds o seen none = λ i. option_or (missing_fault 1 (missing_of 1 (λ n. seen n i))) (missing_fault 2 (missing_of 2 (λ n. occurs n (sym none i))))
 
--- the last of kept datasets is of record 1 or 2
+-- The last of stored datasets is of record 1 or 2.
 last_kept : (d : Dataset) (ds : List Dataset) → AllByRecursion (λ x. is_kept x.rec ≡ true) (d ∷ ds) → is_kept (last_record d.rec ds) ≡ true
 last_kept d [] h = h.0
 last_kept d (e ∷ ds) h = last_kept e ds h.1
@@ -75,9 +76,9 @@ end_fault_is (d ∷ ds) o alive same tells =
           rw (tells.present, two) (two_case (d ∷ ds) o alive tells two)
     ]
 
--- ---- a whole envelope
+-- ---- A complete envelope.
 
--- only where record 2 has begun nothing is missing, and then nothing of it
+-- If nothing is missing, record 2 is the current one, and nothing of it is missing.
 nothing_missing : (present : ℕ) (has : ℕ → Bool) → end_fault present has ≡ None → (present ≡ 2) × (missing_of 2 has ≡ None)
 nothing_missing present has none =
     let some = no_application_fault in
@@ -95,7 +96,7 @@ present_good ds o alive tells two none =
     let mandatory_all = none_missing (λ n. occurs n (of_record 2 ds)) (mandatory 2) ((λ i. missing_of 2 (λ n. seen n i)) ∙ none) in
     record { each = part.each; mandatory = mandatory_all; once = part.once }
 
--- good records 1 and 2 are what is kept of whole sections
+-- The stored datasets of all records are good records 1 and 2.
 pub kept_of_sections : (ds : List Dataset) → AreSections ds → IsEnvelope (kept ds)
 kept_of_sections ds (r1, rest1, parts1, good1, (r2, rest2, parts2, good2, later2)) =
     let none = records_lack is_kept (7 ∷ 8 ∷ 9 ∷ []) rest2 later2 (refl, (refl, (refl, tt))) in
@@ -120,9 +121,9 @@ finished values ds o alive same tells none =
     let from : From ds rest.0 = rw two ([], rest.0, refl, rw append-nil good, rest.1) in
     split_kept ds rest.0 same rest.1 ((alive_follows ds alive).comes rest.0 from)
 
--- ---- the builder
+-- ---- The builder.
 
--- what a check says is missing where records 1 and 2 end
+-- what a check returns as missing if records 1 and 2 end here
 abbrev pub TellsEnd : Option FieldFault → Option RecordPlace → Type 0
 TellsEnd told check = IsSomeAnd check (λ place. told ≡ end_fault place.order.rec (has_seen place.order))
 
@@ -144,7 +145,7 @@ envelope_store values {store = store} b tells none =
       envelope = finished values (fields_of store) s.order s.alive b.all_kept s.tells (sym (end_at s tells) ∙ none);
     }
 
--- ---- the reader
+-- ---- The reader.
 
 pub whole_where_ended : (check : Option RecordPlace) (ds : List Dataset) → HasEnded check → HasChecked check ds → AreSections ds
 whole_where_ended check ds ended s =

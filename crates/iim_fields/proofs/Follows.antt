@@ -1,26 +1,27 @@
--- What can follow datasets that are alive.
+-- What can follow datasets that are a viable prefix.
 use Rattle.std.proofs.Common.{length, ◌<◌, ◌≡◌, ℕ, ◌⊎◌, Bool, true, false, nat_eq, List, [], ◌∷◌, ◌++◌, refl, ap, sym, ◌∙◌, inl, inr, arith, subst, append_assoc, append-nil}
 use Rattle.iim_fields.proofs.Words.{all_back, ne_eqb, mandatory, list_any, filter-append, or_right, eq-eqb, Dataset, of_record, table, after, records, AreRecords, AreSections, IsGoodDataset, IsGoodRecord, none_meets, SectionsLive, section_after, section_run}
 use Rattle.iim_fields.proofs.{Table.next_of, Table.mandatory_is, Table.no_row, Runs.not_empty, Sections.last_more, Sections.one_of}
 
--- the rest of the present record after its run so far, and then the records after it
+-- the rest of the current record after its datasets so far, and then the records after it
 abbrev pub FromRun : ℕ → List Dataset → List Dataset → Type 0
 FromRun r own more = (run rest : List Dataset) × (more ≡ run ++ rest) × IsGoodRecord r (own ++ run) × AreRecords (after r) rest
 
 abbrev pub From : List Dataset → List Dataset → Type 0
 From ds more = FromRun (section_after ds) (section_run ds) more
 
--- the record is one of those to come
+-- the record is one of those that remain
 abbrev pub is_coming : ℕ → ℕ → Bool
 is_coming present r = list_any (λ x. nat_eq x r) (after present)
 
--- What completes the datasets is what follows their present record, and no record to come has occurred.
+-- What completes the datasets is what follows their current record, and no record that remains has
+-- occurred.
 pub record Follows (ds : List Dataset) : Type 0 where
   pub goes : (more : List Dataset) → AreSections (ds ++ more) → From ds more
   pub comes : (more : List Dataset) → From ds more → AreSections (ds ++ more)
   pub fresh : (r : ℕ) → is_coming (section_after ds) r ≡ true → of_record r ds ≡ []
 
--- ---- one more dataset
+-- ---- One more dataset.
 
 pub present_more : (ds : List Dataset) (d : Dataset) → section_after (ds ++ d ∷ []) ≡ d.rec
 present_more ds d = last_more 0 ds d
@@ -34,15 +35,15 @@ from_more ds d more f = rw (run_more ds d, present_more ds d) f
 pub from_less : (ds : List Dataset) (d : Dataset) (more : List Dataset) → From (ds ++ d ∷ []) more → FromRun d.rec (of_record d.rec ds ++ d ∷ []) more
 from_less ds d more f = rw (run_more ds d, present_more ds d) at f
 
--- the dataset is of the present record; or it begins the next one, and the present one is whole
+-- the dataset is of the current record; or it begins the next one, and the current one is complete
 abbrev pub MayStand : List Dataset → Dataset → Type 0
 MayStand ds d = (d.rec ≡ section_after ds) ⊎ ((after (section_after ds) ≡ d.rec ∷ after d.rec) × IsGoodRecord (section_after ds) (section_run ds))
 
--- the next record has not occurred
+-- The next record has not occurred.
 pub fresh_next : (ds : List Dataset) (d : Dataset) → Follows ds → after (section_after ds) ≡ d.rec ∷ after d.rec → of_record d.rec ds ≡ []
 fresh_next ds d follows next = follows.fresh d.rec (rw (next, eq-eqb d.rec d.rec refl) refl)
 
--- a record that must have datasets begins with one of its own
+-- A record that must have datasets begins with a dataset of that record.
 begun : (r : ℕ) (rs : List ℕ) (d : Dataset) (more : List Dataset) → 0 < length (mandatory r) → AreRecords (r ∷ rs) (d ∷ more)
     → (d.rec ≡ r) × ((run rest : List Dataset) × (more ≡ run ++ rest) × IsGoodRecord r (d ∷ run) × AreRecords rs rest)
 begun r rs d more some ([], rest, parts, good, later) = absurd (not_empty r some good)
@@ -77,12 +78,12 @@ cons_from ds d more follows (inr (next, done)) f =
     let (run, rest, parts, good, later) = rw (fresh_next ds d follows next) at (from_less ds d more f) in
     ([], d ∷ more, refl, rw append-nil done, rw next (d ∷ run, rest, ap (λ (xs : List Dataset). d ∷ xs) parts, good, later))
 
--- no record comes after itself
+-- No record comes after itself.
 not_coming_itself : (r : ℕ) → is_coming r r ≡ false
 not_coming_itself r = one_of (λ m. is_coming m m ≡ false) r (0 ∷ 1 ∷ 2 ∷ 7 ∷ 8 ∷ 9 ∷ []) (refl, (refl, (refl, (refl, (refl, (refl, tt))))))
     (λ not. rw (not.0.1, not.1.0.1, not.1.1.0.1, not.1.1.1.0.1, not.1.1.1.1.0.1, not.1.1.1.1.1.0.1) refl)
 
--- a record that comes after the dataset came before it
+-- A record that remains after the dataset remained before it.
 still_coming : (ds : List Dataset) (d : Dataset) (r : ℕ) → MayStand ds d → is_coming d.rec r ≡ true → is_coming (section_after ds) r ≡ true
 still_coming ds d r (inl same) coming = rw same at coming
 still_coming ds d r (inr (next, done)) coming = rw (next, coming) (or_right (nat_eq d.rec r) true refl)
@@ -101,9 +102,9 @@ follows_next ds d old follows before =
           rw (filter-append (λ (x : Dataset). nat_eq x.rec r) ds (d ∷ []), follows.fresh r (still_coming ds d r may here)) (another d r here);
     }
 
--- ---- from the start
+-- ---- From the start.
 
--- no dataset is of record 0
+-- No dataset is of record 0.
 empty_run : (run : List Dataset) → IsGoodRecord 0 run → run ≡ []
 empty_run [] good = refl
 empty_run (d ∷ run) good =

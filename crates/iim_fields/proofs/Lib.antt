@@ -1,4 +1,4 @@
--- The words that most proofs use.
+-- The names that most proofs use.
 pub mod Words
 pub mod NumberSets
 pub mod Entries
@@ -15,7 +15,7 @@ pub mod Copying
 pub mod Finish
 pub mod Wholes
 pub mod Subfiles
--- What proofs of other crates cite.
+-- The lemmas that proofs of other crates cite.
 pub mod Dies
 pub mod Follows
 pub mod Sections

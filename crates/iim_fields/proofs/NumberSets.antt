@@ -6,14 +6,14 @@ use Rattle.std.proofs.lemmas.List.{ext_get_or}
 use Rattle.std.proofs.lemmas.List.FromFn.{length-map-range_with_len, get_or-map-range_with_len}
 use Rattle.iim_fields.proofs.Words.{bit_at, get_or-set_at, get_or-set_same, get_or-set_other, length-set, eqb_tells}
 
--- what is in a list with one place more that is true
+-- The members of a list of booleans after one of them was set.
 pub seen_more : (xs : List Bool) (s n : ℕ) → s < length xs → get_or (set xs s true) n false ≡ (nat_eq s n || get_or xs n false)
 seen_more xs s n fits = elim (eqb_tells s n) [
   | inl same ↦ get_or-set_at xs s n true false (sym same.1) fits ∙ sym (ap (λ b. b || get_or xs n false) same.0)
   | inr other ↦ get_or-set_other xs s n true false (λ e. other.1 (sym e)) ∙ sym (ap (λ b. b || get_or xs n false) other.0)
 ]
 
--- ---- the words
+-- ---- The words.
 
 -- the bit of a number
 abbrev has_bit : List ℕ → ℕ → Bool
@@ -27,7 +27,7 @@ member_at : (words : List ℕ) (n : ℕ) → n < 256 → get_or (members words) 
 unfolding members
 member_at words n h = get_or-map-range_with_len (has_bit words) 0 256 n n false h (omega arith)
 
--- a word with one bit more is a set with one number more
+-- A word with one more bit is a set with one more number.
 pub members_more : (words : List ℕ) (n word : ℕ) → n < 256 → n / 64 < length words → bit_at word (n % 64) ≡ 1
     → ((i : ℕ) → i ≢ n % 64 → bit_at word i ≡ bit_at (get_or words (n / 64) 0) i) → members (set words (n / 64) word) ≡ set (members words) n true
 members_more words n word fits room one others =
@@ -48,18 +48,18 @@ members_more words n word fits room one others =
       ])
     ]
 
--- ---- by the words of the code
+-- ---- The words as the code computes them.
 
--- no bit is 1
+-- No bit of the empty set is 1.
 pub no_members : members (0 ∷ 0 ∷ 0 ∷ 0 ∷ []) ≡ replicate 256 false
 unfolding members
 no_members = refl
 
--- the test of a bit in its word
+-- The test of a bit in its word.
 pub bit_tested : (words : List ℕ) (q n : ℕ) → q ≡ n / 64 → n < 256 → nat_eq (bit_and (get_or words q 0 / 2 ^ (n % 64)) 1) 1 ≡ get_or (members words) n false
 bit_tested words q n e h = rw (e, shr_and_one (get_or words (n / 64) 0) (n % 64)) (sym (member_at words n h))
 
--- a bit set in its word
+-- Setting a bit in its word.
 pub bit_added : (words : List ℕ) (q n : ℕ) → q ≡ n / 64 → length words ≡ 4 → n < 256
     → members (set words q (bit_or (get_or words q 0) (1 * 2 ^ (n % 64) % 2 ^ 64))) ≡ set (members words) n true
 bit_added words q n e four h =

@@ -1,10 +1,11 @@
--- Where the head of a whole dataset may stand, and whether datasets of records 7 and 9 may come, by their number.
+-- Which head of a complete dataset may come next, and which numbers the datasets of records 7 and 9
+-- may have.
 use Rattle.std.proofs.Common.{subst, ◌≡◌, ℕ, ◌⊎◌, Bool, true, false, ◌&&◌, nat_eq, nat_le, List, [], ◌∷◌, length, Option, Some, None, refl, ap, sym, ◌∙◌, inl, inr, arith, ◌≢◌, not, ◌||◌, if◌then◌else◌, ne_eqb}
 use Rattle.iim_tables.specs.declared.shape.Kind.TheVariants.{Mode, Size, SizeFromOne}
 use Rattle.iim_fields.proofs.Words.{IsInRange, nat_tests, is_none, option_or, number, within, greatest_size, Head, number-cons, size_octets, has_kind, table, row_of, Row, head_fault, value_fault, data_of, Spells, FieldFault, eq-eqb, eqb_tells, after, missing_of, is_first}
 use Rattle.iim_fields.proofs.{Sections.one_of, Table.not_record0, Table.first_self}
 
--- a dataset that doesn't repeat may come next, by what an order says
+-- a dataset that does not repeat may come next, by the order
 abbrev pub admits_once : ℕ → (ℕ → Bool) → ℕ → ℕ → Bool
 admits_once present has rec set =
     if nat_eq rec present then not (has set) else is_first rec (after present) && is_none (missing_of present has)
@@ -17,7 +18,7 @@ is_number h n =
     else if nat_eq h.set 20 then nat_le 1 n && nat_le n greatest_size
     else (nat_eq h.set 90 || nat_eq h.set 95) && nat_le n greatest_size
 
--- ---- in the present record
+-- ---- In the current record.
 
 pub more_admitted : (present : ℕ) (has : ℕ → Bool) (h : Head) (row : Row) → row_of h.rec h.set ≡ Some row → h.rec ≡ present
     → (within row.min row.max h.count && (row.repeats || not (has h.set))) ≡ is_none (head_fault present has h)
@@ -27,13 +28,13 @@ more_admitted present has h row known same =
     let first : is_first h.rec (after present) ≡ false = ap (λ (p : ℕ). is_first h.rec (after p)) (sym same) ∙ first_self h.rec in
     rw known (grind arith)
 
--- ---- as the first of the next record
+-- ---- As the first of the next record.
 
 pub next_admitted : (present : ℕ) (has : ℕ → Bool) (h : Head) (row : Row) → row_of h.rec h.set ≡ Some row → h.rec ≢ present
     → (within row.min row.max h.count && (is_first h.rec (after present) && is_none (missing_of present has))) ≡ is_none (head_fault present has h)
 next_admitted present has h row known other = let apart = ne_eqb h.rec present other in rw known (grind arith)
 
--- ---- of a dataset that doesn't repeat
+-- ---- A dataset that does not repeat.
 
 pub once_admitted : (present : ℕ) (has : ℕ → Bool) (h : Head) (row : Row) → row_of h.rec h.set ≡ Some row → row.repeats ≡ false
     → (within row.min row.max h.count && admits_once present has h.rec h.set) ≡ is_none (head_fault present has h)
@@ -45,7 +46,7 @@ once_admitted present has h row known once =
       | inr apart ↦ (λ i. counted && (if apart.0 i then not (has h.set) else next)) ∙ next_admitted present has h row known apart.1
     ]
 
--- ---- the rows
+-- ---- The rows.
 
 pub and_true : (b : Bool) → (b && true) ≡ b
 and_true b = grind arith
@@ -57,7 +58,7 @@ mode_by (x ∷ []) e =
     and_true (nat_le x 1) ∙ ap (λ (n : ℕ). nat_le n 1) (sym same)
 mode_by (x ∷ (y ∷ xs)) e = absurd (omega (arith, e))
 
--- the number may be that of the dataset exactly where its octets are as the row says, which lets it occur once
+-- The dataset may have the number exactly if its octets meet the row, which lets it occur once.
 abbrev Meant : Option Row → Head → ℕ → List ℕ → Type 0
 Meant None h n xs = is_number h n ≡ false
 Meant (Some row) h n xs = (row.repeats ≡ false) × (is_number h n ≡ (within row.min row.max h.count && has_kind row.kind xs))
@@ -87,7 +88,7 @@ meant r s count n xs (inr nine) long few is =
     (one_of (λ t. Meant (row_of 9 t) (record { rec = 9; set = t; count = count }) n xs) s (10 ∷ []) ((refl, size_meant count n xs long few is), tt)
     (λ not. rw (not.0.0, not.0.1) refl))
 
--- ---- a dataset
+-- ---- A dataset.
 
 both_none : (a b : Option FieldFault) → is_none (option_or a b) ≡ (is_none a && is_none b)
 both_none a b = grind arith

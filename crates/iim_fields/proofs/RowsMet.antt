@@ -1,4 +1,4 @@
--- What an envelope has for sure, and that its data meet their rows.
+-- The datasets that each envelope has, and that its data meet their rows.
 use Rattle.std.proofs.Common.{◌≡◌, ℕ, ◌≤◌, Bool, true, false, cond, nat_eq, List, [], ◌∷◌, length, refl, sym, arith, subst, Option, Some, inl, inr, ◌++◌, ap, ◌∙◌, append-nil, rules, None}
 use Rattle.iim_tables.specs.{Format.Kinds.is_graphic, Format.Dates.is_date}
 use Rattle.iim_fields.proofs.Words.{nat_tests, AllByRecursion, list_all, slice_get, option_map, and_parts, eqb-true, Dataset, within, is_digit, all_append, within_most, table, row_of, Meets, IsGoodDataset, IsEnvelope, has_names, first_data, list_any, or_cases, is_some, IsSome, eq-eqb, occurs}
@@ -22,13 +22,13 @@ all_meet : (r : ℕ) (run : List Dataset) → AllByRecursion (λ d. (d.rec ≡ r
 all_meet r [] h = tt
 all_meet r (d ∷ run) h = (h.0.1.meets, all_meet r run h.1)
 
--- what is viewed of an envelope meets its row
+-- The data of each method of an envelope meet the row.
 pub data_meet : (ds : List Dataset) → IsEnvelope ds → (r n : ℕ) (xs : List ℕ) → first_data r n ds ≡ Some xs → Meets r n xs
 data_meet ds e r n xs h =
     let all = all_append MeetsItsRow e.r1 e.r2 (all_meet 1 e.r1 e.envelope.each) (all_meet 2 e.r2 e.application.each) in
     first_meets r n ds xs (subst (AllByRecursion MeetsItsRow) (sym e.parts) all) h
 
--- ---- the rows of the views that rest on them
+-- ---- The rows that methods depend on.
 
 exactly : (only n : ℕ) → within only only n ≡ true → n ≡ only
 exactly only n h = grind (arith, nat_tests)
@@ -53,13 +53,13 @@ pub priority_is_one : (xs : List ℕ) → Meets 1 60 xs → length xs ≡ 1
 unfolding row_of table
 priority_is_one xs h = exactly 1 (length xs) (and_parts (within 1 1 (length xs)) (list_all is_digit xs) h).0
 
--- the one octet of a list
+-- The one octet of a list.
 pub only_octet : (xs : List ℕ) → length xs ≡ 1 → option_map (λ b. b ∷ []) (slice_get xs 0) ≡ Some xs
 only_octet [] one = absurd (omega arith)
 only_octet (x ∷ []) one = refl
 only_octet (x ∷ y ∷ xs) one = absurd (omega arith)
 
--- ---- what it has for sure
+-- ---- The datasets that each envelope has.
 
 first_in_run : (r n : ℕ) (run rest : List Dataset) → AllByRecursion (λ d. (d.rec ≡ r) × IsGoodDataset d) run → occurs n run ≡ true
     → is_some (first_data r n (run ++ rest)) ≡ true
@@ -78,7 +78,7 @@ each_at P (m ∷ ns) n each some = elim (or_cases (nat_eq m n) (list_any (λ k. 
   | inr later ↦ each_at P ns n each.1 later
 ]
 
--- each envelope has the mandatory datasets of record 1, and those of record 2
+-- Each envelope has the mandatory datasets of record 1, and those of record 2.
 pub first_of_one : (n : ℕ) (ds : List Dataset) → IsEnvelope ds → list_any (λ m. nat_eq m n) (mandatory_numbers 1) ≡ true → is_some (first_data 1 n ds) ≡ true
 first_of_one n ds e is =
     let occur = each_at (λ m. occurs m e.r1 ≡ true) (mandatory_numbers 1) n (rw mandatory_is at e.envelope.mandatory) is in

@@ -1,4 +1,4 @@
--- Parts of good records, and how they are completed.
+-- Prefixes of good records, and how they are completed.
 use Rattle.std.proofs.Common.{◌≡◌, ℕ, ◌+◌, ◌<◌, ◌≤◌, ◌⊎◌, Bool, true, false, cond, nat_eq, List, [], ◌∷◌, ◌++◌, length, refl, sym, inl, inr, arith, subst, append_assoc, append-nil}
 use Rattle.iim_fields.proofs.Words.{AllByRecursion, list_any-append, eq-eqb, eqb_tells, Dataset, all_append, all_front, AreRecords, mandatory, IsGoodDataset, IsGoodRecord, occurs, occurrences, repeats, occurrences_append, none_counts}
 use Rattle.iim_fields.proofs.Table.{EachRowHasValues, HasSample, samples}
@@ -9,7 +9,7 @@ occurs_front n xs ys h = rw (list_any-append (λ (d : Dataset). nat_eq d.set n) 
 pub occurs_last : (n : ℕ) (xs : List Dataset) (d : Dataset) → d.set ≡ n → occurs n (xs ++ d ∷ []) ≡ true
 occurs_last n xs d is = rw (list_any-append (λ (x : Dataset). nat_eq x.set n) xs (d ∷ []), eq-eqb d.set n is) (grind arith)
 
--- ---- a part of a record
+-- ---- A prefix of a record.
 
 -- the datasets may be the first of a good record
 pub record IsPart (rec : ℕ) (ds : List Dataset) : Type 0 where
@@ -48,7 +48,7 @@ part_more r xs d p of good may = record {
   once = λ n h. let sum = occurrences_append n xs (d ∷ []) in let most = once_more r xs d p may n h in omega arith;
 }
 
--- a part that is followed by a run in which these numbers occur
+-- the prefix, and datasets after it with which these numbers occur
 abbrev Completed : ℕ → List Dataset → List ℕ → Type 0
 Completed r xs ns = (run : List Dataset) × IsPart r (xs ++ run) × AllByRecursion (λ n. occurs n (xs ++ run) ≡ true) ns
 
@@ -66,13 +66,13 @@ complete : (r : ℕ) (ns : List ℕ) → AllByRecursion (HasSample r) ns → (xs
 complete r [] have xs p = ([], subst (IsPart r) (sym (append-nil xs)) p, tt)
 complete r (n ∷ ns) have xs p = complete_by (occurs n xs) r xs n ns refl p have.0 (complete r ns have.1)
 
--- a part of a record continues to a good one
+-- A prefix of a record continues to a good one.
 pub part_completes : EachRowHasValues → (r : ℕ) (xs : List Dataset) → IsPart r xs → (run : List Dataset) × IsGoodRecord r (xs ++ run)
 part_completes values r xs p =
     let c = complete r (mandatory r) (samples values r) xs p in
     (c.0, record { each = c.1.each; mandatory = c.2; once = c.1.once })
 
--- there are records of these numbers
+-- Good records of these numbers exist.
 pub records_to_come : EachRowHasValues → (rs : List ℕ) → (ds : List Dataset) × AreRecords rs ds
 records_to_come values [] = ([], refl)
 records_to_come values (r ∷ rs) =
@@ -84,6 +84,6 @@ none_occurs : (ns : List ℕ) → 0 < length ns → AllByRecursion (λ n. occurs
 none_occurs [] long h = absurd (omega arith)
 none_occurs (n ∷ ns) long h = let bad : false ≡ true = h.0 in cc
 
--- a good record of this number has a dataset
+-- A good record that must have datasets is not empty.
 pub not_empty : (r : ℕ) → 0 < length (mandatory r) → IsGoodRecord r [] → ⊥
 not_empty r long g = none_occurs (mandatory r) long g.mandatory

@@ -1,4 +1,5 @@
--- The last record of datasets, and which can continue: lemmas for the proofs of every crate, of which nothing is to be believed.
+-- The last record of datasets, and which datasets can continue: lemmas for the proofs of every
+-- crate.
 use Rattle.std.proofs.Common.{◌≡◌, ℕ, false, nat_eq, List, [], ◌∷◌, ◌++◌, length, replicate, Option, refl, sym, subst, append_assoc, inl, inr}
 use Rattle.iim_fields.proofs.Words.{AllByRecursion, cases_eq, ne_eqb, eqb_tells, length-replicate, Dataset, head_of, Octets, zeros_are, Head, RecordPlace, SectionsLive, SectionsLiveAt, last_record, AreSections, HasTaken}
 
@@ -13,11 +14,11 @@ last_of_joined r (x ∷ xs) ys = last_of_joined x.rec xs ys
 pub front_alive : (xs ys : List Dataset) → SectionsLive (xs ++ ys) → SectionsLive xs
 front_alive xs ys (more, are) = (ys ++ more, subst AreSections (append_assoc xs ys more) are)
 
--- datasets can continue where they can with a head
+-- Datasets that can continue with a head can continue.
 pub head_alive : (ds : List Dataset) (h : Head) → SectionsLiveAt ds h → SectionsLive ds
 head_alive ds h (d, is, alive) = front_alive ds (d ∷ []) alive
 
--- a dataset with this head: `h.count` octets, each 0
+-- A dataset with this head: `h.count` octets, each 0.
 pub some_data : (h : Head) → (d : Dataset) × (head_of d ≡ h) × Octets d.octets
 some_data h =
     let zeros : List ℕ = replicate h.count 0 in
@@ -30,7 +31,7 @@ taken_alive check ds h t = elim (eqb_tells h.rec 8) [
   | inr other ↦ (t.checking other.1).alive
 ]
 
--- what holds of each of some numbers, and of one that is none of them, holds of a number
+-- What holds of each of some numbers, and of each other number, holds of a number.
 pub one_of : (P : ℕ → Type 0) (r : ℕ) (ns : List ℕ) → AllByRecursion P ns → (AllByRecursion (λ n. (nat_eq n r ≡ false) × (nat_eq r n ≡ false)) ns → P r) → P r
 one_of P r [] each other = other tt
 one_of P r (n ∷ ns) each other = elim (cases_eq n r) [
@@ -38,7 +39,7 @@ one_of P r (n ∷ ns) each other = elim (cases_eq n r) [
   | inr differ ↦ one_of P r ns each.1 (λ others. other ((ne_eqb n r differ, ne_eqb r n (λ e. differ (sym e))), others))
 ]
 
--- what holds of each of the five records and of all others, holds of a record
+-- What holds of each of the five records, and of all other numbers, holds of a record.
 pub by_record : (P : ℕ → Type 0) (r : ℕ) → P 1 → P 2 → P 7 → P 8 → P 9
     → (nat_eq r 1 ≡ false → nat_eq r 2 ≡ false → nat_eq r 7 ≡ false → nat_eq r 8 ≡ false → nat_eq r 9 ≡ false → P r) → P r
 by_record P r one two seven eight nine other = one_of P r (1 ∷ 2 ∷ 7 ∷ 8 ∷ 9 ∷ []) (one, (two, (seven, (eight, (nine, tt)))))

@@ -1,13 +1,13 @@
--- What a reader of records keeps, step by step.
+-- What a reader of records stores, step by step.
 use Rattle.std.proofs.Common.{◌≡◌, ◌≢◌, ℕ, suc, ◌+◌, ◌-◌, ◌<◌, ◌≤◌, ◌⊎◌, Bool, true, false, cond, List, [], ◌∷◌, ◌++◌, length, get_or, refl, ap, sym, ◌∙◌, inl, inr, arith, subst, append_assoc, append-nil, length-append, Option, Some, None}
 use Rattle.std.proofs.Math.Seq.{take-append_seam, drop-append_seam}
 use Rattle.iim_fields.proofs.Words.{limits_of, AwaitsHead, cases_Bool, nat_tests, HasRoom, IsEnvelopeStore, vec_len, vec_capacity, option_or, filter-append, flat_map-append, eqb_tells, Octets, Dataset, head_of, Head, octets_append, are_octets, nothing_of_two, size_octets, occurs, SectionsLiveAt, room_fault, limits_fault, first_fault, is_kept, kept, kept_octets, joined, section_after, section_run, data_of, number_told, tells_number, section_at, IsIn, HasChecked, IsChecking, HasTaken, IsRecordFault, IsValueFault, begun_head, HasStored, entries_of, fields_of, ends_at, begun_octets, fields_from, FieldsPlace, IsBetween, IsInside, CanTake, CanClose, StandsAfter, StandsIn, IsHeadFault, IsOf, section_of, begun_head_of, IsWithin, place_of, StandsSomewhere, IsReading, Limits, Store, FieldFault, RecordPlace}
 use Rattle.iim_fields.proofs.{Table.EachRowHasValues, Table.size_row, Table.kept_or_tells, Follows.present_more, Telling.head_fault_told, Dies.head_no_fault}
 use Rattle.iim_fields.proofs.{Checking.one_begun, Checking.count_fits, Sections.some_data, Sections.taken_alive}
 
--- ---- the limits
+-- ---- The limits.
 
--- a head without a fault passes no limit
+-- A head without a fault exceeds no limit.
 pub room_within : (limits : Limits) (octets fields : ℕ) (h : Head) → room_fault limits octets fields h ≡ None → is_kept h.rec ≡ true
     → (octets + h.count ≤ limits.octets) × (fields + 1 ≤ limits.fields)
 room_within limits octets fields h none is = grind (arith, nat_tests)
@@ -19,9 +19,9 @@ no_room limits octets fields h fault some in_limits = elim (cases_Bool (is_kept 
   | inr other ↦ grind arith
 ]
 
--- ---- the store
+-- ---- The store.
 
--- each entry tells where the octets of its dataset are
+-- The entries and the octets of the store are those of its datasets.
 abbrev pub IsStore : Store → Type 0
 IsStore store = HasStored store (fields_of store) (begun_octets store)
 
@@ -29,7 +29,7 @@ length-entries_of : (from : ℕ) (ds : List Dataset) → length (entries_of from
 length-entries_of from [] = refl
 length-entries_of from (d ∷ ds) = ap suc (length-entries_of (from + length d.octets) ds)
 
--- the entries of datasets and their data give the datasets back
+-- The datasets of a store are those that it was made of.
 pub fields_back : (from : ℕ) (ks : List Dataset) (more : List ℕ) → fields_from from (entries_of from ks) (joined ks ++ more) ≡ ks
 fields_back from [] more = refl
 fields_back from (k ∷ ks) more =
@@ -75,7 +75,7 @@ ends_at_length ks = ends_of 0 ks ∙ omega arith
 pub begun_held : (store : Store) (ks : List Dataset) (more : List ℕ) → HasStored store ks more → begun_octets store ≡ more
 begun_held store ks more holds = rw (holds.entries, holds.octets, ends_at_length ks) (drop-append_seam (joined ks) more)
 
--- what a store with these datasets has
+-- A store with these datasets is a valid store.
 pub store_is : (store : Store) (ks : List Dataset) (more : List ℕ) → HasStored store ks more → IsStore store
 store_is store ks more holds = record {
   entries = holds.entries ∙ ap (entries_of 0) (sym (fields_held store ks more holds));
@@ -89,7 +89,7 @@ counts store ks more holds = (
   store.entries.ok.0 ∙ (ap (λ xs. length xs) holds.entries ∙ length-entries_of 0 ks),
 )
 
--- a store that has taken octets
+-- A store after octets were appended.
 pub takes_holds : {old new : Store} {ks : List Dataset} {more : List ℕ} (xs : List ℕ) → HasStored old ks more → new.octets.items ≡ old.octets.items ++ xs
     → new.entries ≡ old.entries → HasStored new ks (more ++ xs)
 takes_holds {ks = ks} {more} xs holds octets entries = record {
@@ -97,7 +97,7 @@ takes_holds {ks = ks} {more} xs holds octets entries = record {
   octets = octets ∙ (ap (λ (ys : List ℕ). ys ++ xs) holds.octets ∙ append_assoc (joined ks) more xs);
 }
 
--- and one that has kept those that it took as the data of a dataset
+-- A store after the appended octets were stored as the data of a dataset.
 pub keeps_holds : {old new : Store} {ks : List Dataset} {more : List ℕ} (rec set : ℕ) → HasStored old ks more → new.octets ≡ old.octets
     → new.entries.items ≡ old.entries.items ++ record { rec = rec; set = set; end = length old.octets.items } ∷ []
     → HasStored new (ks ++ record { rec = rec; set = set; octets = more } ∷ []) []
@@ -110,35 +110,35 @@ keeps_holds {old} {ks = ks} {more} rec set holds octets entries =
       octets = ap (λ v. v.items) octets ∙ (holds.octets ∙ (sym (joined_more ks d) ∙ sym (append-nil (joined (ks ++ d ∷ [])))));
     }
 
--- what an envelope's store has of octets and entries
+-- How many octets and entries the store of an envelope has.
 pub totals : (store : Store) → IsEnvelopeStore store
     → (length (joined (fields_of store)) ≡ length store.octets.items) × (length (fields_of store) ≡ vec_len store.entries)
 totals store e = let c = counts store (fields_of store) [] e.holds in omega (arith, c.0, c.1)
 
--- the octets of a begun dataset are in the store
+-- The octets of the dataset in progress are in the store.
 pub ends_within : (store : Store) → IsStore store → ends_at 0 store.entries.items ≤ length store.octets.items
 ends_within store is =
     let c = counts store (fields_of store) (begun_octets store) is in
     let e : ends_at 0 store.entries.items ≡ length (joined (fields_of store)) = ap (ends_at 0) is.entries
     ∙ ends_at_length (fields_of store) in omega (arith, c.0, e)
 
--- the store of a reader that has kept those
+-- The store of a reader whose stored datasets are these.
 holds_kept : (store : Store) (ds : List Dataset) → IsStore store → fields_of store ≡ kept ds → HasStored store (kept ds) (begun_octets store)
 holds_kept store ds is same = subst (λ (ks : List Dataset). HasStored store ks (begun_octets store)) same is
 
--- ---- where it stands
+-- ---- The state.
 
--- nothing is begun
+-- No dataset is in progress.
 pub none_begun : (check : Option RecordPlace) (o : _) (h : Head) → check ≡ Some (record { order = o; begun = None }) → IsIn check h → ⊥
 none_begun check o h e a = let clash = one_begun check o a.order None (Some (record { head = h; row = a.row })) e a.inside in cc
 
--- between datasets it stands after some
+-- Between datasets, some datasets reach the state.
 pub between_after : (f : FieldsPlace) → (f.check ≡ None) ⊎ StandsSomewhere f → IsBetween f → (ds : List Dataset) × StandsAfter f ds
 between_after f (inl none) t = let clash = sym t.between ∙ none in cc
 between_after f (inr (inl (ds, s))) t = (ds, s)
 between_after f (inr (inr (ds, h, taken, s))) t = absurd (none_begun f.check t.order h t.between s.inside.1.head)
 
--- in a dataset it stands in one
+-- In a dataset, some datasets and its head reach the state.
 pub inside_in : (f : FieldsPlace) (h : Head) → (f.check ≡ None) ⊎ StandsSomewhere f → IsIn f.check h → (ds : List Dataset) × (g : Head) × (taken : List ℕ)
     × StandsIn f ds g taken
 inside_in f h (inl none) a = let clash = sym a.inside ∙ none in absurd cc
@@ -154,7 +154,7 @@ same_head g h o e f = let both = sym e ∙ f in cc
 pub none_between : (check : Option RecordPlace) → AwaitsHead check → begun_head check ≡ None
 none_between check t = ap begun_head t.between
 
--- ---- a head
+-- ---- A head.
 
 pub fault_of_record : (limits : Limits) (ds : List Dataset) (h : Head) (fault : FieldFault) → IsRecordFault ds h fault → IsHeadFault limits ds h fault
 fault_of_record limits ds h fault f = record {
@@ -163,7 +163,7 @@ fault_of_record limits ds h fault f = record {
   dead = λ alive _. f.dead alive;
 }
 
--- the fault by what is kept is the fault by the datasets
+-- The limit that a head exceeds, by the store, is that by the datasets.
 pub room_fault_is : (limits : Limits) (store : Store) (ds : List Dataset) (h : Head) → HasStored store (kept ds) []
     → room_fault limits (length store.octets.items) (vec_len store.entries) h ≡ limits_fault limits ds h
 room_fault_is limits store ds h holds =
@@ -171,13 +171,13 @@ room_fault_is limits store ds h holds =
     let first : length store.octets.items ≡ kept_octets ds = omega (arith, c.0) in
     ap (λ (n : ℕ). room_fault limits n (vec_len store.entries) h) first ∙ ap (λ (n : ℕ). room_fault limits (kept_octets ds) n h) c.1
 
--- the store after datasets
+-- The store after datasets.
 pub holds_after : (check : Option RecordPlace) (limits : Limits) (store : Store) (size : List ℕ) (ds : List Dataset) → IsStore store
     → StandsAfter (place_of check limits store size) ds → HasStored store (kept ds) []
 holds_after check limits store size ds is s =
     subst (HasStored store (kept ds)) (nothing_of_two (begun_octets store) size s.taken_are).0 (holds_kept store ds is s.kept_are)
 
--- the fault by these numbers of octets and datasets is the fault by the datasets
+-- The limit that a head exceeds, by these numbers of octets and datasets, is that by the datasets.
 pub room_is : {check : Option RecordPlace} {limits : Limits} {store : Store} {size : List ℕ} (octets fields : ℕ) (h : Head) (o : Option FieldFault)
     → IsReading check limits store size → octets ≡ length store.octets.items → fields ≡ vec_len store.entries → o ≡ room_fault limits octets fields h
     → (ds : List Dataset) → StandsAfter (place_of check limits store size) ds → limits_fault limits ds h ≡ o
@@ -228,13 +228,13 @@ reading_begun {check} {new} {limits} {store} {size} {h} r t on =
     let none = nothing_of_two (begun_octets store) size s.taken_are in
     record { room = r.room; store_is = r.store_is; stands = inr (inr (ds, h, [], on ds s)); in_store = λ _ _ _. none.1; in_size = λ _ _ _. none.0 }
 
--- ---- data
+-- ---- Data.
 
--- it stands in the begun dataset, and in no other
+-- The reader is in the dataset in progress, and in no other.
 in_begun : (f : FieldsPlace) (g : Head) → IsIn f.check g → (ds : List Dataset) (h : Head) (taken : List ℕ) → StandsIn f ds h taken → h ≡ g
 in_begun f g a ds h taken s = same_head h g (begun_head f.check) (head_in f.check h s.inside.1.head) (head_in f.check g a)
 
--- data were added
+-- Data were added.
 pub inside_more : {check : Option RecordPlace} {limits : Limits} {store : Store} {size : List ℕ} {f : FieldsPlace} (last : Store) (more xs : List ℕ)
     → IsReading check limits store size → place_of check limits store size ≡ f → begun_octets last ++ more ≡ (begun_octets store ++ size) ++ xs
     → CanTake f (length xs) → (h : Head) (n : ℕ) → IsInside f h n → IsInside (place_of check limits last more) h (n - length xs)
@@ -285,7 +285,7 @@ reading_more {check} {limits} {store} {last} {size} {more} xs head r kept_is tak
       in_size = λ h e none. in_size (rw (same_head h head (begun_head check) e begun) at none);
     }
 
--- a dataset that will be kept has its octets in the store
+-- The octets of a dataset that will be stored are in the store.
 pub in_store_alone : (store : Store) (size : List ℕ) → size ≡ [] → begun_octets store ++ size ≡ begun_octets store
 in_store_alone store size none = ap (λ (ys : List ℕ). begun_octets store ++ ys) none ∙ append-nil (begun_octets store)
 
@@ -298,11 +298,11 @@ taken_in_store old new size xs none octets entries is =
           ∙ ap (λ (ys : List ℕ). ys ++ xs) (sym (in_store_alone old size none))),
     )
 
--- the octets were taken into the size
+-- The octets were appended to the size.
 pub taken_in_size : (store : Store) (old new xs : List ℕ) → new ≡ old ++ xs → begun_octets store ++ new ≡ (begun_octets store ++ old) ++ xs
 taken_in_size store old new xs is = ap (λ (ys : List ℕ). begun_octets store ++ ys) is ∙ sym (append_assoc (begun_octets store) old xs)
 
--- a size has room for the octets
+-- A size has capacity for the octets.
 pub size_room : EachRowHasValues → {check : Option RecordPlace} {limits : Limits} {store : Store} {size : List ℕ} (k : ℕ) (head : Head)
     → IsReading check limits store size
     → CanTake (place_of check limits store size) k → begun_head check ≡ Some head → is_kept head.rec ≡ false → length size + k ≤ size_octets
@@ -316,9 +316,9 @@ size_room values {check} {limits} {store} {size} k head r (h, n, inside, other, 
     let bound = size_row h.rec h.set a.row (kept_or_tells h.rec h.set a.row a.known other (rw (← same) at not_kept)) a.known in
     omega (arith, inside.to_come other, fits, high, bound.1, ap (λ (ys : List ℕ). length (ys ++ size)) (r.in_size head is not_kept))
 
--- ---- the end of a dataset
+-- ---- The end of a dataset.
 
--- the limits after the dataset
+-- The limits after the dataset.
 pub within_closed : (limits : Limits) (ds : List Dataset) (h : Head) (d : Dataset) (b : Bool) → is_kept h.rec ≡ b → head_of d ≡ h
     → (is_kept h.rec ≡ true → IsWithin limits (kept_octets ds + h.count) (length (kept ds) + 1)) → IsWithin limits (kept_octets ds) (length (kept ds))
     → IsWithin limits (kept_octets (ds ++ d ∷ [])) (length (kept (ds ++ d ∷ [])))
@@ -336,7 +336,7 @@ within_closed limits ds h d false is head in_limits others =
     subst (λ (ks : List Dataset). IsWithin limits (length (joined ks)) (length ks))
     (sym (kept_other ds d (subst (λ (k : Head). is_kept k.rec ≡ false) (sym head) is))) others
 
--- what closes has taken all data of its dataset, unless that is a subfile
+-- A reader that may close its dataset has received all data of it, unless it is a subfile.
 pub closes_in : {f : FieldsPlace} {g : Head} → CanClose f → begun_head f.check ≡ Some g → IsIn f.check g × (g.rec ≢ 8 → length f.taken ≡ g.count)
 closes_in {f} {g} (h, n, inside, ended) is =
     let same : h ≡ g = same_head h g (begun_head f.check) (head_in f.check h inside.head) is in
@@ -346,7 +346,7 @@ closes_in {f} {g} (h, n, inside, ended) is =
     ] in
     (subst (IsIn f.check) same inside.head, subst (λ (k : Head). k.rec ≢ 8 → length f.taken ≡ k.count) same long)
 
--- a subfile ends
+-- A subfile ends.
 pub closed_subfile : {check new : Option RecordPlace} {limits : Limits} {f : FieldsPlace} {g : Head} (store : Store) (size : List ℕ)
     → place_of check limits store size ≡ f → IsIn check g → g.rec ≡ 8 → AwaitsHead new → ((ds : List Dataset) → HasChecked check ds → HasChecked new ds)
     → (ds : List Dataset) (h : Head) (taken : List ℕ) → StandsIn f ds h taken → (d : Dataset) → IsOf h taken d
@@ -368,7 +368,7 @@ closed_subfile {check} {limits = limits} {g = g} store size view a eight between
       ap (λ (r : ℕ). cond (tells_number r) (Some (Rattle.iim_dataset.specs.Format.Octets.number d.octets)) None) (sym d_eight),
     )
 
--- what was kept of a dataset that ended
+-- What was stored of a dataset that ended.
 pub data Kept (old : List Dataset) (d : Dataset) (new : List Dataset) : Type 0 where
   Added : is_kept d.rec ≡ true → new ≡ old ++ d ∷ [] → Kept old d new
   Passed : is_kept d.rec ≡ false → new ≡ old → Kept old d new
@@ -377,7 +377,7 @@ pub kept_now : (ds : List Dataset) (d : Dataset) (old new : List Dataset) → ol
 kept_now ds d old new is (Added keeps more) = more ∙ (ap (λ (ks : List Dataset). ks ++ d ∷ []) is ∙ sym (kept_more ds d keeps))
 kept_now ds d old new is (Passed passes same) = same ∙ (is ∙ sym (kept_other ds d passes))
 
--- the value was taken
+-- The value was accepted.
 pub stands_closed : {check new : Option RecordPlace} {limits : Limits} {store : Store} {size xs : List ℕ} {f : FieldsPlace} {g : Head} {number : Option ℕ}
     → (last : Store) (more : List ℕ) → IsReading check limits store size → place_of check limits store size ≡ f → IsIn check g → g.rec ≢ 8 → AwaitsHead new
     → xs ≡ begun_octets store ++ size → begun_octets last ++ more ≡ [] → Kept (fields_of store) (data_of g (begun_octets store ++ size)) (fields_of last)
@@ -409,7 +409,7 @@ stands_closed {check} {new} {limits} {store} {size} {xs} {g = g} last more r vie
       one.1 ∙ ap number_told x_is,
     )
 
--- the value was refused
+-- The value was rejected.
 pub refused_value : {check : Option RecordPlace} {limits : Limits} {store : Store} {size xs : List ℕ} {f : FieldsPlace} {g : Head} {fault : FieldFault}
     → IsReading check limits store size → place_of check limits store size ≡ f → IsIn check g → g.rec ≢ 8 → xs ≡ begun_octets store ++ size
     → ((ds : List Dataset) (h : Head) → IsChecking check ds h → IsValueFault ds (data_of h xs) fault) → (ds : List Dataset) (h : Head) (taken : List ℕ)
@@ -419,7 +419,7 @@ refused_value {check} {limits} {store} {size} {g = g} {fault} r view a g_other s
     let other : h.rec ≢ 8 = λ eight. g_other (ap (λ (k : Head). k.rec) (sym (in_begun (place_of check limits store size) g a ds h taken s)) ∙ eight) in
     subst (λ (ys : List ℕ). IsValueFault ds (data_of h ys) fault) (same ∙ s.taken_are) (on ds h (s.checked.checking other))
 
--- a dataset of the head, which has these data unless it is a subfile
+-- A dataset with this head, which has these data unless it is a subfile.
 data_for : (h : Head) (taken : List ℕ) → Octets taken → (h.rec ≢ 8 → length taken ≡ h.count) → (d : Dataset) × IsOf h taken d
 data_for h taken fit long = elim (eqb_tells h.rec 8) [
   | inl eight ↦ let (d, is, octets) = some_data h in (d, record { head = is; octets = octets; given = λ other. absurd (other eight.1) })
@@ -428,7 +428,7 @@ data_for h taken fit long = elim (eqb_tells h.rec 8) [
       (data_of h taken, record { head = (λ i. record { rec = h.rec; set = h.set; count = count i }); octets = fit; given = λ _. refl })
 ]
 
--- it stands somewhere after the value
+-- Some datasets reach the state after the value.
 pub somewhere_closed : {f new : FieldsPlace} {g : Head} {number : Option ℕ} → (f.check ≡ None) ⊎ StandsSomewhere f → IsIn f.check g
     → (g.rec ≢ 8 → length f.taken ≡ g.count) → ((ds : List Dataset) (h : Head) (taken : List ℕ) → StandsIn f ds h taken → (d : Dataset) → IsOf h taken d
     → StandsAfter new (ds ++ d ∷ []) × (number ≡ number_told d)) → StandsSomewhere new
@@ -439,7 +439,7 @@ somewhere_closed {f} {g = g} stands a all on =
     subst (λ (k : Head). k.rec ≢ 8 → length taken ≡ k.count) (sym same) (subst (λ (ys : List ℕ). g.rec ≢ 8 → length ys ≡ g.count) s.taken_are all) in
     let d = data_for h taken s.octets long in inl (ds ++ d.0 ∷ [], (on ds h taken s d.0 d.1).0)
 
--- nothing is begun
+-- No dataset is in progress.
 no_head : (check : Option RecordPlace) → AwaitsHead check → (h : Head) → begun_head check ≡ Some h → ⊥
 no_head check t h e = let clash = sym e ∙ none_between check t in cc
 
@@ -452,7 +452,7 @@ kept_in_store old new size h none is keeps octets entries =
       in_store_alone new size none ∙ begun_held new _ [] holds,
     )
 
--- nothing is begun
+-- No dataset is in progress.
 pub reading_between : {check : Option RecordPlace} {limits : Limits} {store : Store} {size : List ℕ} → HasRoom limits store → IsStore store → AwaitsHead check
     → StandsSomewhere (place_of check limits store size) → IsReading check limits store size
 reading_between {check} room is t somewhere = record {
@@ -471,7 +471,7 @@ reading_kept {limits = limits} {old} {new} h r t octets entries capacity somewhe
     let room : HasRoom limits new = omega (arith, r.room, ap (λ v. v.room) octets, capacity) in
     reading_between room (store_is new _ [] (keeps_holds h.rec h.set r.store_is octets entries)) t somewhere
 
--- there is room for one entry more
+-- There is capacity for one more entry.
 pub entry_room : {check : Option RecordPlace} {limits : Limits} {store : Store} {size : List ℕ} {h : Head} → IsReading check limits store size → IsIn check h
     → is_kept h.rec ≡ true → vec_len store.entries < vec_capacity store.entries
 entry_room {check} {limits} {store} {size} {h} r a keeps =
@@ -480,7 +480,7 @@ entry_room {check} {limits} {store} {size} {h} r a keeps =
     let w = s.within (ap (λ (k : Head). is_kept k.rec) same ∙ keeps) in
     let c = counts store (kept ds) (begun_octets store) (holds_kept store ds r.store_is s.kept_are) in omega (arith, c.1, w.fields_in, r.room.entries)
 
--- ---- the section
+-- ---- The current record.
 
 pub section_in : (f : FieldsPlace) (ds : List Dataset) (h : Head) (taken : List ℕ) → StandsIn f ds h taken → section_of f ≡ h.rec
 section_in f ds h taken s =
@@ -497,7 +497,7 @@ section_in f ds h taken s =
           ap section_at c.inside ∙ ((c.tells d is).present ∙ (present_more ds d ∙ ap (λ (k : Head). k.rec) is))
     ]
 
--- ---- the begun head
+-- ---- The head of the dataset in progress.
 
 pub begun_in : (f : FieldsPlace) (ds : List Dataset) (h : Head) (taken : List ℕ) → StandsIn f ds h taken → begun_head_of f ≡ Some h
 begun_in f ds h taken s = ap begun_head s.inside.1.head.inside

@@ -1,16 +1,16 @@
--- A whole subfile: where its head may stand, and what it leads to.
+-- A complete subfile: when its head may come next, and which state it reaches.
 use Rattle.std.proofs.Common.{◌≡◌, ℕ, Bool, true, false, ◌&&◌, ◌||◌, nat_eq, nat_le, List, [], ◌∷◌, ◌++◌, length, Option, Some, None, refl, ap, sym, ◌∙◌, inl, arith}
 use Rattle.iim_fields.proofs.Words.{AwaitsHead, FieldsPlace, limits_of, kept, nat_tests, vec_len, is_none, option_or, Dataset, Head, table, row_of, head_fault, record_fault, first_fault, row_fault, is_kept, kept_octets, HasChecked, StandsAfter, PassesSubfile, place_of, IsReading, Limits, FieldFault, Store, Begun, RecordPlace, HasTaken, IsIn, Octets, greatest_size, head_of, missing_of, occurs, section_after, section_run}
 use Rattle.iim_fields.proofs.{Sections.one_of, Sections.some_data, Dies.no_fault_parts, Wholes.no_limit, Wholes.none_where, Checking.checked_as}
 use Rattle.iim_fields.proofs.Stand.{between_after, stands_in, closed_subfile, reading_between}
 
--- ---- where its head may stand
+-- ---- When its head may come next.
 
--- the number is that of a subfile, and the count one that a size can be
+-- the number is that of a subfile, and the count at most the greatest size
 abbrev counts_subfile : ℕ → ℕ → Bool
 counts_subfile set count = nat_eq set 10 && nat_le count greatest_size
 
--- record 8 is the present one; or record 7 is, and nothing of it is missing
+-- record 8 is the current one; or record 7 is, and nothing of it is missing
 abbrev may_follow : ℕ → (ℕ → Bool) → Bool
 may_follow p has = nat_eq p 8 || (nat_eq p 7 && is_none (missing_of 7 has))
 
@@ -20,7 +20,7 @@ row_admits again set count =
     one_of (λ s. is_none (row_fault again (row_of 8 s) (record { rec = 8; set = s; count = count })) ≡ counts_subfile s count) set (10 ∷ [])
     (grind (arith, nat_tests), tt) (λ not. rw (not.0.0, not.0.1) refl)
 
--- record 8 follows no other record than 7, or more of it comes
+-- A subfile may come next exactly in record 8, or after a complete record 7.
 admitted_at : (p : ℕ) (has : ℕ → Bool) (set count : ℕ)
     → (counts_subfile set count && may_follow p has) ≡ is_none (head_fault p has (record { rec = 8; set = set; count = count }))
 admitted_at p has set count =
@@ -37,9 +37,9 @@ subfile_admitted p has h eight = admitted_at p has h.set h.count ∙ (λ i. is_n
   count = h.count;
 })))
 
--- ---- the records
+-- ---- The records.
 
--- a whole subfile of the head leads from one check to the other
+-- a complete subfile with this head takes one check to the other
 abbrev pub Leads : Option RecordPlace → Head → Option RecordPlace → Type 0
 Leads old h new = (ds : List Dataset) → HasChecked old ds → (d : Dataset) → head_of d ≡ h → Octets d.octets → HasChecked new (ds ++ d ∷ [])
 
@@ -54,7 +54,7 @@ fields_exactly {limits = limits} h r view eight exactly ds s =
     or_nothing : (r : Option FieldFault) → is_none r ≡ is_none (option_or r None)
     or_nothing r = grind arith
 
--- in the subfile the check has the order of the place after it
+-- In the subfile, the order of the check is that of the state after it.
 pub fields_pass : {check new : Option RecordPlace} {limits : Limits} {store : Store} {size : List ℕ} {f : FieldsPlace} {h : Head} {b : Bool}
     → IsReading check limits store size → place_of check limits store size ≡ f → AwaitsHead f.check
     → ((ds : List Dataset) → HasChecked check ds → b ≡ is_none (record_fault ds h)) → b ≡ true → Leads check h new → AwaitsHead new → h.rec ≡ 8

@@ -1,11 +1,11 @@
--- What the table says of the records of an envelope.
+-- What the table determines of the records of an envelope.
 use Rattle.std.proofs.Common.{not, ◌≡◌, ◌≢◌, ℕ, ◌<◌, ◌≤◌, ◌⊎◌, Bool, true, false, ◌&&◌, ◌||◌, cond, nat_eq, List, [], ◌∷◌, length, map, Option, Some, None, refl, ap, sym, ◌∙◌, inl, inr, arith, subst}
 use Rattle.iim_fields.proofs.Words.{ne_eqb, cases_Bool, true_from_ne_false, nat_tests, AllByRecursion, list_all, filter, find, option_or, option_map, is_kept, is_first, value_fault, fault_by_row, missing_fault, missing_of, and_parts, or_cases, eqb-true, is_none, IsOctet, within, Dataset, head_of, Head, size_octets, has_kind, tells_number, data_of, table, row_of, row_of_others, Meets, is_admitted, HasValue, mandatory, has_to_occur, has_file_format, IsGoodDataset, Row, after}
 use Rattle.iim_fields.proofs.Sections.{by_record, one_of}
 use Rattle.iim_fields.specs.declared.fault.FieldCause.TheVariants as causes
 use Rattle.iim_tables.specs.declared.shape.Kind.TheVariants as kinds
 
--- something is told where a test fails, and else what later tests tell: nothing is told exactly where each test is passed
+-- A test with a fault, and then later tests: there is no fault exactly if each test passes.
 pub passed : {A : Type 0} (b : Bool) (told : A) (later : Option A) → cond (not b) (Some told) later ≡ None → (b ≡ true) × (later ≡ None)
 passed b told later none = grind arith
 
@@ -21,7 +21,7 @@ mandatory_numbers r =
     (cond (nat_eq r 8) (10 ∷ [])
     (cond (nat_eq r 9) (10 ∷ []) []))))
 
--- they are octets
+-- The mandatory numbers are octets.
 numbers_octets : (r : ℕ) → AllByRecursion IsOctet (mandatory_numbers r)
 numbers_octets r = by_record (λ m. AllByRecursion IsOctet (mandatory_numbers m)) r (omega arith) (omega arith) (omega arith) (omega arith) (omega arith)
     (λ not1 not2 not7 not8 not9. rw (not1, not2, not7, not8, not9) tt)
@@ -33,11 +33,11 @@ all_in_five : list_all (λ e. in_five e.rec) table ≡ true
 unfolding table in_five
 all_in_five = refl
 
--- a record that is none of the five is none of the table's
+-- A record that is not one of the five is not one of the table.
 apart : (r n : ℕ) → in_five r ≡ false → in_five n ≡ true → nat_eq n r ≡ false
 apart r n other five = ne_eqb n r (λ same. let bad = rw same at five in cc)
 
--- none has the record
+-- No entry has the record.
 none_of : {E : Type 0} (rec : E → ℕ) (must : E → Bool) (r : ℕ) → in_five r ≡ false → (es : List E) → list_all (λ e. in_five (rec e)) es ≡ true
     → filter (λ e. nat_eq (rec e) r && must e) es ≡ []
 none_of rec must r other [] all = refl
@@ -54,9 +54,9 @@ mandatory_is r = by_record (λ m. mandatory m ≡ mandatory_numbers m) r refl re
     let none : mandatory_numbers r ≡ [] = rw (not1, not2, not7, not8, not9) refl in
     mandatory_others r (rw (not1, not2, not7, not8, not9) refl) ∙ sym none)
 
--- ---- the records in order
+-- ---- The records in order.
 
--- what is known of the records after one
+-- the records after one: none, or a next one that must have datasets, and those after it
 abbrev pub Next : List ℕ → Type 0
 Next rs = (rs ≡ []) ⊎ ((r : ℕ) × (rs ≡ r ∷ after r) × (0 < length (mandatory_numbers r)))
 
@@ -67,11 +67,11 @@ next_of r =
     (inr (1, refl, omega arith), (inr (2, refl, omega arith), (inr (7, refl, omega arith), (inr (8, refl, omega arith), last))))
     (λ not. rw (not.0.1, not.1.0.1, not.1.1.0.1, not.1.1.1.0.1, not.1.1.1.1.0.1, not.1.1.1.1.1.0.1) (inl refl))
 
--- no record comes after itself
+-- No record comes after itself.
 pub not_after_itself : (r s : ℕ) → after r ≡ s ∷ after s → r ≡ s → ⊥
 not_after_itself r s e same = omega (arith, ap (λ (q : ℕ). length (after q)) same, ap length e)
 
--- ---- values
+-- ---- Values.
 
 -- the dataset of that row has data of its least length
 abbrev fits_least : Option Row → Bool
@@ -84,11 +84,11 @@ least_fit r = by_record (λ m. AllByRecursion (λ n. fits_least (row_of m n) ≡
     (refl, (refl, (refl, (refl, (refl, (refl, tt)))))) (refl, tt) (refl, (refl, tt)) (refl, tt) (refl, tt)
     (λ not1 not2 not7 not8 not9. rw (not1, not2, not7, not8, not9) tt)
 
--- each number of octets that a row allows is that of some that meet it
+-- For each length that a row allows, some octets of that length meet it.
 abbrev pub EachRowHasValues : Type 0
 EachRowHasValues = (rec set n : ℕ) (r : Row) → row_of rec set ≡ Some r → within r.min r.max n ≡ true → HasValue rec set n
 
--- the row of 1:20
+-- The bounds of the row of 1:20.
 pub file_format_bounds : (row : Row) → row_of 1 20 ≡ Some row → (row.min ≡ 2) × (row.max ≡ 2)
 unfolding row_of table
 file_format_bounds row e = (cc, cc)
@@ -97,11 +97,11 @@ file_format_meets : Meets 1 20 (0 ∷ 2 ∷ [])
 unfolding row_of table
 file_format_meets = refl
 
--- the row of a head, where its record and number are known
+-- The row of a head whose record and number are known.
 known_at : (r s : ℕ) (h : Head) (row : Row) → row_of h.rec h.set ≡ Some row → h.rec ≡ r → h.set ≡ s → row_of r s ≡ Some row
 known_at r s h row known first second = subst (λ (n : ℕ). row_of r n ≡ Some row) second (subst (λ (n : ℕ). row_of n h.set ≡ Some row) first known)
 
--- good data for a head that its row allows
+-- Good data for a head that its row allows.
 pub value_for : EachRowHasValues → (h : Head) (row : Row) → IsOctet h.set → row_of h.rec h.set ≡ Some row → within row.min row.max h.count ≡ true
     → (d : Dataset) × (head_of d ≡ h) × IsGoodDataset d
 value_for values h row small e fits =
@@ -142,14 +142,14 @@ samples_by values r (n ∷ ns) small h = (sample_by values r n (row_of r n) smal
 pub samples : EachRowHasValues → (r : ℕ) → AllByRecursion (HasSample r) (mandatory r)
 samples values r = subst (AllByRecursion (HasSample r)) (sym (mandatory_is r)) (samples_by values r (mandatory_numbers r) (numbers_octets r) (least_fit r))
 
--- record 0 has no datasets
+-- Record 0 has no datasets.
 pub no_row : (n : ℕ) → row_of 0 n ≡ None
 unfolding row_of table
 no_row n = refl
 
--- ---- rows of sizes
+-- ---- Rows of sizes.
 
--- the rows of records 7 and 9 bound sizes
+-- the rows of the dataset bound sizes
 abbrev BoundsSize : ℕ → ℕ → Type 0
 BoundsSize rec set = (row : Row) → row_of rec set ≡ Some row → (1 ≤ row.min) × (row.max ≤ size_octets)
 
@@ -168,7 +168,7 @@ size_row rec set row tells known = elim (or_cases (nat_eq rec 7) (nat_eq rec 9) 
   | inr nine ↦ sizes_of_nine set row (rw (eqb-true rec 9 nine) at known)
 ]
 
--- what is admitted is as long as the row says
+-- Octets that a row accepts are as long as it allows.
 pub admitted_length : (row : Row) (xs : List ℕ) → is_admitted row xs ≡ true → (row.min ≤ length xs) × (length xs ≤ row.max)
 admitted_length row xs h = grind (arith, nat_tests)
 
@@ -177,12 +177,12 @@ pub file_format_length : (h : Head) (row : Row) (xs : List ℕ) → row_of h.rec
 file_format_length h row xs known long first format =
     let bounds = file_format_bounds row (known_at 1 20 h row known first format) in omega arith
 
--- a value in the row's bounds has a fault of its kind, or one of its file format
+-- A value within the bounds of its row has a fault of its kind or of its file format, or none.
 pub fault_in_bounds : (h : Head) (row : Row) (xs : List ℕ) → row_of h.rec h.set ≡ Some row → (row.min ≤ length xs) × (length xs ≤ row.max)
     → (has_kind row.kind xs && has_file_format (data_of h xs)) ≡ is_none (value_fault (data_of h xs))
 fault_in_bounds h row xs known (low, high) = rw known (grind (arith, nat_tests))
 
--- ---- which records have rows
+-- ---- Which records have rows.
 
 find_none : {E : Type 0} (rec set : E → ℕ) (r n : ℕ) → in_five r ≡ false → (es : List E) → list_all (λ e. in_five (rec e)) es ≡ true
     → find (λ e. nat_eq (rec e) r && nat_eq (set e) n) es ≡ None
@@ -203,21 +203,21 @@ no_other_row r n other =
 five : (r n : ℕ) (row : Row) → row_of r n ≡ Some row → in_five r ≡ true
 five r n row known = true_from_ne_false (in_five r) (λ is. let none = no_other_row r n is in cc)
 
--- no row is of record 0
+-- No row is of record 0.
 pub not_record0 : (r n : ℕ) (row : Row) → row_of r n ≡ Some row → nat_eq r 0 ≡ false
 not_record0 r n row known = ne_eqb r 0 (λ is. let none = no_row n in let bad = rw is at known in cc)
 
--- no record comes first of those after itself
+-- No record is the first of those after itself.
 pub first_self : (r : ℕ) → is_first r (after r) ≡ false
 first_self r = one_of (λ m. is_first m (after m) ≡ false) r (0 ∷ 1 ∷ 2 ∷ 7 ∷ 8 ∷ 9 ∷ []) (refl, (refl, (refl, (refl, (refl, (refl, tt))))))
     (λ not. rw (not.0.1, not.1.0.1, not.1.1.0.1, not.1.1.1.0.1, not.1.1.1.1.0.1, not.1.1.1.1.1.0.1) refl)
 
--- a record with a row is kept, is the object's, or tells numbers
+-- A record with a row is stored, is the object's, or its values are numbers.
 pub kept_or_tells : (r n : ℕ) (row : Row) → row_of r n ≡ Some row → (r ≢ 8) → is_kept r ≡ false → tells_number r ≡ true
 unfolding in_five
 kept_or_tells r n row known not8 not_kept = let some = five r n row known in grind (arith, nat_tests)
 
--- what is admitted of the rows of sizes is as long as a size
+-- A value that is a size and meets its row is as long as a size.
 pub size_length : (h : Head) (row : Row) (xs : List ℕ) → row_of h.rec h.set ≡ Some row → value_fault (data_of h xs) ≡ None → tells_number h.rec ≡ true
     → (1 ≤ length xs) × (length xs ≤ size_octets)
 size_length h row xs known none tells =
@@ -225,12 +225,12 @@ size_length h row xs known none tells =
     let shown : fault_by_row (Some row) (data_of h xs) ≡ None = subst (λ (o : Option Row). fault_by_row o (data_of h xs) ≡ None) known none in
     let long = admitted_length row xs (passed (is_admitted row xs) _ _ shown).0 in (omega arith, omega arith)
 
--- subfiles may have any octets
+-- Subfiles may have any octets.
 pub object_kind : (set : ℕ) (row : Row) → row_of 8 set ≡ Some row → row.kind ≡ kinds.Octets
 unfolding row_of table
 object_kind set = one_of (λ s. (row : Row) → row_of 8 s ≡ Some row → row.kind ≡ kinds.Octets) set (10 ∷ []) ((λ row known. cc), tt)
     (λ not row known. let none = rw not.0.0 at known in absurd cc)
 
--- an envelope without record 2 lacks 2:00
+-- An envelope without record 2 lacks 2:00.
 pub no_application_fault : missing_fault 2 (missing_of 2 (λ _. false)) ≡ Some (record { rec = 2; set = 0; cause = causes.Missing })
 no_application_fault = ap (λ (ns : List ℕ). missing_fault 2 (find (λ n. true) ns)) (mandatory_is 2)

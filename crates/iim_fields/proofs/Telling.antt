@@ -1,4 +1,4 @@
--- The first fault is that of the cause of the lowest number whose condition holds.
+-- The first fault has the cause with the lowest number whose condition holds.
 use Rattle.std.proofs.Common.{◌≡◌, ◌≢◌, ℕ, ◌+◌, ◌<◌, ◌≤◌, ◌⊎◌, Bool, true, false, not, ◌&&◌, cond, nat_eq, nat_le, List, [], ◌∷◌, length, refl, ap, sym, ◌∙◌, inl, inr, arith, subst, Option, Some, None, Decides}
 use Rattle.iim_fields.specs.Format.Causes.{Token, BeginsNext, IsOutOfOrder, IsRepeated, IsOutOfRange, IsAbsent, number_of_cause, HasCause, Names, IsFault, HasNoFault, head_at}
 use Rattle.iim_fields.specs.Format.Causes.Token.{AtHead, AtValue}
@@ -6,9 +6,9 @@ use Rattle.iim_fields.specs.declared.fault.FieldCause.{FieldCause}
 use Rattle.iim_fields.proofs.Words.{cases_lt, false_from_ne_true, nat_tests, record_fault, find, list_any, option_or, or_cases, or_right, eq-eqb, within, Dataset, Head, row_of, is_admitted, Row, after, mandatory, occurs, has_file_format, section_after, section_run, is_first, is_in_order, fault_on, row_fault, missing_fault, missing_of, is_kept, kept, kept_octets, limits_fault, first_fault, value_fault, fault_by_row, IsFaultIfAny, HeadsTellTheLowestCause, ValuesTellTheLowestCause, Limits, FieldFault, RecordOrder, UnknownDataset, Repeated, CountRange, Missing, BadValue, FileFormat, HeaderFull, TooManyFields, repeats_as, meets_as, admitted_as, none_meets}
 use Rattle.iim_fields.proofs.{Sections.by_record, Table.passed, Table.mandatory_is, Table.mandatory_numbers, Dies.next_is}
 
--- ---- one fault at most
+-- ---- At most one fault.
 
--- causes of one number are one: of each two
+-- Causes with the same number are the same cause: of each two.
 same_cause : (c e : FieldCause) → number_of_cause c ≡ number_of_cause e → c ≡ e
 same_cause RecordOrder RecordOrder same = refl
 same_cause one other same = grind arith
@@ -25,7 +25,7 @@ one_fault limits ds t f g is also =
     let both = one_name f.cause ds t f.rec f.set g.rec g.set is.names (subst (λ (c : FieldCause). Names c ds t g.rec g.set) (sym same) also.names) in
     λ i. record { rec = both.0 i; set = both.1 i; cause = same i }
 
--- ---- the conditions of a head
+-- ---- The conditions of a head.
 
 begins : (ds : List Dataset) (h : Head) → BeginsNext ds h → is_first h.rec (after (section_after ds)) ≡ true
 begins ds h (later, is) = ap (is_first h.rec) is ∙ eq-eqb h.rec h.rec refl
@@ -43,7 +43,7 @@ out_of_order ds h = (
   λ out. ap not (false_from_ne_true _ (λ is. out (in_order ds h is))),
 )
 
--- the present record has a dataset of the number
+-- the current record has a dataset of the number
 abbrev has_come : List Dataset → ℕ → Bool
 has_come ds n = occurs n (section_run ds)
 
@@ -54,7 +54,7 @@ repeated ds h row known = let same = repeats_as h.rec h.set (Some row) known in 
 out_of_range : (h : Head) (row : Row) → row_of h.rec h.set ≡ Some row → Decides (not (within row.min row.max h.count)) (IsOutOfRange h)
 out_of_range h row known = rw known (grind (arith, nat_tests))
 
--- ---- what is missing
+-- ---- What is missing.
 
 -- the numbers rise, and none is below `low`
 abbrev Rise : ℕ → List ℕ → Type 0
@@ -69,7 +69,7 @@ not_below : (low m : ℕ) (ns : List ℕ) → Rise low ns → list_any (λ k. na
 not_below low m [] rise h = absurd cc
 not_below low m (n ∷ ns) rise h = let later = not_below n m ns rise.1 in grind (arith, nat_tests)
 
--- what is found is one of them that did not occur, and none below it is one
+-- The result is one of the numbers that did not occur, and none below it is one.
 record IsLeast (has : ℕ → Bool) (ns : List ℕ) (n : ℕ) : Type 0 where
   one : list_any (λ m. nat_eq m n) ns ≡ true
   absent : has n ≡ false
@@ -93,42 +93,42 @@ none_absent has [] m none some = absurd cc
 none_absent has (x ∷ ns) m none some =
     let parts = passed (has x) x (find (λ n. not (has n)) ns) none in let later = none_absent has ns m parts.1 in grind (arith, nat_tests)
 
--- ---- what tests tell
+-- ---- Tests one after another.
 
 module _ (limits : Limits) (ds : List Dataset) where
   -- no condition of a cause below k holds
   abbrev Below : Token → ℕ → Type 0
   Below t k = (c : FieldCause) → number_of_cause c < k → HasCause c limits ds t → ⊥
 
-  -- what is told is the fault; or nothing is, and no condition of a cause below k holds
+  -- the result is the fault; or it is `None`, and no condition of a cause below k holds
   abbrev IsTold : Token → ℕ → Option FieldFault → Type 0
   IsTold t k None = Below t k
   IsTold t k (Some f) = IsFault limits ds t f
 
-  -- where no condition of a cause below m holds, that is told of the causes below n
+  -- If no condition of a cause below m holds, the result is that for the causes below n.
   record Tells (t : Token) (m n : ℕ) (o : Option FieldFault) : Type 0 where
     told : Below t m → IsTold t n o
 
-  -- a cause whose condition does not hold is passed
+  -- A cause whose condition does not hold is skipped.
   past : (t : Token) (c : FieldCause) → Below t (number_of_cause c) → (HasCause c limits ds t → ⊥) → Below t (number_of_cause c + 1)
   past t c below none e low holds = elim (cases_lt (number_of_cause e) (number_of_cause c)) [
     | inl less ↦ below e less holds
     | inr same ↦ none (subst (λ (x : FieldCause). HasCause x limits ds t) (same_cause e c (omega arith)) holds)
   ]
 
-  -- a test of one cause, and then others
+  -- A test of one cause, and then others.
   test : {t : Token} {n : ℕ} {rest : Option FieldFault} (c : FieldCause) (b : Bool) → Decides b (HasCause c limits ds t)
       → Names c ds t (head_at t).rec (head_at t).set → Tells t (number_of_cause c + 1) n rest
       → Tells t (number_of_cause c) n (cond b (Some (fault_on (head_at t) c)) rest)
   test c true d names later = record { told = λ low. record { holds = d.0 refl; lowest = low; names = names } }
   test {t} c false d names later = record { told = λ low. later.told (past t c low (λ holds. let yes = d.1 holds in cc)) }
 
-  -- tests, and then others where these tell nothing
+  -- Tests, and then others if these have no fault.
   both : {t : Token} {m k n : ℕ} (o p : Option FieldFault) → Tells t m k o → Tells t k n p → Tells t m n (option_or o p)
   both None p first second = record { told = λ low. second.told (first.told low) }
   both (Some f) p first second = record { told = first.told }
 
-  -- ---- heads
+  -- ---- Heads.
 
   row_told : (h : Head) (o : Option Row) → row_of h.rec h.set ≡ o
       → Tells (AtHead h) 11 14 (row_fault (nat_eq h.rec (section_after ds) && has_come ds h.set) o h)
@@ -152,7 +152,7 @@ module _ (limits : Limits) (ds : List Dataset) where
       let all = λ (m : ℕ) (is : IsAbsent ds m). least.least m is.mandatory is.absent in
       record { told = λ low. record { holds = ((after h.rec, next), (n, absent)); lowest = low; names = (refl, absent, all) } }
 
-  -- a limit is passed only by what is kept
+  -- Only a dataset that is stored exceeds a limit.
   kept_told : (h : Head) (b : Bool) (rest : Option FieldFault) → is_kept h.rec ≡ b → (is_kept h.rec ≡ true → Tells (AtHead h) 50 52 rest)
       → Tells (AtHead h) 50 52 (cond (not b) None rest)
   kept_told h true rest is kept = kept is
@@ -163,7 +163,7 @@ module _ (limits : Limits) (ds : List Dataset) where
       test HeaderFull (not (nat_le (kept_octets ds + h.count) limits.octets)) (grind (arith, nat_tests)) (refl, refl)
       (test TooManyFields (not (nat_le (length (kept ds) + 1) limits.fields)) (grind (arith, nat_tests)) (refl, refl) (record { told = λ low. low })))
 
-  -- the causes of values are none of a head
+  -- The causes of values are not causes of a head.
   to_limits : (h : Head) → Below (AtHead h) 15 → Below (AtHead h) 50
   to_limits h below BadValue low holds = holds
   to_limits h below FileFormat low holds = holds
@@ -174,9 +174,9 @@ module _ (limits : Limits) (ds : List Dataset) where
       (test RecordOrder _ (out_of_order ds h) (refl, refl) (both _ _ (row_told h _ refl) (early_told h _ _ refl refl)))
       (record { told = λ low. (room_told h).told (to_limits h low) })
 
-  -- ---- values
+  -- ---- Values.
 
-  -- the causes of heads are none of a value
+  -- The causes of heads are not causes of a value.
   to_values : (d : Dataset) → Below (AtValue d) 15
   to_values d BadValue low holds = absurd (omega arith)
   to_values d FileFormat low holds = absurd (omega arith)
@@ -194,7 +194,7 @@ module _ (limits : Limits) (ds : List Dataset) where
         (test FileFormat (not (has_file_format d)) (grind (arith, nat_tests)) (refl, refl) (record { told = past_values d }))).told (to_values d);
   }
 
-  -- ---- both ways
+  -- ---- Both directions.
 
   tells : (t : Token) (o : Option FieldFault) → Tells t 10 52 o → IsFaultIfAny o limits ds t
   tells t None s =

@@ -1,4 +1,4 @@
--- A whole dataset, taken at once, and those of records 7 and 9 that may come.
+-- A complete dataset, accepted in one call, and those of records 7 and 9 that may come next.
 use Rattle.std.proofs.Common.{◌&&◌, ◌≡◌, ℕ, ◌<◌, ◌≤◌, List, [], ◌∷◌, ◌++◌, length, ◌⊎◌, refl, ap, sym, subst, ◌∙◌, inl, arith, Bool, true, false, Option, Some, None}
 use Rattle.iim_fields.proofs.Words.{nat_tests, AwaitsHead, FieldsPlace, limits_of, HasStored, fields_of, HasRoom, kept, nothing_of_two, vec_len, is_none, option_or, Dataset, head_of, Head, head_fault, record_fault, limits_fault, first_fault, value_fault, room_fault, is_kept, kept_octets, add_fault, has_seen, AddsHead, data_of, HasChecked, StandsAfter, place_fault, begun_octets, place_of, IsReading, Limits, FieldFault, Store, RecordPlace, IsBetween, Octets, MayTake, Admits, Spells}
 use Rattle.iim_fields.proofs.{Table.EachRowHasValues, Checking.told_at, Checking.record_fault_is, Checking.none_begun, Checking.checked_more, Numbers.and_true}
@@ -8,16 +8,16 @@ use Rattle.iim_fields.proofs.Stand.{IsStore, Kept, begun_held, between_after, co
 pub none_where : {X : Type 0} (o : Option X) → is_none o ≡ true → o ≡ None
 none_where o e = grind arith
 
--- of two faults, neither is told
+-- If the first of two faults is `None`, both are.
 neither : (a b : Option FieldFault) → option_or a b ≡ None → (a ≡ None) × (b ≡ None)
 neither a b e = grind arith
 
--- ---- the check
+-- ---- The check.
 
 same_head : (h : Head) (xs : List ℕ) → h.count ≡ length xs → h ≡ head_of (data_of h xs)
 same_head h xs count = λ i. record { rec = h.rec; set = h.set; count = count i }
 
--- the dataset was taken, which has no fault at the place
+-- The dataset was accepted: it has no fault in the state.
 pub took_by : EachRowHasValues → (old new : RecordPlace) (h : Head) (xs : List ℕ) → h.set < 256 → AwaitsHead (Some old) → h.count ≡ length xs → Octets xs
     → place_fault old h xs ≡ None → AddsHead old.order h new.order → new.begun ≡ old.begun → (ds : List Dataset) → HasChecked (Some old) ds
     → HasChecked (Some new) (ds ++ data_of h xs ∷ [])
@@ -26,18 +26,19 @@ took_by values old new h xs small between count octets clear adds begun ds s =
     checked_more values old new h None (begun ∙ none_begun old between) tt small adds none.0 ds s (data_of h xs) (sym (same_head h xs count)) octets
     (λ _. none.1)
 
--- the fault by the place is the fault by the datasets
+-- The fault by the state is the fault by the datasets.
 pub exactly_by : (old : RecordPlace) (h : Head) (xs : List ℕ) (b : Bool) → b ≡ is_none (place_fault old h xs) → (ds : List Dataset)
     → HasChecked (Some old) ds → b ≡ is_none (option_or (record_fault ds h) (value_fault (data_of h xs)))
 exactly_by old h xs b is ds s =
     is ∙ ap (λ (o : Option FieldFault). is_none (option_or o (value_fault (data_of h xs)))) (record_fault_is old.order ds h (told_at old ds s))
 
--- ---- what a whole dataset is refused for
+-- ---- Why a complete dataset is rejected.
 
 room_told : (r l v : Option FieldFault) → is_none (option_or (option_or r l) v) ≡ (is_none (option_or r v) && is_none l)
 room_told r l v = grind arith
 
--- what is kept is taken exactly where the record layer has no fault and no limit is passed
+-- A dataset that is stored is accepted exactly if the record layer has no fault and no limit is
+-- exceeded.
 pub whole_exact : {check : Option RecordPlace} {limits : Limits} {store : Store} {size : List ℕ} {f : FieldsPlace} (octets fields : ℕ) (h : Head)
     → (xs : List ℕ) → IsReading check limits store size → place_of check limits store size ≡ f → octets ≡ length store.octets.items
     → fields ≡ vec_len store.entries → h.count ≡ length xs → is_kept h.rec ≡ true → (ds : List Dataset) → StandsAfter f ds
@@ -51,16 +52,16 @@ whole_exact {limits = limits} octets fields h xs r view long few count keeps ds 
     ∙ ((λ i. is_none (option_or (option_or (record_fault ds (head i)) (limits_fault limits ds (head i))) (value_fault d)))
     ∙ rw (← room) (room_told (record_fault ds h) (limits_fault limits ds h) (value_fault d))))
 
--- ---- the records
+-- ---- The records.
 
--- between datasets, what is kept is within the limits
+-- Between datasets the stored octets are within the limits.
 pub octets_within : {check : Option RecordPlace} {limits : Limits} {store : Store} {size : List ℕ} → IsReading check limits store size → AwaitsHead check
     → length store.octets.items ≤ limits.octets
 octets_within {check} {limits} {store} {size} r between =
     let (ds, s) = between_after (place_of check limits store size) r.stands between in
     let c = counts store (kept ds) [] (holds_after check limits store size ds r.store_is s) in omega (arith, c.0, s.within.octets_in)
 
--- a whole dataset was taken: what is kept of it is what a store now has more
+-- A complete dataset was accepted: the store has what is stored of it.
 pub stands_whole : {check new : Option RecordPlace} {limits : Limits} {store : Store} {size : List ℕ} {f : FieldsPlace} (last : Store) (h : Head)
     → (xs : List ℕ) → IsReading check limits store size → place_of check limits store size ≡ f
     → ((ds : List Dataset) → HasChecked check ds → HasChecked new (ds ++ data_of h xs ∷ [])) → AwaitsHead new
@@ -89,25 +90,25 @@ pub reading_whole : {check new : Option RecordPlace} {limits : Limits} {store la
 reading_whole {check} {new} {limits} {store} {last} {size} d r between next room is on =
     let (ds, s) = between_after (place_of check limits store size) r.stands between in reading_between room is next (inl (ds ++ d ∷ [], on ds s))
 
--- the store has a dataset more, which is kept
+-- The store has one dataset more.
 pub kept_whole : (old new : Store) (size : List ℕ) (d : Dataset) → is_kept d.rec ≡ true → HasStored new (fields_of old ++ d ∷ []) []
     → begun_octets old ++ size ≡ [] → Kept (fields_of old) d (fields_of new) × (begun_octets new ++ size ≡ [])
 kept_whole old new size d keeps holds nothing =
     let none = nothing_of_two (begun_octets old) size nothing in
     (Added keeps (fields_held new _ [] holds), (λ i. begun_held new _ [] holds i ++ none.1 i))
 
--- between datasets none is begun
+-- Between datasets none is in progress.
 pub none_between : {check : Option RecordPlace} {limits : Limits} {store : Store} {size : List ℕ} → IsReading check limits store size → AwaitsHead check
     → begun_octets store ≡ []
 none_between {check} {limits} {store} {size} r between =
     let (ds, s) = between_after (place_of check limits store size) r.stands between in (nothing_of_two (begun_octets store) size s.taken_are).0
 
--- ---- a number
+-- ---- A number.
 
 pub no_limit : (limits : Limits) (octets fields : ℕ) (h : Head) → is_kept h.rec ≡ false → room_fault limits octets fields h ≡ None
 no_limit limits octets fields h passes = rw passes refl
 
--- neither 7 nor 9 is kept
+-- Neither record 7 nor record 9 is stored.
 pub number_passes : (r : ℕ) → (r ≡ 7) ⊎ (r ≡ 9) → is_kept r ≡ false
 number_passes r number = grind (arith, nat_tests)
 
@@ -119,7 +120,7 @@ number_stands {limits = limits} {store} h xs r view took next number count =
     let passes = number_passes h.rec number in
     stands_whole store h xs r view took next (no_limit limits _ _ h passes) count (λ none. (Passed passes refl, none))
 
--- ---- whole datasets that may come
+-- ---- Complete datasets that may come next.
 
 pub admits_exactly : {check : Option RecordPlace} {limits : Limits} {store : Store} {size : List ℕ} {f : FieldsPlace} {n : ℕ} {b : Bool} (h : Head)
     → IsReading check limits store size → place_of check limits store size ≡ f → (h.rec ≡ 7) ⊎ (h.rec ≡ 9)

@@ -1,4 +1,4 @@
--- The words that most of these proofs use.
+-- The names that most of these proofs use.
 pub use Rattle.std.proofs.lemmas.Bool.{and_from, and_left, and_parts, and_right, cases_Bool, cases_eq, cases_lt, cond_both, eq-eqb, eqb-true, false_from_ne_true, le-leb, ne_eqb, or_cases, or_right, true_from_ne_false}
 pub use Rattle.std.proofs.lemmas.Bool.Decides.{eqb_tells, leb_tells, nat_tests}
 pub use Rattle.std.proofs.lemmas.Grind.{flat_map-append, get_or-set_at}

@@ -1,4 +1,4 @@
--- A check, a reader and a builder from inside: what they are told, and how a head changes what they know.
+-- A check, a reader and a builder by their fields: what they store, and how a head changes it.
 use Rattle.std.specs.Prelude.{ℕ, ◌⊎◌, List, Option, Some, ◌≡◌, length, None, ◌≢◌, Bool, true, false, replicate, slice_set, ◌==◌, if◌then◌else◌, ◌≤◌, ◌<◌, ◌^◌, [], ◌++◌, IsTrue, vec_capacity}
 use Rattle.std.specs.{Option.option_or, Ordering.eq_by_cmp}
 use Rattle.std.specs.Cmp.{IsEquivalence, IsTotalOrder, and_equiv, then_total, both_tied}
@@ -10,11 +10,12 @@ use Rattle.iim_fields.specs.Format.Records.{data_of, Identity, id_eq, id_cmp, Is
 use Rattle.iim_fields.specs.StoreLayout.{store_room, fields_of, begun_octets, HasStored}
 use Rattle.iim_fields.specs.declared.{check.RecordPlace.RecordPlace, order.Order.Order, store.Store.Store}
 
--- Some datasets lead to the place, or some datasets and a head.
+-- Some datasets reach the state, or some datasets and a head.
 abbrev pub IsRecordPlace : RecordPlace → Type 0
 IsRecordPlace place = ((ds : List Dataset) × HasChecked (Some place) ds) ⊎ ((ds : List Dataset) × (h : Head) × IsChecking (Some place) ds h)
 
--- The first fault in the record layer of a dataset of this head and these data: of its head at the place, or else of its value.
+-- The first fault in the record layer of a dataset with this head and these data: of its head in
+-- the state, or else of its value.
 abbrev pub place_fault : RecordPlace → Head → List ℕ → Option FieldFault
 place_fault place h xs = option_or (head_fault place.order.rec (has_seen place.order) h) (value_fault (data_of h xs))
 
@@ -24,47 +25,47 @@ id_equivalence = and_equiv (on_texts_equal (λ (i : Identity). i.service)) (and_
 pub id_total : IsTotalOrder id_cmp
 id_total = then_total (on_texts (λ (i : Identity). i.service)) (then_total (on_texts (λ (i : Identity). i.number)) (on_texts (λ (i : Identity). i.date_sent)))
 
--- ids are equal where their order does not tell them apart
+-- Two identities are equal exactly if their order does not distinguish them.
 pub id_ties : (x y : Identity) → id_eq x y ≡ eq_by_cmp id_cmp x y
 id_ties x y = search (both_tied, texts_ties)
 
--- A dataset of this head and these data has no fault at the place where the check stands.
+-- A dataset with this head and these data has no fault in the state of the check.
 pub record MayTake (check : Option RecordPlace) (h : Head) (xs : List ℕ) : Type 0 where
   pub count : h.count ≡ length xs
   pub octets : Octets xs
   pub fine : (place : RecordPlace) → check ≡ Some place → place_fault place h xs ≡ None
 
--- A head leads from one to the other: its number is added, to those of the present record or to none.
+-- The head is added: its number joins those of the current record, or is the first of the next.
 pub record AddsHead (old : Order) (h : Head) (new : Order) : Type 0 where
   pub rec : new.rec ≡ h.rec
   pub same : h.rec ≡ old.rec → new.seen ≡ slice_set old.seen h.set true
   pub next : h.rec ≢ old.rec → new.seen ≡ slice_set (replicate 256 false) h.set true
 
--- What is missing where records 1 and 2 end, by the present record and the test whether a number occurred in it: of record 2, or else of
--- record 1, or all of record 2.
+-- The first missing dataset if records 1 and 2 end here, by the current record and the test whether
+-- a number occurred in it: of record 2, or else of record 1, or else the first of record 2.
 abbrev pub end_fault : ℕ → (ℕ → Bool) → Option FieldFault
 end_fault present has =
     if present == 2 then missing_fault 2 (missing_of 2 has)
     else option_or (missing_fault 1 (missing_of 1 has)) (missing_fault 2 (missing_of 2 (λ _. false)))
 
--- what it is seen as whose size is these octets
+-- the view of a reader with this check, these limits, this store and these octets of a size
 abbrev pub place_of : Option RecordPlace → Limits → Store → List ℕ → FieldsPlace
 place_of check limits store size =
     record { check = check; limits = limits; kept = fields_of store; taken = begun_octets store ++ size; room = store_room store }
 
--- It stands somewhere.
+-- Some datasets reach the state, or some datasets, a head and some of its data.
 abbrev pub StandsSomewhere : FieldsPlace → Type 0
 StandsSomewhere fields = ((ds : List Dataset) × StandsAfter fields ds) ⊎ ((ds : List Dataset) × (h : Head) × (taken : List ℕ) × StandsIn fields ds h taken)
 
--- The store has room for all that the limits, numbers of 32 bits, allow.
+-- The store has capacity for all that the limits, numbers of 32 bits, allow.
 pub record HasRoom (limits : Limits) (store : Store) : Type 0 where
   pub small_octets : limits.octets < 2 ^ 32
   pub small_fields : limits.fields < 2 ^ 32
   pub octets : limits.octets ≤ store.octets.room
   pub entries : limits.fields ≤ vec_capacity store.entries
 
--- It stands somewhere, or something was refused; and the octets of a begun dataset are in the store if it will be kept, and else
--- in the size.
+-- Some datasets reach the state, or a call returned an error; and the octets of the dataset in
+-- progress are in the store if it will be stored, and otherwise in the size.
 pub record IsReading (check : Option RecordPlace) (limits : Limits) (store : Store) (size : List ℕ) : Type 0 where
   pub room : HasRoom limits store
   pub store_is : HasStored store (fields_of store) (begun_octets store)
@@ -72,7 +73,7 @@ pub record IsReading (check : Option RecordPlace) (limits : Limits) (store : Sto
   pub in_store : (h : Head) → begun_head check ≡ Some h → IsTrue (is_kept h.rec) → size ≡ []
   pub in_size : (h : Head) → begun_head check ≡ Some h → is_kept h.rec ≡ false → begun_octets store ≡ []
 
--- the builder's check stands after the datasets that are kept, and there are no others
+-- The check of the builder is in the state after the datasets that are stored, and these are all.
 pub record IsBuilding (check : Option RecordPlace) (limits : Limits) (store : Store) : Type 0 where
   pub room : HasRoom limits store
   pub checked : HasChecked check (fields_of store)

@@ -1,4 +1,4 @@
--- The store of the kept datasets, and what a set of numbers keeps.
+-- The store of datasets, and what a set of numbers stores.
 use Rattle.std.specs.Prelude.{◌≡◌, ℕ, ◌+◌, ◌-◌, List, [], ◌∷◌, ◌++◌, length, drop, vec_capacity, Bool, true, ◌&&◌, nat_le, ◌/◌, ◌%◌, ◌==◌, map, slice_index}
 use Rattle.std.specs.{Int.bit_at, List.range_with_len}
 use Rattle.iim_dataset.specs.Format.Datasets.{Dataset}
@@ -10,17 +10,18 @@ abbrev pub is_sound : ℕ → List Entry → ℕ → Bool
 is_sound from [] n = true
 is_sound from (e ∷ es) n = nat_le from e.end && (nat_le (e.end - from) n && is_sound e.end es (n - (e.end - from)))
 
--- the entries of datasets whose octets begin there
+-- the entries of datasets whose octets begin at `from`
 abbrev pub entries_of : ℕ → List Dataset → List Entry
 entries_of from [] = []
 entries_of from (d ∷ ds) =
     record { rec = d.rec; set = d.set; end = from + length d.octets } ∷ entries_of (from + length d.octets) ds
 
--- what a store has room for: as much as its vectors were made for
+-- the capacity of a store: that of its vectors
 abbrev pub store_room : Store → Room
 store_room store = record { octets = store.octets.room; entries = vec_capacity store.entries }
 
--- The store has the data of these datasets, joined, and then these octets; and an entry for each dataset.
+-- The store has the data of these datasets, joined, and then these octets; and an entry for each
+-- dataset.
 pub record HasStored (store : Store) (ds : List Dataset) (more : List ℕ) : Type 0 where
   pub entries : store.entries.items ≡ entries_of 0 ds
   pub octets : store.octets.items ≡ joined ds ++ more
@@ -29,12 +30,12 @@ pub record HasStored (store : Store) (ds : List Dataset) (more : List ℕ) : Typ
 abbrev pub fields_of : Store → List Dataset
 fields_of store = fields_from 0 store.entries.items store.octets.items
 
--- where the last of entries ends, the first of which begins there
+-- where the last of the entries ends, of which the first begins at `from`
 abbrev pub ends_at : ℕ → List Entry → ℕ
 ends_at from [] = from
 ends_at from (e ∷ es) = ends_at e.end es
 
--- the octets of a begun dataset: those after the kept ones
+-- the octets of the dataset in progress: those after the stored ones
 abbrev pub begun_octets : Store → List ℕ
 begun_octets store = drop (ends_at 0 store.entries.items) store.octets.items
 

@@ -1,4 +1,4 @@
-//! Envelopes, built dataset by dataset.
+//! A builder of envelopes, dataset by dataset.
 
 ghost use Rattle.std.specs.Prelude.{◌≡◌, [], ◌∷◌, ◌++◌, Some, None, IfOk, IfErr, OnOk, OnErr};
 ghost use Rattle.iim_fields.specs.States.Standing.{add_fault, finish_fault, passed_by, IsCopyFault, room_for};
@@ -17,8 +17,8 @@ use iim_tables::laws::each_row_has_values;
 use std::alloc::{AllocError, Global};
 use std::marker::Model;
 
-/// The datasets so far of an envelope that is built. It is seen as its limits, the list of them, and what it has room for,
-/// which stays as it was made.
+/// A builder of an envelope, which stores the datasets so far. Contracts see it as its limits, the
+/// list of datasets, and its capacity, which never changes.
 #[derive(Drop)]
 pub struct EnvelopeBuilder {
     check: RecordCheck,
@@ -40,7 +40,10 @@ impl Model for EnvelopeBuilder {
 }
 
 impl EnvelopeBuilder {
-    /// No datasets, with memory for just what the limits allow: no later call takes any. An error says that memory was refused.
+    /// Creates a builder without datasets, with memory for exactly what the limits allow. No later
+    /// call allocates.
+    ///
+    /// **Errors:** the allocation fails.
     pub fn new(alloc: Global, limits: Limits) -> Result<EnvelopeBuilder, AllocError>
         ensures empty { IfOk result (λ builder. builder
             ≡ record { limits = limits; fields = []; room = room_for limits }) }
@@ -53,8 +56,11 @@ impl EnvelopeBuilder {
         })
     }
 
-    /// The datasets of an envelope, to which others of record 2 can be added, with memory for just what the limits allow, which may be
-    /// other limits than those under which it came. An error says that the envelope passes them, or that memory was refused.
+    /// Creates a builder with the datasets of an envelope, to which others of record 2 can be
+    /// added, with memory for exactly what the limits allow. These may be other limits than those
+    /// under which the envelope was read.
+    ///
+    /// **Errors:** the envelope exceeds the limits, or the allocation fails.
     pub fn from(
         alloc: Global,
         limits: Limits,
@@ -78,8 +84,10 @@ impl EnvelopeBuilder {
         Ok(builder)
     }
 
-    /// Adds a dataset, or answers its first fault and changes nothing: that of its head after the datasets so far, or
-    /// else that of its value. Records other than 1 and 2 are out of order here.
+    /// Adds a dataset.
+    ///
+    /// **Errors:** the first fault of its head after the datasets so far, or else that of its
+    /// value. The builder is unchanged. Records other than 1 and 2 are out of order.
     pub fn add(&mut self, rec: u8, set: u8, octets: &[u8]) -> Result<(), FieldFault>
         ensures admitted { OnOk result (add_fault self.old.limits self.old.fields record
             { rec = rec; set = set; octets = octets.now } ≡ None) }
@@ -114,8 +122,10 @@ impl EnvelopeBuilder {
         Ok(())
     }
 
-    /// The envelope, where nothing mandatory is absent. Else the builder is handed back as it was, with what is missing:
-    /// of record 1, or else of record 2.
+    /// Returns the envelope if no mandatory dataset is missing.
+    ///
+    /// **Errors:** the builder as it was, and the first missing dataset: of record 1, or else of
+    /// record 2.
     pub fn finish(self) -> Result<Envelope, (EnvelopeBuilder, FieldFault)>
         ensures whole { OnOk result (finish_fault self.fields ≡ None) }
         ensures envelope { IfOk result (λ envelope. envelope ≡ self.fields) }

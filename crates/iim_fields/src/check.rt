@@ -1,4 +1,4 @@
-//! The record layer alone: the heads and values of an envelope's datasets, one by one.
+//! The record layer alone: it checks the heads and values of an envelope's datasets, one by one.
 
 ghost use Rattle.std.specs.Prelude.{◌≡◌, ◌≢◌, ◌⊎◌, ℕ, false, List, [], ◌∷◌, ◌++◌, length, Option, is_none, Some, None, IsSome, IsSomeAnd, IfOk, IfErr, OnOk, OnErr, ◌↔◌, IsTrue};
 ghost use Rattle.std.specs.Option.{ForSome, option_or};
@@ -21,26 +21,27 @@ use iim_tables::laws::each_row_has_values;
 use iim_tables::records::POST_OBJECT;
 use std::marker::Model;
 
-/// A begun dataset.
+/// A dataset in progress.
 #[derive(Clone, Copy)]
 pub(crate) struct Begun {
-    /// Its head.
+    /// The head of the dataset.
     pub head: Head,
-    /// The row of its record and number.
+    /// The row of the dataset.
     pub row: Row,
 }
 
-/// What heads and values have led to: the present record with the numbers that occurred in it, and the begun dataset.
+/// The state after heads and values: the current record, the numbers that occurred in it, and the
+/// dataset in progress.
 #[derive(Drop)]
 pub(crate) struct RecordPlace {
-    /// The present record, and the numbers that occurred in it.
+    /// The current record, and the numbers that occurred in it.
     pub order: Order,
-    /// The begun dataset, where one is.
+    /// The dataset in progress, if there is one.
     pub begun: Option<Begun>,
 }
 
 impl RecordPlace {
-    /// Another one to which the same heads and values lead.
+    /// Returns another state after the same heads and values.
     fn copied(&self) -> RecordPlace
         ensures { result ≡ self.now }
     {
@@ -50,7 +51,8 @@ impl RecordPlace {
         }
     }
 
-    /// Takes a whole dataset that may stand next, where none is begun; or changes nothing.
+    /// Accepts a complete dataset that may come next, if no dataset is in progress. Returns whether
+    /// it did; otherwise nothing changes.
     #[inline(always)]
     fn whole(&mut self, head: Head, octets: &[u8]) -> bool
         requires { head.count ≡ length octets.now }
@@ -82,7 +84,8 @@ impl RecordPlace {
         true
     }
 
-    /// Takes a whole subfile whose head may stand next; or changes nothing.
+    /// Accepts a complete subfile whose head may come next. Returns whether it did; otherwise
+    /// nothing changes.
     #[inline(always)]
     fn whole_subfile(&mut self, head: Head) -> bool
         requires subfile { head.rec ≡ 8 }
@@ -98,7 +101,7 @@ impl RecordPlace {
         true
     }
 
-    /// Takes a head that may stand next, which has this row.
+    /// Accepts a head that may come next and has this row.
     #[inline(always)]
     fn enter(&mut self, head: Head, row: Row)
         ensures order { AddsHead self.old.order head self.new.order }
@@ -109,12 +112,12 @@ impl RecordPlace {
     }
 }
 
-/// A check of an envelope's datasets: of each head, and of each complete value but those of subfiles. It has no limits and
-/// keeps no data. Contracts see it as its place, and as None after a refusal. Whatever a caller hands in, it is a place to
-/// which some heads and values lead.
+/// A check of an envelope's datasets: of each head, and of each complete value except those of
+/// subfiles. It has no limits and stores no data. Contracts see it as its state, and as `None`
+/// after an error. Some heads and values reach each state that it may have.
 #[derive(Drop)]
 pub struct RecordCheck {
-    /// None after a refusal.
+    /// The state; `None` after an error.
     place: Option<RecordPlace>,
 }
 
@@ -127,7 +130,7 @@ impl Model for RecordCheck {
 }
 
 impl RecordCheck {
-    /// At the beginning of an envelope.
+    /// Creates a check at the beginning of an envelope.
     pub fn new() -> RecordCheck
         ensures takes_head { TakesHead result }
         ensures between { AwaitsHead result }
@@ -141,14 +144,14 @@ impl RecordCheck {
         RecordCheck { place: Some(place) }
     }
 
-    /// One that has refused.
+    /// Creates a check that has failed.
     pub(crate) fn refused() -> RecordCheck
         ensures { result ≡ None }
     {
         RecordCheck { place: None }
     }
 
-    /// Another one at the same place.
+    /// Returns another check in the same state.
     pub(crate) fn copied(&self) -> RecordCheck
         ensures { result ≡ self.now }
     {
@@ -159,14 +162,14 @@ impl RecordCheck {
         RecordCheck { place }
     }
 
-    /// Whether something was refused.
+    /// Checks whether a call returned an error.
     pub fn is_failed(&self) -> bool
         ensures { result ≡ is_none self.now }
     {
         self.place.is_none()
     }
 
-    /// The record of the last head, 0 at the beginning and after a refusal.
+    /// Returns the record of the last head, or 0 at the beginning and after an error.
     #[inline(always)]
     pub fn section(&self) -> u8
         ensures seen { result ≡ section_at self.now }
@@ -178,7 +181,7 @@ impl RecordCheck {
         }
     }
 
-    /// The head of the begun dataset.
+    /// Returns the head of the dataset in progress.
     #[inline(always)]
     pub(crate) fn begun(&self) -> Option<Head>
         ensures { result ≡ begun_head self.now }
@@ -194,8 +197,11 @@ impl RecordCheck {
         }
     }
 
-    /// Takes the next head, or answers its first fault and has failed: the record layer dies with the head. That of a subfile
-    /// is followed by no value, since what a subfile has is no matter of records.
+    /// Accepts the next head. After the head of a subfile no value follows, since the data of a
+    /// subfile do not concern the records.
+    ///
+    /// **Errors:** the first fault of the head, with which the datasets are no longer a viable
+    /// prefix. The check has then failed.
     #[inline(always)]
     pub fn head(&mut self, head: Head) -> Result<(), FieldFault>
         requires { TakesHead self.old }
@@ -223,7 +229,8 @@ impl RecordCheck {
         }
     }
 
-    /// Takes a whole dataset, which is no subfile; or changes nothing where it may not come.
+    /// Accepts a complete dataset that is no subfile. Returns whether it may come next; otherwise
+    /// nothing changes.
     #[inline(always)]
     pub(crate) fn whole(&mut self, head: Head, octets: &[u8]) -> bool
         requires between { AwaitsHead self.old }
@@ -243,7 +250,8 @@ impl RecordCheck {
         }
     }
 
-    /// Whether a whole dataset of record 7 or 9 may come, whose data spell this number.
+    /// Checks whether a complete dataset of record 7 or 9 may come next whose data encode this
+    /// number.
     #[inline(always)]
     pub(crate) fn admits_number(&self, head: Head, number: u64) -> bool
         requires between { AwaitsHead self.now }
@@ -257,7 +265,7 @@ impl RecordCheck {
         }
     }
 
-    /// Takes a whole dataset, which is no subfile and may come.
+    /// Accepts a complete dataset that is no subfile and may come next.
     #[inline(always)]
     pub(crate) fn put(&mut self, head: Head)
         requires between { AwaitsHead self.old }
@@ -274,7 +282,8 @@ impl RecordCheck {
         }
     }
 
-    /// Takes a whole subfile, whatever it has; or changes nothing where its head may not come.
+    /// Accepts a complete subfile, whatever its data. Returns whether its head may come next;
+    /// otherwise nothing changes.
     #[inline(always)]
     pub(crate) fn whole_subfile(&mut self, head: Head) -> bool
         requires between { AwaitsHead self.old }
@@ -293,8 +302,11 @@ impl RecordCheck {
         }
     }
 
-    /// Takes the complete value of the begun dataset: answers the number that it tells if its record is 7 or 9, or the first
-    /// fault of the value, and then has failed: the record layer dies with the value.
+    /// Accepts the complete value of the dataset in progress. Returns the number that it encodes if
+    /// its record is 7 or 9.
+    ///
+    /// **Errors:** the first fault of the value, with which the datasets are no longer a viable
+    /// prefix. The check has then failed.
     #[inline(always)]
     pub fn value(&mut self, octets: &[u8]) -> Result<Option<u64>, FieldFault>
         requires { TakesValue self.old (length octets.now) }
@@ -336,7 +348,7 @@ impl RecordCheck {
         }
     }
 
-    /// Whether the last dataset of an envelope, that of record 9, has ended.
+    /// Checks whether the last dataset of an envelope, that of record 9, has ended.
     pub(crate) fn is_ended(&self) -> bool
         ensures { IsTrue result ↔ HasEnded self.now }
     {
@@ -346,7 +358,7 @@ impl RecordCheck {
         }
     }
 
-    /// What is missing where records 1 and 2 end here.
+    /// Returns the first missing dataset if records 1 and 2 end here.
     pub(crate) fn end_fault(&self) -> Option<FieldFault>
         requires { IsSome self.now }
         ensures { IsSomeAnd self.now (λ place. result ≡ end_fault place.order.rec (has_seen place.order)) }

@@ -1,4 +1,4 @@
-//! Envelopes: the datasets of records 1 and 2, and the views of them.
+//! Envelopes: the datasets of records 1 and 2, with a method for each field.
 
 use crate::envelope_ref::EnvelopeRef;
 use crate::id::EnvelopeId;
@@ -10,7 +10,8 @@ use jiff::Timestamp;
 use jiff::civil::Date;
 use std::marker::Model;
 
-/// The datasets of a whole record 1 and a whole record 2, each good. It is seen as the list of them, in order.
+/// The datasets of a complete record 1 and a complete record 2, each good. Contracts see it as the
+/// list of them, in order.
 #[derive(Drop)]
 pub struct Envelope {
     pub(crate) store: Store,
@@ -41,14 +42,14 @@ impl Envelope {
     ghost use Rattle.iim_fields.specs.Format.Causes.{joined};
     ghost use Rattle.iim_tables.specs.Format.Rows.{Meets};
 
-    /// The envelope where it lies.
+    /// Returns a borrowed view of the envelope.
     pub fn borrowed(&self) -> EnvelopeRef<'_>
         ensures { result ≡ self.now }
     {
         EnvelopeRef { store: &self.store }
     }
 
-    /// How many octets the datasets have together, and how many they are.
+    /// Returns the total number of octets of the datasets, and the number of datasets.
     pub(crate) fn totals(&self) -> (u64, u64)
         ensures { result ≡ (length (joined self.now), length self.now) }
     {
@@ -56,7 +57,7 @@ impl Envelope {
         (octets, self.store.entries.len() as u64)
     }
 
-    /// All datasets, in order: record, number and data of each.
+    /// Iterates over all datasets, in order: record, number and data of each.
     pub fn fields(&self) -> FieldIter<'_>
         ensures fields { rest_of result ≡ self.now }
         ensures envelope { IsEnvelope self.now }
@@ -65,7 +66,8 @@ impl Envelope {
         self.borrowed().fields()
     }
 
-    /// The data of the first dataset with these numbers, of any record and number. They are as its row says.
+    /// Returns the data of the first dataset with this record and number, whatever they are. The
+    /// data meet the row of the dataset.
     pub fn first(&self, rec: u8, set: u8) -> Option<&[u8]>
         ensures data { option_map (λ x. x.now) result ≡ first_data rec set self.now }
         ensures meets { IfSome result (λ x. Meets rec set x.now) }
@@ -73,7 +75,7 @@ impl Envelope {
         self.borrowed().first(rec, set)
     }
 
-    /// The data of each dataset with these numbers, in order.
+    /// Iterates over the data of each dataset with this record and number, in order.
     pub fn all(&self, rec: u8, set: u8) -> DataIter<'_>
         ensures { data_left result ≡ all_data rec set self.now }
     {
@@ -84,7 +86,7 @@ impl Envelope {
         }
     }
 
-    /// The data of the first dataset with these numbers, one that each envelope has.
+    /// Returns the data of the first dataset with this record and number, which each envelope has.
     fn mandatory(&self, rec: u8, set: u8) -> &[u8]
         requires { (ds : List Dataset) → IsEnvelope ds → IsTrue (is_some (first_data rec set ds)) }
         ensures data { first_data rec set self.now ≡ Some result.now }
@@ -93,7 +95,7 @@ impl Envelope {
         self.borrowed().mandatory(rec, set)
     }
 
-    /// 1:30 Service Identifier, of the Envelope Record.
+    /// Returns 1:30 Service Identifier, of the Envelope Record.
     pub fn service(&self) -> &[u8]
         ensures data { first_data 1 30 self.now ≡ Some result.now }
         ensures fits { length result.now ≤ 10 }
@@ -101,7 +103,7 @@ impl Envelope {
         self.borrowed().service()
     }
 
-    /// 1:40 Envelope Number: eight digits.
+    /// Returns 1:40 Envelope Number: eight digits.
     pub fn number(&self) -> &[u8]
         ensures data { first_data 1 40 self.now ≡ Some result.now }
         ensures fits { length result.now ≡ 8 }
@@ -109,7 +111,7 @@ impl Envelope {
         self.borrowed().number()
     }
 
-    /// 1:70 Date Sent, as eight digits, CCYYMMDD.
+    /// Returns 1:70 Date Sent, as eight digits, CCYYMMDD.
     pub fn date_sent_text(&self) -> &[u8]
         ensures data { first_data 1 70 self.now ≡ Some result.now }
         ensures fits { length result.now ≡ 8 }
@@ -126,32 +128,35 @@ impl Envelope {
         instants::date_sent(&self.borrowed())
     }
 
-    /// Returns the instant of 1:70 Date Sent and 1:80 Time Sent: local time less its offset. `None` if no time was sent, or if `jiff`
-    /// has no such instant: its last is 9999-12-30T22:00:00.999999999Z.
+    /// Returns the instant of 1:70 Date Sent and 1:80 Time Sent: local time less its offset. `None`
+    /// if no time was sent, or if `jiff` has no such instant: its last is
+    /// 9999-12-30T22:00:00.999999999Z.
     pub fn sent(&self) -> Option<Timestamp>
         ensures { option_map (λ t. t.nanosecond) result ≡ instant_sent self.now }
     {
         instants::sent(&self.borrowed())
     }
 
-    /// Returns the instant from which on the copy may be used: 2:30 Release Date and 2:35 Release Time, local time less its offset, or
-    /// the beginning of that day in universal time if no time was sent. `None` if no date was sent, or if `jiff` has no such instant.
+    /// Returns the instant from which on the copy may be used: 2:30 Release Date and 2:35 Release
+    /// Time, local time less its offset, or the beginning of that day in universal time if no time
+    /// was sent. `None` if no date was sent, or if `jiff` has no such instant.
     pub fn release(&self) -> Option<Timestamp>
         ensures { option_map (λ t. t.nanosecond) result ≡ instant_of_release self.now }
     {
         instants::release(&self.borrowed())
     }
 
-    /// Returns the last instant at which the copy may be used: 2:37 Expiration Date and 2:38 Expiration Time, local time less its offset,
-    /// or the last second of that day in universal time if no time was sent. `None` if no date was sent, or if `jiff` has no such
-    /// instant.
+    /// Returns the last instant at which the copy may be used: 2:37 Expiration Date and 2:38
+    /// Expiration Time, local time less its offset, or the last second of that day in universal
+    /// time if no time was sent. `None` if no date was sent, or if `jiff` has no such instant.
     pub fn expires(&self) -> Option<Timestamp>
         ensures { option_map (λ t. t.nanosecond) result ≡ instant_of_expiration self.now }
     {
         instants::expires(&self.borrowed())
     }
 
-    /// What the envelope is known by: 1:30 Service Identifier, 1:40 Envelope Number and 1:70 Date Sent.
+    /// Returns the identity of the envelope: 1:30 Service Identifier, 1:40 Envelope Number and 1:70
+    /// Date Sent.
     pub fn id(&self) -> EnvelopeId
         ensures service { first_data 1 30 self.now ≡ Some result.service }
         ensures number { first_data 1 40 self.now ≡ Some result.number }
@@ -160,119 +165,120 @@ impl Envelope {
         self.borrowed().id()
     }
 
-    /// 1:00 Model Version.
+    /// Returns 1:00 Model Version.
     pub fn model_version(&self) -> &[u8]
         ensures { first_data 1 0 self.now ≡ Some result.now }
     {
         self.mandatory(ENVELOPE, 0)
     }
 
-    /// 1:22 File Format Version.
+    /// Returns 1:22 File Format Version.
     pub fn format_version(&self) -> &[u8]
         ensures { first_data 1 22 self.now ≡ Some result.now }
     {
         self.mandatory(ENVELOPE, 22)
     }
 
-    /// 2:00 Record Version, of the Application Record.
+    /// Returns 2:00 Record Version, of the Application Record.
     pub fn record_version(&self) -> &[u8]
         ensures { first_data 2 0 self.now ≡ Some result.now }
     {
         self.mandatory(APPLICATION, 0)
     }
 
-    /// The digit of 1:60 Envelope Priority, where it was sent: `1` is most urgent, `5` normal, `8` least urgent.
+    /// Returns the digit of 1:60 Envelope Priority, if it was sent: `1` is most urgent, `5` normal,
+    /// `8` least urgent.
     pub fn priority(&self) -> Option<u8>
         ensures { option_map (λ digit. digit ∷ []) result ≡ first_data 1 60 self.now }
     {
         self.borrowed().priority()
     }
 
-    /// 1:80 Time Sent, where it was sent.
+    /// Returns 1:80 Time Sent, if it was sent.
     pub fn time_sent(&self) -> Option<&[u8]>
         ensures { option_map (λ x. x.now) result ≡ first_data 1 80 self.now }
     {
         self.first(ENVELOPE, 80)
     }
 
-    /// 2:05 Object Name, where it was sent.
+    /// Returns 2:05 Object Name, if it was sent.
     pub fn object_name(&self) -> Option<&[u8]>
         ensures { option_map (λ x. x.now) result ≡ first_data 2 5 self.now }
     {
         self.first(APPLICATION, 5)
     }
 
-    /// 2:10 Urgency, where it was sent.
+    /// Returns 2:10 Urgency, if it was sent.
     pub fn urgency(&self) -> Option<&[u8]>
         ensures { option_map (λ x. x.now) result ≡ first_data 2 10 self.now }
     {
         self.first(APPLICATION, 10)
     }
 
-    /// 2:15 Category, where it was sent.
+    /// Returns 2:15 Category, if it was sent.
     pub fn category(&self) -> Option<&[u8]>
         ensures { option_map (λ x. x.now) result ≡ first_data 2 15 self.now }
     {
         self.first(APPLICATION, 15)
     }
 
-    /// 2:105 Headline, where it was sent.
+    /// Returns 2:105 Headline, if it was sent.
     pub fn headline(&self) -> Option<&[u8]>
         ensures { option_map (λ x. x.now) result ≡ first_data 2 105 self.now }
     {
         self.first(APPLICATION, 105)
     }
 
-    /// Each 1:05 Destination, in order.
+    /// Iterates over each 1:05 Destination, in order.
     pub fn destinations(&self) -> DataIter<'_>
         ensures { data_left result ≡ all_data 1 5 self.now }
     {
         self.all(ENVELOPE, 5)
     }
 
-    /// Each 1:50 Product I.D., in order.
+    /// Iterates over each 1:50 Product I.D., in order.
     pub fn products(&self) -> DataIter<'_>
         ensures { data_left result ≡ all_data 1 50 self.now }
     {
         self.all(ENVELOPE, 50)
     }
 
-    /// Each 2:20 Supplemental Category, in order.
+    /// Iterates over each 2:20 Supplemental Category, in order.
     pub fn supplementals(&self) -> DataIter<'_>
         ensures { data_left result ≡ all_data 2 20 self.now }
     {
         self.all(APPLICATION, 20)
     }
 
-    /// Each 2:25 Keywords, in order.
+    /// Iterates over each 2:25 Keywords, in order.
     pub fn keywords(&self) -> DataIter<'_>
         ensures { data_left result ≡ all_data 2 25 self.now }
     {
         self.all(APPLICATION, 25)
     }
 
-    /// Each 2:80 By-line, in order.
+    /// Iterates over each 2:80 By-line, in order.
     pub fn bylines(&self) -> DataIter<'_>
         ensures { data_left result ≡ all_data 2 80 self.now }
     {
         self.all(APPLICATION, 80)
     }
 
-    /// Each 2:85 By-line Title, in order.
+    /// Iterates over each 2:85 By-line Title, in order.
     pub fn byline_titles(&self) -> DataIter<'_>
         ensures { data_left result ≡ all_data 2 85 self.now }
     {
         self.all(APPLICATION, 85)
     }
 
-    /// Each 2:122 Writer/Editor, in order.
+    /// Iterates over each 2:122 Writer/Editor, in order.
     pub fn writers(&self) -> DataIter<'_>
         ensures { data_left result ≡ all_data 2 122 self.now }
     {
         self.all(APPLICATION, 122)
     }
 
-    /// Whether both have the same datasets in the same order.
+    /// Checks whether both envelopes have the same datasets in the same order.
     pub fn same(&self, other: &Envelope) -> bool
         ensures { IsTrue result ↔ (self.now ≡ other.now) }
     {

@@ -1,4 +1,4 @@
-//! Envelopes where they lie.
+//! Borrowed envelopes.
 
 use crate::id::EnvelopeId;
 use crate::instants;
@@ -9,9 +9,10 @@ use jiff::Timestamp;
 use jiff::civil::Date;
 use std::marker::Model;
 
-/// The datasets of a whole record 1 and a whole record 2, each good, where they lie: in an [`Envelope`](crate::Envelope), or in a
-/// reader with which an envelope has ended. It is seen as the list of them, in order. What else an `Envelope` tells, `first` and
-/// `fields` tell of it.
+/// A borrowed view of the datasets of a complete record 1 and a complete record 2, each good: those
+/// of an [`Envelope`](crate::Envelope), or of a reader that has read all of an envelope. Contracts
+/// see it as the list of them, in order. Use `first` and `fields` for what only an `Envelope` has a
+/// method for.
 #[derive(Drop)]
 pub struct EnvelopeRef<'a> {
     pub(crate) store: &'a Store,
@@ -41,7 +42,7 @@ impl<'a> EnvelopeRef<'a> {
     ghost use Rattle.iim_fields.specs.States.Standing.{AreFew};
     ghost use Rattle.iim_tables.specs.Format.Rows.{Meets};
 
-    /// All datasets, in order: record, number and data of each.
+    /// Iterates over all datasets, in order: record, number and data of each.
     pub fn fields(&self) -> FieldIter<'a>
         ensures fields { rest_of result ≡ self.now }
         ensures envelope { IsEnvelope self.now }
@@ -54,7 +55,8 @@ impl<'a> EnvelopeRef<'a> {
         }
     }
 
-    /// The data of the first dataset with these numbers, of any record and number. They are as its row says.
+    /// Returns the data of the first dataset with this record and number, whatever they are. The
+    /// data meet the row of the dataset.
     pub fn first(&self, rec: u8, set: u8) -> Option<&'a [u8]>
         ensures data { option_map (λ x. x.now) result ≡ first_data rec set self.now }
         ensures meets { IfSome result (λ x. Meets rec set x.now) }
@@ -68,18 +70,18 @@ impl<'a> EnvelopeRef<'a> {
         None
     }
 
-    /// The data of the first dataset with these numbers, one that each envelope has.
+    /// Returns the data of the first dataset with this record and number, which each envelope has.
     pub(crate) fn mandatory(&self, rec: u8, set: u8) -> &'a [u8]
         requires { (ds : List Dataset) → IsEnvelope ds → IsTrue (is_some (first_data rec set ds)) }
         ensures data { first_data rec set self.now ≡ Some result.now }
         ensures meets { Meets rec set result.now }
     {
-        // Where a field is read, it is known that the type's invariant holds.
+        // Reading a field makes the invariant of the type known here.
         let _ = &self.store;
         self.first(rec, set).unwrap()
     }
 
-    /// 1:30 Service Identifier, of the Envelope Record.
+    /// Returns 1:30 Service Identifier, of the Envelope Record.
     pub fn service(&self) -> &'a [u8]
         ensures data { first_data 1 30 self.now ≡ Some result.now }
         ensures fits { length result.now ≤ 10 }
@@ -87,7 +89,7 @@ impl<'a> EnvelopeRef<'a> {
         self.mandatory(ENVELOPE, 30)
     }
 
-    /// 1:40 Envelope Number: eight digits.
+    /// Returns 1:40 Envelope Number: eight digits.
     pub fn number(&self) -> &'a [u8]
         ensures data { first_data 1 40 self.now ≡ Some result.now }
         ensures fits { length result.now ≡ 8 }
@@ -95,7 +97,7 @@ impl<'a> EnvelopeRef<'a> {
         self.mandatory(ENVELOPE, 40)
     }
 
-    /// 1:70 Date Sent, as eight digits, CCYYMMDD.
+    /// Returns 1:70 Date Sent, as eight digits, CCYYMMDD.
     pub fn date_sent_text(&self) -> &'a [u8]
         ensures data { first_data 1 70 self.now ≡ Some result.now }
         ensures fits { length result.now ≡ 8 }
@@ -112,32 +114,35 @@ impl<'a> EnvelopeRef<'a> {
         instants::date_sent(self)
     }
 
-    /// Returns the instant of 1:70 Date Sent and 1:80 Time Sent: local time less its offset. `None` if no time was sent, or if `jiff`
-    /// has no such instant: its last is 9999-12-30T22:00:00.999999999Z.
+    /// Returns the instant of 1:70 Date Sent and 1:80 Time Sent: local time less its offset. `None`
+    /// if no time was sent, or if `jiff` has no such instant: its last is
+    /// 9999-12-30T22:00:00.999999999Z.
     pub fn sent(&self) -> Option<Timestamp>
         ensures { option_map (λ t. t.nanosecond) result ≡ instant_sent self.now }
     {
         instants::sent(self)
     }
 
-    /// Returns the instant from which on the copy may be used: 2:30 Release Date and 2:35 Release Time, local time less its offset, or
-    /// the beginning of that day in universal time if no time was sent. `None` if no date was sent, or if `jiff` has no such instant.
+    /// Returns the instant from which on the copy may be used: 2:30 Release Date and 2:35 Release
+    /// Time, local time less its offset, or the beginning of that day in universal time if no time
+    /// was sent. `None` if no date was sent, or if `jiff` has no such instant.
     pub fn release(&self) -> Option<Timestamp>
         ensures { option_map (λ t. t.nanosecond) result ≡ instant_of_release self.now }
     {
         instants::release(self)
     }
 
-    /// Returns the last instant at which the copy may be used: 2:37 Expiration Date and 2:38 Expiration Time, local time less its offset,
-    /// or the last second of that day in universal time if no time was sent. `None` if no date was sent, or if `jiff` has no such
-    /// instant.
+    /// Returns the last instant at which the copy may be used: 2:37 Expiration Date and 2:38
+    /// Expiration Time, local time less its offset, or the last second of that day in universal
+    /// time if no time was sent. `None` if no date was sent, or if `jiff` has no such instant.
     pub fn expires(&self) -> Option<Timestamp>
         ensures { option_map (λ t. t.nanosecond) result ≡ instant_of_expiration self.now }
     {
         instants::expires(self)
     }
 
-    /// What the envelope is known by: 1:30 Service Identifier, 1:40 Envelope Number and 1:70 Date Sent.
+    /// Returns the identity of the envelope: 1:30 Service Identifier, 1:40 Envelope Number and 1:70
+    /// Date Sent.
     pub fn id(&self) -> EnvelopeId
         ensures service { first_data 1 30 self.now ≡ Some result.service }
         ensures number { first_data 1 40 self.now ≡ Some result.number }
@@ -146,7 +151,8 @@ impl<'a> EnvelopeRef<'a> {
         EnvelopeId::new(self.service(), self.number(), self.date_sent_text())
     }
 
-    /// The digit of 1:60 Envelope Priority, where it was sent: `1` is most urgent, `5` normal, `8` least urgent.
+    /// Returns the digit of 1:60 Envelope Priority, if it was sent: `1` is most urgent, `5` normal,
+    /// `8` least urgent.
     pub fn priority(&self) -> Option<u8>
         ensures { option_map (λ digit. digit ∷ []) result ≡ first_data 1 60 self.now }
     {

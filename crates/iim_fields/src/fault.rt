@@ -1,4 +1,4 @@
-//! Why a dataset is refused.
+//! Why a dataset is rejected.
 
 ghost use Rattle.std.specs.Prelude.{◌≡◌, Some};
 ghost use Rattle.iim_fields.specs.Format.Causes.{number_of_cause, name_of_cause, name_of_copy, number_of_copy, text_of_cause, text_of_copy, text_of_field};
@@ -9,11 +9,11 @@ use std::error::Error;
 use std::fmt;
 use std::fmt::{Display, Formatter};
 
-/// What was wrong, each with its number. Of several the one of the lowest number is told: so the record layer's are told before
-/// those of the limits.
+/// The cause of a fault, each with its number. If a dataset has several, the one with the lowest
+/// number is reported, so those of the record layer precede those of the limits.
 #[derive(Clone, Copy, Debug, PartialEq, Eq)]
 pub enum FieldCause {
-    /// The record is neither the present one nor the next.
+    /// The record is neither the current one nor the next.
     RecordOrder = 10,
     /// Record 7, 8 or 9 has no dataset of this number.
     UnknownDataset = 11,
@@ -21,27 +21,27 @@ pub enum FieldCause {
     Repeated = 12,
     /// The number of octets is outside the bounds of the dataset's row.
     CountRange = 13,
-    /// The next record begins, and a mandatory dataset of the present one is absent.
+    /// The next record begins, and a mandatory dataset of the current one is missing.
     Missing = 14,
     /// The octets are not of the dataset's kind.
     BadValue = 15,
     /// 1:20 File Format is not 2.
     FileFormat = 16,
-    /// The data of records 1 and 2 pass the limit on octets.
+    /// The data of records 1 and 2 exceed the limit on octets.
     HeaderFull = 50,
-    /// The datasets of records 1 and 2 pass the limit on their number.
+    /// The datasets of records 1 and 2 exceed the limit on their number.
     TooManyFields = 51,
 }
 
 impl FieldCause {
-    /// The number, as it is printed.
+    /// Returns the number of the cause, as it is printed.
     pub fn number(self) -> u8
         ensures { result ≡ number_of_cause self }
     {
         self as u8
     }
 
-    /// The name, as it is printed.
+    /// Returns the name of the cause, as it is printed.
     pub fn name(self) -> &'static str
         ensures { result.now ≡ name_of_cause self }
     {
@@ -59,7 +59,7 @@ impl FieldCause {
     }
 }
 
-/// The number and the name, as `14 Missing`.
+/// Writes the number and the name, as `14 Missing`.
 impl Display for FieldCause {
     ghost output = { λ cause. Some (text_of_cause cause) };
 
@@ -72,18 +72,19 @@ impl Display for FieldCause {
 
 impl Error for FieldCause {}
 
-/// A dataset that is refused, and why. For [`FieldCause::Missing`] it is the missing dataset of the lowest number.
+/// A rejected dataset, and why. For [`FieldCause::Missing`] it is the missing dataset with the
+/// lowest number.
 #[derive(Clone, Copy, Debug, PartialEq, Eq)]
 pub struct FieldFault {
     /// The number of the dataset's record.
     pub rec: u8,
     /// The number of the dataset in its record.
     pub set: u8,
-    /// What was wrong.
+    /// Why the dataset is rejected.
     pub cause: FieldCause,
 }
 
-/// As `refused on 1:70, cause 14 Missing`.
+/// Writes the dataset and the cause, as `refused on 1:70, cause 14 Missing`.
 impl Display for FieldFault {
     ghost output = { λ fault. Some (text_of_field fault) };
 
@@ -99,17 +100,17 @@ impl Display for FieldFault {
 
 impl Error for FieldFault {}
 
-/// Why an envelope is not copied into a builder.
+/// Why an envelope cannot be copied into a builder.
 #[derive(Clone, Copy, Debug, PartialEq, Eq)]
 pub enum CopyFault {
-    /// Its datasets pass a limit: `HeaderFull`, or else `TooManyFields`.
+    /// Its datasets exceed a limit: `HeaderFull`, or else `TooManyFields`.
     Passed(FieldCause),
-    /// Memory was refused.
+    /// The allocation failed.
     OutOfMemory,
 }
 
 impl CopyFault {
-    /// The number, as it is printed: of refused memory it is 70.
+    /// Returns the number, as it is printed. That of a failed allocation is 70.
     pub fn number(self) -> u8
         ensures { result ≡ number_of_copy self }
     {
@@ -119,7 +120,7 @@ impl CopyFault {
         }
     }
 
-    /// The name, as it is printed.
+    /// Returns the name, as it is printed.
     pub fn name(self) -> &'static str
         ensures { result.now ≡ name_of_copy self }
     {
@@ -130,7 +131,7 @@ impl CopyFault {
     }
 }
 
-/// The number and the name, as `50 HeaderFull`.
+/// Writes the number and the name, as `50 HeaderFull`.
 impl Display for CopyFault {
     ghost output = { λ fault. Some (text_of_copy fault) };
 

@@ -1,4 +1,4 @@
-//! The records of an envelope, dataset by dataset.
+//! A reader of the records of an envelope, dataset by dataset.
 
 ghost use Rattle.std.specs.Prelude.{◌≡◌, ◌⊎◌, false, ◌+◌, ◌-◌, ◌≤◌, ◌<◌, ℕ, List, [], ◌∷◌, ◌++◌, length, is_none, Some, None, IfOk, IfErr, OnOk, OnErr, ◌↔◌, IsTrue, IsSome, IfSome};
 ghost use Rattle.iim_dataset.specs.Format.Datasets.{Dataset};
@@ -25,7 +25,8 @@ use iim_tables::records::OBJECT;
 use std::alloc::{AllocError, Global};
 use std::marker::Model;
 
-/// The first limit that a head passes, after `octets` kept octets and `fields` kept datasets.
+/// Returns the first limit that a head exceeds, after `octets` stored octets and `fields` stored
+/// datasets.
 #[inline(always)]
 pub(crate) fn room_fault(
     limits: Limits,
@@ -47,8 +48,8 @@ pub(crate) fn room_fault(
     None
 }
 
-/// Whether a dataset more of this head is kept within the limits, after `octets` kept octets and `fields` kept datasets: `room_fault`
-/// has nothing to tell.
+/// Checks whether one more dataset with this head can be stored within the limits, after `octets`
+/// stored octets and `fields` stored datasets: whether `room_fault` returns `None`.
 #[inline(always)]
 fn has_room(limits: Limits, octets: usize, fields: usize, head: Head) -> bool
     requires kept { IsTrue (is_kept head.rec) }
@@ -59,16 +60,16 @@ fn has_room(limits: Limits, octets: usize, fields: usize, head: Head) -> bool
         && (fields as u64) < u64::from(limits.fields)
 }
 
-/// A reader of the datasets of an envelope: it checks them one by one, and keeps those of records 1 and 2. Contracts see it as
-/// where its check stands, its limits, the datasets that it has kept, the octets that it has taken of a begun one, and what it has
-/// room for, which stays as it was made.
+/// A reader of the datasets of an envelope. It checks them one by one, and stores those of records
+/// 1 and 2. Contracts see it as the state of its check, its limits, the datasets that it has
+/// stored, the octets received of the dataset in progress, and its capacity, which never changes.
 #[derive(Drop)]
 pub struct Fields {
     check: RecordCheck,
     limits: Limits,
-    /// The kept datasets, and the octets of a begun one that will be kept.
+    /// The stored datasets, and the octets of the one in progress, if it will be stored.
     store: Store,
-    /// The octets of a begun size, of record 7 or 9.
+    /// The octets of a size in progress, of record 7 or 9.
     size: ArrayVec<u8, SIZE_OCTETS>,
 }
 
@@ -88,8 +89,10 @@ impl Fields {
     ghost use Rattle.iim_fields.specs.States.Walks.{rest_of};
     ghost use Rattle.iim_fields.specs.States.Standing.{limits_of, room_of, section_of, begun_head_of, room_for, IsFailed, IsBetween, IsInside, CanTake, CanClose, StandsAfter, StandsIn, TookDataset, PassesSubfile, SameBounds, IsHeadFault, IsOf, IsEnded, Spells, Admits, add_fault};
 
-    /// At the beginning of an envelope, with memory for just what the limits allow: no later call takes any. An error says that
-    /// memory was refused.
+    /// Creates a reader at the beginning of an envelope, with memory for exactly what the limits
+    /// allow. No later call allocates.
+    ///
+    /// **Errors:** the allocation fails.
     pub fn new(alloc: Global, limits: Limits) -> Result<Fields, AllocError>
         ensures stands { IfOk result (λ fields. StandsAfter fields []) }
         ensures limits { IfOk result (λ fields. limits_of fields ≡ limits) }
@@ -104,8 +107,8 @@ impl Fields {
         })
     }
 
-    /// Begins again, on the same memory and within the same limits: whatever was read or refused before, it is at the beginning of an
-    /// envelope. It takes no memory.
+    /// Resets the reader to the beginning of an envelope, with the same memory and the same limits,
+    /// whatever was read or rejected before. It does not allocate.
     pub fn again(&mut self)
         ensures stands { StandsAfter self.new [] }
         ensures bounds { SameBounds self.old self.new }
@@ -115,21 +118,22 @@ impl Fields {
         self.check = RecordCheck::new();
     }
 
-    /// The limits under which it reads.
+    /// Returns the limits of the reader.
     pub fn limits(&self) -> Limits
         ensures { result ≡ limits_of self.now }
     {
         self.limits
     }
 
-    /// Whether something was refused.
+    /// Checks whether a call returned an error.
     pub fn is_failed(&self) -> bool
         ensures { IsTrue result ↔ IsFailed self.now }
     {
         self.check.is_failed()
     }
 
-    /// The record of the last head, which is the present one; 0 at the beginning of an envelope, and after a refusal.
+    /// Returns the current record, which is that of the last head; 0 at the beginning of an
+    /// envelope and after an error.
     #[inline(always)]
     pub fn section(&self) -> u8
         ensures section { result ≡ section_of self.now }
@@ -140,7 +144,8 @@ impl Fields {
         self.check.section()
     }
 
-    /// The head of the begun dataset; `None` between datasets, at the beginning of an envelope, and after a refusal.
+    /// Returns the head of the dataset in progress; `None` between datasets, at the beginning of an
+    /// envelope, and after an error.
     #[inline(always)]
     pub fn begun_head(&self) -> Option<Head>
         ensures head { result ≡ begun_head_of self.now }
@@ -151,7 +156,8 @@ impl Fields {
         self.check.begun()
     }
 
-    /// The octets that have come of the begun dataset. Those of a subfile do not pass here. The reader has not failed.
+    /// Returns the octets received of the dataset in progress. The octets of a subfile do not pass
+    /// through this reader. The reader must not have failed.
     pub fn begun(&self) -> &[u8]
         requires { IsFailed self.now → ⊥ }
         ensures { result.now ≡ self.now.taken }
@@ -162,7 +168,7 @@ impl Fields {
         }
     }
 
-    /// The datasets that were kept, in order: record, number and data of each.
+    /// Iterates over the stored datasets, in order: record, number and data of each.
     pub fn kept(&self) -> FieldIter<'_>
         ensures { rest_of result ≡ self.now.kept }
     {
@@ -173,8 +179,10 @@ impl Fields {
         }
     }
 
-    /// Takes the next head, or answers its first fault and has failed: the record layer dies with the head, or a limit
-    /// is passed.
+    /// Accepts the next head.
+    ///
+    /// **Errors:** the first fault of the head: the datasets are no longer a viable prefix, or a
+    /// limit is exceeded. The reader has then failed.
     #[inline(always)]
     pub fn begin(&mut self, head: Head) -> Result<(), FieldFault>
         requires { IsBetween self.old }
@@ -194,9 +202,10 @@ impl Fields {
         Ok(())
     }
 
-    /// Takes a whole dataset of record 1 or 2, its head and all of its data, as `begin`, `bytes` and `close` take it; or changes
-    /// nothing, and answers false: where its record is another, where its head or its value has a fault, or where it passes a
-    /// limit. Then these calls tell the fault.
+    /// Accepts a complete dataset of record 1 or 2, its head and all of its data, as `begin`,
+    /// `bytes` and `close` do. Returns `false` and changes nothing if the dataset is of another
+    /// record, its head or value has a fault, or it exceeds a limit; those calls then return the
+    /// fault.
     #[inline(always)]
     pub fn whole(&mut self, head: Head, octets: &[u8]) -> bool
         requires between { IsBetween self.old }
@@ -224,8 +233,9 @@ impl Fields {
         true
     }
 
-    /// Whether a whole dataset of record 7 or 9 may come, whose data spell this number: `begin`, `bytes` and `close` would take its head
-    /// and any such data. Else these calls tell the fault.
+    /// Checks whether a complete dataset of record 7 or 9 may come next whose data encode this
+    /// number: `begin`, `bytes` and `close` would accept its head and any such data. Otherwise
+    /// those calls return the fault.
     #[inline(always)]
     pub fn admits_number(&self, head: Head, number: u64) -> bool
         requires between { IsBetween self.now }
@@ -238,8 +248,8 @@ impl Fields {
         self.check.admits_number(head, number)
     }
 
-    /// Takes a whole dataset of record 7 or 9, its head and all of its data, as `begin`, `bytes` and `close` take it: one that may come,
-    /// as `admits_number` tells.
+    /// Accepts a complete dataset of record 7 or 9, its head and all of its data, as `begin`,
+    /// `bytes` and `close` do. It must be one for which `admits_number` returns true.
     #[inline(always)]
     pub fn put_number(&mut self, head: Head)
         requires between { IsBetween self.old }
@@ -252,8 +262,9 @@ impl Fields {
         self.check.put(head);
     }
 
-    /// Takes a whole subfile, its head and its end, as `begin` and `close` take it, whatever it has; or changes nothing, and answers
-    /// false, where its head has a fault. Then `begin` tells the fault.
+    /// Accepts a complete subfile, its head and its end, as `begin` and `close` do, whatever its
+    /// data. Returns `false` and changes nothing if its head has a fault; `begin` then returns the
+    /// fault.
     #[inline(always)]
     pub fn whole_subfile(&mut self, head: Head) -> bool
         requires between { IsBetween self.old }
@@ -269,8 +280,8 @@ impl Fields {
         self.check.whole_subfile(head)
     }
 
-    /// Adds the next octets of the begun dataset. Call it as often as you like, up to the count of the head. Never for a
-    /// subfile, 8:10, whose data belong to the object.
+    /// Adds the next octets of the dataset in progress. It may be called any number of times, up to
+    /// the count of the head. Do not call it for a subfile, 8:10, whose data belong to the object.
     #[inline(always)]
     pub fn bytes(&mut self, octets: &[u8])
         requires { CanTake self.old (length octets.now) }
@@ -290,8 +301,10 @@ impl Fields {
         self.size.try_extend_from_slice(octets).unwrap();
     }
 
-    /// Ends the begun dataset: answers the number that it tells if its record is 7 or 9, or the first fault of its value,
-    /// and then has failed: the record layer dies with the value.
+    /// Ends the dataset in progress. Returns the number that it encodes if its record is 7 or 9.
+    ///
+    /// **Errors:** the first fault of the value, with which the datasets are no longer a viable
+    /// prefix. The reader has then failed.
     #[inline(always)]
     pub fn close(&mut self) -> Result<Option<u64>, FieldFault>
         requires { CanClose self.old }
@@ -322,7 +335,8 @@ impl Fields {
         Ok(number)
     }
 
-    /// The envelope that was kept where it lies, where 9:10 has ended and nothing was refused.
+    /// Returns a borrowed view of the stored envelope, if 9:10 has ended and no call returned an
+    /// error.
     pub fn envelope(&self) -> Option<EnvelopeRef<'_>>
         ensures ended { IsSome result ↔ IsEnded self.now }
         ensures whole { (ds : List Dataset) → StandsAfter self.now ds → IsSome result ↔ AreSections ds }
@@ -335,7 +349,8 @@ impl Fields {
         Some(EnvelopeRef { store: &self.store })
     }
 
-    /// The envelope that was kept, where 9:10 has ended and nothing was refused. Else the reader is handed back as it was.
+    /// Returns the stored envelope, if 9:10 has ended and no call returned an error. Otherwise
+    /// returns the reader as it was.
     pub fn into_envelope(self) -> Result<Envelope, Fields>
         ensures ended { OnOk result (IsEnded self) }
         ensures whole { OnOk result ((ds : List Dataset) → StandsAfter self ds → AreSections ds) }

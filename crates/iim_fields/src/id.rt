@@ -1,4 +1,4 @@
-//! What envelopes are known by.
+//! The identity of an envelope.
 
 ghost use Rattle.std.specs.Prelude.{◌≡◌, ◌≤◌, ◌↔◌, length, take, IsTrue, refl};
 ghost use Rattle.std.specs.Ordering.{as_partial_cmp};
@@ -9,21 +9,21 @@ ghost use Rattle.std.specs.Cmp.{partial_equiv_from_equiv, po};
 use std::cmp::Ordering;
 use std::marker::Model;
 
-/// The most octets of a service.
+/// The greatest number of octets of a service.
 const MAX_SERVICE: usize = 10;
 
-/// What an envelope is known by: the service that sent it, its number, and the date on which it was sent. By the standard
-/// a number is unique for the other two. It takes no memory.
+/// The identity of an envelope: the service that sent it, its number, and the date on which it was
+/// sent. By the standard a number is unique for a service and a date. It does not allocate.
 ///
-/// Ids are ordered by service, then by number, then by date, each by its octets: the first that differs decides, or else
-/// the shorter text is first.
+/// Identities are ordered by service, then by number, then by date, each compared octet by octet:
+/// the first difference decides, or else the shorter text is first.
 ///
 /// Contracts see it as the three texts.
 #[derive(Clone, Debug, Drop)]
 pub struct EnvelopeId {
     number: [u8; 8],
     date_sent: [u8; 8],
-    // The service, and zeros after it.
+    // The service, padded with zeros.
     service: [u8; MAX_SERVICE],
     service_len: u8,
 }
@@ -40,7 +40,7 @@ impl Model for EnvelopeId {
     ghost invariant = { λ id. id.service_len ≤ 10 };
 }
 
-/// The octets, and zeros after them.
+/// Returns the octets, padded with zeros.
 fn filled<const ROOM: usize>(octets: &[u8]) -> [u8; ROOM]
     requires { length octets.now ≤ ROOM }
     ensures { take (length octets.now) result ≡ octets.now }
@@ -51,7 +51,7 @@ fn filled<const ROOM: usize>(octets: &[u8]) -> [u8; ROOM]
 }
 
 impl EnvelopeId {
-    /// The id of these data, which are as long as their rows allow.
+    /// Creates the identity from these data, which are as long as their rows allow.
     pub(crate) fn new(service: &[u8], number: &[u8], date_sent: &[u8]) -> EnvelopeId
         requires service { length service.now ≤ 10 }
         requires number { length number.now ≡ 8 }
@@ -66,21 +66,21 @@ impl EnvelopeId {
         }
     }
 
-    /// 1:30 Service Identifier, of the Envelope Record.
+    /// Returns 1:30 Service Identifier, of the Envelope Record.
     pub fn service(&self) -> &[u8]
         ensures { result.now ≡ self.now.service }
     {
         &self.service[..usize::from(self.service_len)]
     }
 
-    /// 1:40 Envelope Number: eight digits.
+    /// Returns 1:40 Envelope Number: eight digits.
     pub fn number(&self) -> &[u8]
         ensures { result.now ≡ self.now.number }
     {
         &self.number
     }
 
-    /// 1:70 Date Sent, as eight digits, CCYYMMDD.
+    /// Returns 1:70 Date Sent, as eight digits, CCYYMMDD.
     pub fn date_sent(&self) -> &[u8]
         ensures { result.now ≡ self.now.date_sent }
     {

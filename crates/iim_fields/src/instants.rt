@@ -1,6 +1,4 @@
-//! The instants and the day that an envelope names.
-//!
-//! An [`Envelope`](crate::Envelope) and an [`EnvelopeRef`] have a method for each.
+//! The instants and the day of an envelope.
 
 ghost use Rattle.std.specs.Prelude.{◌≡◌, IsSomeAnd, pos};
 ghost use Rattle.std.specs.Option.{option_map};
@@ -14,8 +12,8 @@ use iim_tables::{date_of, instant_of};
 use jiff::Timestamp;
 use jiff::civil::Date;
 
-/// The instant of this date and time of the record. Where no time was sent, `absent` stands for it. None where there is no date or no
-/// time, or where they name no instant.
+/// Returns the instant of this date and time of the record, or `None` if there is no date or time,
+/// or they have no instant. If no time was sent, `absent` is used.
 fn instant(
     envelope: &EnvelopeRef<'_>,
     rec: u8,
@@ -31,7 +29,7 @@ fn instant(
     instant_of(date, time)
 }
 
-/// The day of 1:70 Date Sent.
+/// Returns the day of 1:70 Date Sent.
 pub fn date_sent(envelope: &EnvelopeRef<'_>) -> Date
     ensures { IsSomeAnd (first_data 1 70 envelope.now)
         (λ date. IsYmd (pos (year_in date)) (pos (month_in date)) (pos (day_in date)) result) }
@@ -39,16 +37,17 @@ pub fn date_sent(envelope: &EnvelopeRef<'_>) -> Date
     date_of(envelope.date_sent_text()).unwrap()
 }
 
-/// The instant of 1:70 Date Sent and 1:80 Time Sent: local time less its offset. None where no time was sent, or where
-/// `jiff` has no such instant: its last is 9999-12-30T22:00:00.999999999Z.
+/// Returns the instant of 1:70 Date Sent and 1:80 Time Sent: local time less its offset. `None` if
+/// no time was sent, or if `jiff` has no such instant: its last is 9999-12-30T22:00:00.999999999Z.
 pub fn sent(envelope: &EnvelopeRef<'_>) -> Option<Timestamp>
     ensures { option_map (λ t. t.nanosecond) result ≡ instant_sent envelope.now }
 {
     instant(envelope, ENVELOPE, 70, 80, None)
 }
 
-/// The instant from which on the copy may be used: 2:30 Release Date and 2:35 Release Time, local time less its offset, or the
-/// beginning of that day in universal time where no time was sent. None where no date was sent, or where `jiff` has no such instant.
+/// Returns the instant from which on the copy may be used: 2:30 Release Date and 2:35 Release Time,
+/// local time less its offset, or the beginning of that day in universal time if no time was sent.
+/// `None` if no date was sent, or if `jiff` has no such instant.
 pub fn release(envelope: &EnvelopeRef<'_>) -> Option<Timestamp>
     ensures { option_map (λ t. t.nanosecond) result ≡ instant_of_release envelope.now }
 {
@@ -56,9 +55,9 @@ pub fn release(envelope: &EnvelopeRef<'_>) -> Option<Timestamp>
     instant(envelope, APPLICATION, 30, 35, Some(first))
 }
 
-/// The last instant at which the copy may be used: 2:37 Expiration Date and 2:38 Expiration Time, local time less its offset, or
-/// the last second of that day in universal time where no time was sent. None where no date was sent, or where `jiff` has no such
-/// instant.
+/// Returns the last instant at which the copy may be used: 2:37 Expiration Date and 2:38 Expiration
+/// Time, local time less its offset, or the last second of that day in universal time if no time
+/// was sent. `None` if no date was sent, or if `jiff` has no such instant.
 pub fn expires(envelope: &EnvelopeRef<'_>) -> Option<Timestamp>
     ensures { option_map (λ t. t.nanosecond) result ≡ instant_of_expiration envelope.now }
 {

@@ -1,4 +1,4 @@
-//! What holds of all datasets, and of the limits of wire copy.
+//! Lemmas on the datasets of an envelope, and on the limits of wire copy.
 
 ghost use Rattle.std.specs.Prelude.{◌≡◌};
 ghost use Rattle.iim_fields.specs.Format.Records.{wire_limits};
@@ -7,14 +7,14 @@ ghost use Rattle.iim_fields.specs.Laws.{RecordLaws};
 use crate::limits::Limits;
 use iim_tables::laws::each_row_has_values;
 
-/// What holds of the datasets of an envelope: a field for each law.
+/// Proves the lemmas on the datasets of an envelope; the record has a field for each.
 pub fn record_laws()
     ensures { RecordLaws }
 {
     each_row_has_values();
 }
 
-/// [`Limits::WIRE`] are 65,536 octets in 512 datasets.
+/// Proves that [`Limits::WIRE`] are 65,536 octets in 512 datasets.
 pub fn wire_limits_are_told()
     ensures { Limits.WIRE ≡ wire_limits }
 {}

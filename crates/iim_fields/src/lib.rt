@@ -1,9 +1,11 @@
-//! The records of an envelope (IIM version 4): each dataset is checked against its row, records 1 and 2 are kept.
+//! The records of an envelope (IIM version 4): each dataset is checked against its row, and records
+//! 1 and 2 are stored.
 //!
-//! Stands on `iim_tables` and `iim_dataset`, and on `arrayvec`, and on `jiff` for the day and the instants that an envelope names ([`instants`]). The crate above uses
-//! [`Fields`]: its `begin`, `bytes` and `close` lead from after some datasets to after one more, or tell the first fault of
-//! the head or value, with which the record layer is dead or a limit passed; and `into_envelope` hands over what was kept.
-//! [`RecordCheck`] is the record layer alone.
+//! Depends on `iim_tables`, `iim_dataset` and `arrayvec`, and on `jiff` for the day and the
+//! instants of an envelope ([`instants`]). The crate above uses [`Fields`]. Its methods `begin`,
+//! `bytes` and `close` accept one more dataset, or return the first fault of the head or value:
+//! with it the datasets are no longer a viable prefix, or a limit is exceeded. Its method
+//! `into_envelope` returns what was stored. [`RecordCheck`] is the record layer alone.
 #![tactic(auto)]
 
 mod builder;

@@ -1,13 +1,14 @@
-//! Sets of the numbers that datasets have.
+//! Sets of the numbers of datasets.
 
 ghost use Rattle.std.specs.Prelude.{◌≡◌, false, true, replicate, slice_index_or, slice_set};
 
 use std::marker::Model;
 
-/// The bits of a word.
+/// The number of bits of a word.
 const BITS: u8 = 64;
 
-/// A set of numbers from 0 to 255. Contracts see it as a list of 256: whether each number is in it.
+/// A set of numbers from 0 to 255. Contracts see it as a list of 256: whether each number is in the
+/// set.
 #[derive(Drop)]
 pub(crate) struct NumberSet {
     /// A bit for each number, from the lowest bit of the first word up.
@@ -26,7 +27,7 @@ impl Model for NumberSet {
 }
 
 impl NumberSet {
-    /// No number is in it.
+    /// Creates an empty set.
     #[inline(always)]
     pub(crate) fn new() -> NumberSet
         ensures { result ≡ replicate 256 false }
@@ -34,14 +35,14 @@ impl NumberSet {
         NumberSet { words: [0; 4] }
     }
 
-    /// Another one with the same numbers.
+    /// Returns another set of the same numbers.
     pub(crate) fn copied(&self) -> NumberSet
         ensures { result ≡ self.now }
     {
         NumberSet { words: self.words }
     }
 
-    /// Whether the number is in it.
+    /// Checks whether the number is in the set.
     #[inline(always)]
     pub(crate) fn contains(&self, number: u8) -> bool
         ensures { result ≡ slice_index_or self.now number false }

@@ -1,4 +1,4 @@
-//! Where a head may stand: the order of the records, and the rows of their datasets.
+//! Which head may come next: the order of the records, and the rows of their datasets.
 
 ghost use Rattle.std.specs.Prelude.{◌≡◌, ◌≢◌, false, ◌&&◌, ◌||◌, ◌==◌, nat_le, not, if◌then◌else◌, replicate, is_none, Some, None, IfOk, IfErr, OnOk, IsTrue};
 ghost use Rattle.std.specs.Int.{IsInRange};
@@ -16,14 +16,15 @@ use iim_dataset::{GREATEST_SIZE, Head};
 use iim_tables::records::{APPLICATION, ENVELOPE, OBJECT, POST_OBJECT, PRE_OBJECT, SUBFILE};
 use iim_tables::{Row, row};
 
-/// What the heads so far leave open: the present record, 0 before the first, and the numbers that occurred in it.
+/// The state after the heads so far: the current record, 0 before the first, and the numbers that
+/// occurred in it.
 #[derive(Drop)]
 pub(crate) struct Order {
     rec: u8,
     seen: NumberSet,
 }
 
-/// A fault on the dataset of a head.
+/// Returns a fault on the dataset of a head.
 #[inline(always)]
 pub(crate) fn fault_on(head: Head, cause: FieldCause) -> FieldFault
     ensures { result ≡ record { rec = head.rec; set = head.set; cause = cause } }
@@ -45,14 +46,14 @@ fn missing_on(rec: u8, set: u8) -> FieldFault
     }
 }
 
-/// The fault of an envelope without record 2.
+/// Returns the fault of an envelope without record 2.
 fn no_application() -> Option<FieldFault>
     ensures { result ≡ missing_fault 2 (missing_of 2 (λ _. false)) }
 {
     Some(missing_on(APPLICATION, 0))
 }
 
-/// The first fault of a head by its row.
+/// Returns the first fault of a head by its row.
 #[inline(always)]
 fn row_fault(again: bool, row: &Row, head: Head) -> Option<FieldFault>
     ensures { result ≡ row_fault again (Some row.now) head }
@@ -66,7 +67,7 @@ fn row_fault(again: bool, row: &Row, head: Head) -> Option<FieldFault>
     None
 }
 
-/// Whether the count of a head lies within its row's bounds.
+/// Checks whether the count of a head is within the bounds of its row.
 #[inline(always)]
 fn is_counted(head: Head, row: &Row) -> bool
     ensures exactly { result ≡ within row.now.min row.now.max head.count }
@@ -75,7 +76,8 @@ fn is_counted(head: Head, row: &Row) -> bool
     row.min <= head.count && head.count <= row.max
 }
 
-/// Whether the number of a head is that of a subfile, and its count one that a size can be: what the row of 8:10 asks.
+/// Checks whether the number of a head is that of a subfile, and its count at most the greatest
+/// size, as the row of 8:10 requires.
 #[inline(always)]
 fn is_subfile(head: Head) -> bool
     ensures { result ≡ (head.set == 10 && nat_le head.count greatest_size) }
@@ -84,7 +86,7 @@ fn is_subfile(head: Head) -> bool
 }
 
 impl Order {
-    /// At the beginning of an envelope.
+    /// Creates the state at the beginning of an envelope.
     pub(crate) fn new() -> Order
         ensures rec { result.rec ≡ 0 }
         ensures seen { result.seen ≡ replicate 256 false }
@@ -95,7 +97,7 @@ impl Order {
         }
     }
 
-    /// Another one after the same heads.
+    /// Returns another state after the same heads.
     pub(crate) fn copied(&self) -> Order
         ensures { result ≡ self.now }
     {
@@ -105,14 +107,14 @@ impl Order {
         }
     }
 
-    /// The present record, 0 before the first.
+    /// Returns the current record, or 0 before the first.
     pub(crate) fn present(&self) -> u8
         ensures { result ≡ self.now.rec }
     {
         self.rec
     }
 
-    /// The lowest mandatory number of the record that has not occurred.
+    /// Returns the lowest mandatory number of the record that has not occurred.
     #[inline(always)]
     fn missing(&self, rec: u8) -> Option<u8>
         ensures { result ≡ missing_of rec (has_seen self.now) }
@@ -123,7 +125,7 @@ impl Order {
             .find(|set| !self.seen.contains(*set))
     }
 
-    /// Whether the record follows the present one.
+    /// Checks whether the record follows the current one.
     #[inline(always)]
     fn begins(&self, rec: u8) -> bool
         ensures { result ≡ is_first rec (after self.now.rec) }
@@ -134,7 +136,7 @@ impl Order {
         }
     }
 
-    /// Whether the record is the present one, or the next.
+    /// Checks whether the record is the current one, or the next.
     #[inline(always)]
     fn is_in_order(&self, rec: u8) -> bool
         ensures { result ≡ is_in_order self.now.rec rec }
@@ -142,7 +144,7 @@ impl Order {
         (rec == self.rec && rec != 0) || self.begins(rec)
     }
 
-    /// The fault of a record that ends too early.
+    /// Returns the fault of a record that ends too early.
     #[inline(always)]
     fn missing_fault(&self, rec: u8) -> Option<FieldFault>
         ensures { result ≡ missing_fault rec (missing_of rec (has_seen self.now)) }
@@ -153,7 +155,7 @@ impl Order {
         }
     }
 
-    /// What is missing where the envelope's records 1 and 2 end.
+    /// Returns the first missing dataset if the envelope's records 1 and 2 end here.
     pub(crate) fn end_fault(&self) -> Option<FieldFault>
         ensures { result ≡ end_fault self.now.rec (has_seen self.now) }
     {
@@ -166,7 +168,9 @@ impl Order {
         }
     }
 
-    /// The row of a head that may stand next, or the head's first fault.
+    /// Returns the row of a head that may come next.
+    ///
+    /// **Errors:** the first fault of the head.
     #[inline(always)]
     pub(crate) fn check(&self, head: Head) -> Result<Row, FieldFault>
         ensures row { IfOk result (λ row. row_of head.rec head.set ≡ Some row) }
@@ -191,8 +195,8 @@ impl Order {
         Ok(row)
     }
 
-    /// Whether a record may begin: it follows the present one, which lacks nothing. Each record has an arm of its own, so that
-    /// its mandatory numbers are constants there.
+    /// Checks whether a record may begin: it follows the current one, which lacks nothing. Each
+    /// record has its own arm, so that its mandatory numbers are constants there.
     #[inline(never)]
     fn may_begin(&self, rec: u8) -> bool
         ensures { result ≡ is_first rec (after self.now.rec) && is_none (missing_of self.now.rec (has_seen self.now)) }
@@ -207,7 +211,8 @@ impl Order {
         }
     }
 
-    /// Whether a head of the present record may stand next, which has this row: it has no fault for `check` to tell.
+    /// Checks whether a head of the current record with this row may come next: whether `check`
+    /// accepts it.
     #[inline(always)]
     pub(crate) fn admits_more(&self, head: Head, row: &Row) -> bool
         requires row { row_of head.rec head.set ≡ Some row.now }
@@ -218,7 +223,8 @@ impl Order {
         is_counted(head, row) && (row.repeats || !self.seen.contains(head.set))
     }
 
-    /// Whether a head of another record may stand next, which has this row: it has no fault for `check` to tell.
+    /// Checks whether a head of another record with this row may come next: whether `check` accepts
+    /// it.
     #[inline(always)]
     pub(crate) fn admits_next(&self, head: Head, row: &Row) -> bool
         requires row { row_of head.rec head.set ≡ Some row.now }
@@ -229,8 +235,8 @@ impl Order {
         is_counted(head, row) && self.may_begin(head.rec)
     }
 
-    /// Whether the head of a dataset may stand next that doesn't repeat, and is counted as its row allows: what `admits_more` and
-    /// `admits_next` ask then.
+    /// Checks whether a head may come next if its dataset does not repeat and its count is within
+    /// its row: what `admits_more` and `admits_next` check then.
     #[inline(always)]
     pub(crate) fn admits_once(&self, head: Head) -> bool
         ensures { result ≡ (if head.rec == self.now.rec then not (has_seen self.now head.set)
@@ -242,7 +248,7 @@ impl Order {
         self.may_begin(head.rec)
     }
 
-    /// Whether a subfile may come next.
+    /// Checks whether a subfile may come next.
     #[inline(always)]
     fn takes_subfile(&self) -> bool
         ensures { result ≡ (self.now.rec == 8 || (self.now.rec == 7 && is_none (missing_of 7 (has_seen self.now)))) }
@@ -254,7 +260,8 @@ impl Order {
         }
     }
 
-    /// Whether the head of a subfile may stand next, as `admits_more` and `admits_next` tell by its row.
+    /// Checks whether the head of a subfile may come next, as `admits_more` and `admits_next` do by
+    /// its row.
     #[inline(always)]
     pub(crate) fn admits_subfile(&self, head: Head) -> bool
         requires { head.rec ≡ 8 }
@@ -263,7 +270,7 @@ impl Order {
         is_subfile(head) && self.takes_subfile()
     }
 
-    /// Takes a head of the present record that may stand next.
+    /// Accepts a head of the current record that may come next.
     #[inline(always)]
     pub(crate) fn add(&mut self, head: Head)
         requires { head.rec ≡ self.old.rec }
@@ -272,7 +279,7 @@ impl Order {
         self.seen.insert(head.set);
     }
 
-    /// Takes a head of another record that may stand next.
+    /// Accepts a head of another record that may come next.
     #[inline(always)]
     pub(crate) fn begin(&mut self, head: Head)
         requires { head.rec ≢ self.old.rec }
@@ -283,7 +290,7 @@ impl Order {
         self.seen.insert(head.set);
     }
 
-    /// Takes a head that may stand next.
+    /// Accepts a head that may come next.
     #[inline(always)]
     pub(crate) fn take(&mut self, head: Head)
         ensures { AddsHead self.old head self.new }

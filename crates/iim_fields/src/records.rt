@@ -7,7 +7,7 @@ ghost use Rattle.iim_fields.specs.Format.Causes.{is_kept};
 
 use iim_tables::records::{APPLICATION, ENVELOPE, OBJECT, POST_OBJECT, PRE_OBJECT};
 
-/// The numbers of the datasets that a record must have, lowest first.
+/// Returns the numbers of the datasets that a record must have, lowest first.
 #[inline(always)]
 pub(crate) fn mandatory(rec: u8) -> &'static [u8]
     ensures { result.now ≡ mandatory rec }
@@ -21,7 +21,7 @@ pub(crate) fn mandatory(rec: u8) -> &'static [u8]
     }
 }
 
-/// The record that follows. An envelope begins with record 1, which follows 0.
+/// Returns the record that follows. An envelope begins with record 1, which follows 0.
 #[inline(always)]
 pub(crate) fn next_record(rec: u8) -> Option<u8>
     ensures { MatchOption result (after rec ≡ []) (λ next. after rec ≡ next ∷ after next) }
@@ -36,7 +36,7 @@ pub(crate) fn next_record(rec: u8) -> Option<u8>
     }
 }
 
-/// Whether an envelope keeps the datasets of a record: those of the records 1 and 2.
+/// Checks whether an envelope stores the datasets of a record: those of records 1 and 2.
 #[inline(always)]
 pub fn is_kept(rec: u8) -> bool
     ensures { result ≡ is_kept rec }

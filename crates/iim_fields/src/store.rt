@@ -1,4 +1,4 @@
-//! The kept datasets: their octets in one store, and an entry for each.
+//! The store of datasets: their octets in one buffer, and an entry for each.
 
 ghost use Rattle.std.specs.Prelude.{◌≡◌, ◌+◌, ◌≤◌, ◌<◌, ◌++◌, ◌∷◌, [], IfOk, length, vec_len, vec_capacity};
 ghost use Rattle.iim_fields.specs.StoreLayout.{ends_at, begun_octets};
@@ -6,29 +6,30 @@ ghost use Rattle.iim_fields.specs.StoreLayout.{ends_at, begun_octets};
 use iim_dataset::internals::ReservedOctets;
 use std::alloc::{AllocError, Global};
 
-/// A kept dataset: the numbers of its record and of itself, and where its octets end in the store. They begin where
-/// those of the entry before end.
+/// A stored dataset: the numbers of its record and of itself, and where its octets end in the
+/// buffer. They begin where those of the entry before end.
 #[derive(Clone, Copy, Debug, PartialEq, Eq)]
 pub(crate) struct Entry {
-    /// The number of its record.
+    /// The number of the record.
     pub rec: u8,
-    /// Its own number.
+    /// The number of the dataset in its record.
     pub set: u8,
-    /// Where its octets end in the store.
+    /// Where the octets of the dataset end in the buffer.
     pub end: usize,
 }
 
-/// The octets of the kept datasets, joined, and after them those of a begun one; and the entries.
+/// The octets of the stored datasets, joined, and after them those of the one in progress; and the
+/// entries.
 #[derive(Drop)]
 pub(crate) struct Store {
-    /// The octets of the kept datasets, joined, and then those of a begun one.
+    /// The octets of the stored datasets, joined, and then those of the one in progress.
     pub octets: ReservedOctets,
-    /// An entry for each kept dataset.
+    /// An entry for each stored dataset.
     pub entries: Vec<Entry>,
 }
 
 impl Store {
-    /// Nothing, with room for just `octets` octets and `entries` entries.
+    /// Allocates an empty store with capacity for exactly `octets` octets and `entries` entries.
     pub(crate) fn new(alloc: Global, octets: usize, entries: usize) -> Result<Store, AllocError>
         ensures octets { IfOk result (λ store. store.octets.items ≡ []) }
         ensures entries { IfOk result (λ store. store.entries.items ≡ []) }
@@ -42,7 +43,7 @@ impl Store {
         Ok(store)
     }
 
-    /// Empties it: the room stays.
+    /// Removes all datasets and octets. The capacity remains.
     pub(crate) fn empty(&mut self)
         ensures octets { self.new.octets.items ≡ [] }
         ensures entries { self.new.entries.items ≡ [] }
@@ -53,7 +54,7 @@ impl Store {
         self.entries.clear();
     }
 
-    /// Takes octets of the begun dataset into the room that there is.
+    /// Appends octets of the dataset in progress, for which there must be capacity.
     #[inline(always)]
     pub(crate) fn take(&mut self, octets: &[u8])
         requires { length self.old.octets.items + length octets.now ≤ self.old.octets.room }
@@ -64,7 +65,8 @@ impl Store {
         self.octets.take(octets);
     }
 
-    /// Where the octets of the kept datasets end, and those of the begun one begin.
+    /// Returns where the octets of the stored datasets end, and those of the dataset in progress
+    /// begin.
     #[inline(always)]
     fn end(&self) -> usize
         ensures { result ≡ ends_at 0 self.now.entries.items }
@@ -75,7 +77,7 @@ impl Store {
         }
     }
 
-    /// The octets of the begun dataset.
+    /// Returns the octets of the dataset in progress.
     #[inline(always)]
     pub(crate) fn begun(&self) -> &[u8]
         requires { ends_at 0 self.now.entries.items ≤ length self.now.octets.items }
@@ -84,7 +86,7 @@ impl Store {
         &self.octets.as_slice()[self.end()..]
     }
 
-    /// Keeps the begun dataset, whose octets are all there.
+    /// Stores the dataset in progress, all of whose octets have been appended.
     #[inline(always)]
     pub(crate) fn keep(&mut self, rec: u8, set: u8)
         requires { vec_len self.old.entries < vec_capacity self.old.entries }

@@ -1,4 +1,4 @@
-//! What a complete value has to be.
+//! Checks of complete values.
 
 ghost use Rattle.std.specs.Prelude.{◌≡◌, ◌==◌, ◌&&◌, ◌||◌, nat_le, if◌then◌else◌, IsTrue, is_none, Some, None, length, IfOk, IfErr, OnOk};
 ghost use Rattle.iim_tables.specs.Format.Rows.{row_of};
@@ -19,10 +19,10 @@ use iim_tables::records::{
 };
 use iim_tables::{Kind, Row, admits, number_of};
 
-/// The file format of a text for wire services, which the profile asks for.
+/// The file format of a text for wire services, which the profile requires.
 const WIRE_FORMAT: u64 = 2;
 
-/// Whether the octets may be those of the head, as far as the value of a file format goes.
+/// Checks whether the dataset is not 1:20 File Format, or its value is 2.
 #[inline(always)]
 fn has_file_format(head: Head, octets: &[u8]) -> bool
     requires { head.rec ≡ 1 → head.set ≡ 20 → length octets.now ≡ 2 }
@@ -34,7 +34,7 @@ fn has_file_format(head: Head, octets: &[u8]) -> bool
     number_of(octets).is_some_and(|number| number == WIRE_FORMAT)
 }
 
-/// The first fault of a value.
+/// Returns the first fault of a value.
 #[inline(always)]
 fn value_fault(head: Head, row: &Row, octets: &[u8]) -> Option<FieldFault>
     requires { row_of head.rec head.set ≡ Some row.now }
@@ -49,7 +49,8 @@ fn value_fault(head: Head, row: &Row, octets: &[u8]) -> Option<FieldFault>
     None
 }
 
-/// Whether the octets are of the kind. Any octets are a binary number: that is told without a call.
+/// Checks whether the octets are of the kind. Any octets are a binary number, so that kind needs no
+/// call.
 #[inline(always)]
 fn is_of_kind(kind: Kind, octets: &[u8]) -> bool
     ensures { result ≡ has_kind kind octets.now }
@@ -60,7 +61,8 @@ fn is_of_kind(kind: Kind, octets: &[u8]) -> bool
     }
 }
 
-/// Whether a value that is as long as its row allows has no fault for `value_fault` to tell.
+/// Checks whether a value that is as long as its row allows has no fault: whether `value_fault`
+/// returns `None`.
 #[inline(always)]
 pub(crate) fn is_value(head: Head, row: &Row, octets: &[u8]) -> bool
     requires row { row_of head.rec head.set ≡ Some row.now }
@@ -70,7 +72,8 @@ pub(crate) fn is_value(head: Head, row: &Row, octets: &[u8]) -> bool
     is_of_kind(row.kind, octets) && has_file_format(head, octets)
 }
 
-/// Whether a dataset of record 7 or 9 may have this number, spelled by as many octets as its head counts.
+/// Checks whether a dataset of record 7 or 9 may have this number, encoded by as many octets as its
+/// head counts.
 #[inline(always)]
 pub(crate) fn is_number(head: Head, number: u64) -> bool
     ensures { result ≡ (if head.rec == 9 then head.set == 10 && nat_le number greatest_size
@@ -89,7 +92,7 @@ pub(crate) fn is_number(head: Head, number: u64) -> bool
     }
 }
 
-/// The number that a value of record 7 or 9 tells.
+/// Returns the number that a value of record 7 or 9 encodes.
 #[inline(always)]
 fn number_told(head: Head, octets: &[u8]) -> Option<u64>
     requires { IsTrue (tells_number head.rec) → IsInRange 1 size_octets (length octets.now) }
@@ -101,7 +104,9 @@ fn number_told(head: Head, octets: &[u8]) -> Option<u64>
     }
 }
 
-/// The number that a complete value tells, or the first fault of the value.
+/// Returns the number that a complete value encodes, if its record is 7 or 9.
+///
+/// **Errors:** the first fault of the value.
 #[inline(always)]
 pub(crate) fn check_value(head: Head, row: &Row, octets: &[u8]) -> Result<Option<u64>, FieldFault>
     requires { row_of head.rec head.set ≡ Some row.now }

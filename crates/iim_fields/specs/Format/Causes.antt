@@ -1,4 +1,5 @@
--- Why a head or a value is refused: the causes, the fault that is told, and how both are printed.
+-- Why a head or a value is rejected: the causes, the fault that is reported, and how both are
+-- printed.
 use Rattle.std.specs.Prelude.{ℕ, Bool, false, not, ◌&&◌, ◌||◌, ◌==◌, ◌+◌, nat_le, if◌then◌else◌, List, [], ◌∷◌, length, flat_map, Option, Some, None, ◌≡◌, ◌≢◌, ◌<◌, ◌≤◌, ◌⊎◌, true, IsSomeAnd, IsTrue, codes, ◌++◌, decimal}
 use Rattle.std.specs.{List.find, List.filter, List.list_any, Option.option_or, Option.option_map}
 use Rattle.iim_dataset.specs.Format.Datasets.{Dataset, head_of, of_record, dataset_name}
@@ -11,27 +12,27 @@ use Rattle.iim_fields.specs.declared.fault.FieldCause.TheVariants.{RecordOrder, 
 use Rattle.iim_fields.specs.declared.fault.CopyFault.TheVariants.{Passed, OutOfMemory}
 pub use Rattle.iim_fields.specs.declared.{limits.Limits.Limits, fault.FieldFault.FieldFault}
 
--- ---- the record layer
+-- ---- The record layer.
 
 -- the record of the last dataset, r at the beginning
 abbrev pub last_record : ℕ → List Dataset → ℕ
 last_record r [] = r
 last_record r (d ∷ ds) = last_record d.rec ds
 
--- the present record: that of the last dataset, 0 at the beginning
+-- the current record: that of the last dataset, 0 at the beginning
 abbrev pub section_after : List Dataset → ℕ
 section_after ds = last_record 0 ds
 
--- the datasets of the present record
+-- the datasets of the current record
 abbrev pub section_run : List Dataset → List Dataset
 section_run ds = of_record (section_after ds) ds
 
--- the record is the first of those to come
+-- the record is the first of those that remain
 abbrev pub is_first : ℕ → List ℕ → Bool
 is_first r [] = false
 is_first r (next ∷ more) = r == next
 
--- the record is the present one, or the next
+-- the record is the current one, or the next
 abbrev pub is_in_order : ℕ → ℕ → Bool
 is_in_order present r = ((r == present) && not (r == 0)) || is_first r (after present)
 
@@ -39,7 +40,8 @@ is_in_order present r = ((r == present) && not (r == 0)) || is_first r (after pr
 abbrev pub fault_on : Head → FieldCause → FieldFault
 fault_on h cause = record { rec = h.rec; set = h.set; cause = cause }
 
--- The head has no row; its dataset doesn't repeat and has occurred; its count is outside the row's bounds.
+-- The first that holds: the head has no row; its dataset does not repeat and has occurred; its
+-- count is outside the bounds of the row.
 abbrev pub row_fault : Bool → Option Row → Head → Option FieldFault
 row_fault again None h = Some (fault_on h UnknownDataset)
 row_fault again (Some r) h =
@@ -47,17 +49,17 @@ row_fault again (Some r) h =
     else if not (within r.min r.max h.count) then Some (fault_on h CountRange)
     else None
 
--- the lowest number that is missing, where one is
+-- the fault of the lowest missing number, if one is missing
 abbrev pub missing_fault : ℕ → Option ℕ → Option FieldFault
 missing_fault present number = option_map (λ n. record { rec = present; set = n; cause = Missing }) number
 
--- the lowest mandatory number that did not occur
+-- the lowest mandatory number of the record that did not occur
 abbrev pub missing_of : ℕ → (ℕ → Bool) → Option ℕ
 missing_of rec has = find (λ n. not (has n)) (mandatory rec)
 
--- The first fault of a head, by the present record and the test whether a number occurred in it: the record is neither
--- the present one nor the next; a fault of its row; the head begins the next record, and a mandatory dataset of the
--- present one is absent.
+-- The first fault of a head, by the current record and the test whether a number occurred in it:
+-- the record is neither the current one nor the next; a fault of its row; the head begins the next
+-- record, and a mandatory dataset of the current one is missing.
 abbrev pub head_fault : ℕ → (ℕ → Bool) → Head → Option FieldFault
 head_fault present has h =
     if not (is_in_order present h.rec) then Some (fault_on h RecordOrder)
@@ -68,7 +70,7 @@ head_fault present has h =
 abbrev pub record_fault : List Dataset → Head → Option FieldFault
 record_fault ds h = head_fault (section_after ds) (λ n. occurs n (section_run ds)) h
 
--- The octets are not as the row says; a file format is not 2.
+-- The first that holds: the octets do not meet the row; a file format is not 2.
 abbrev pub fault_by_row : Option Row → Dataset → Option FieldFault
 fault_by_row None d = Some (fault_on (head_of d) BadValue)
 fault_by_row (Some r) d =
@@ -80,13 +82,13 @@ fault_by_row (Some r) d =
 abbrev pub value_fault : Dataset → Option FieldFault
 value_fault d = fault_by_row (row_of d.rec d.set) d
 
--- ---- the limits
+-- ---- The limits.
 
--- records 1 and 2 are kept
+-- the record is one of those that are stored, 1 and 2
 abbrev pub is_kept : ℕ → Bool
 is_kept rec = rec == 1 || rec == 2
 
--- the kept datasets
+-- the datasets that are stored
 abbrev pub kept : List Dataset → List Dataset
 kept ds = filter (λ d. is_kept d.rec) ds
 
@@ -94,18 +96,18 @@ kept ds = filter (λ d. is_kept d.rec) ds
 abbrev pub joined : List Dataset → List ℕ
 joined ds = flat_map (λ d. d.octets) ds
 
--- how many octets the kept data have
+-- the number of octets of the stored data
 abbrev pub kept_octets : List Dataset → ℕ
 kept_octets ds = length (joined (kept ds))
 
--- The first limit that `octets` kept octets and `fields` kept datasets pass.
+-- The first limit that `octets` stored octets and `fields` stored datasets exceed.
 abbrev pub limit_passed : Limits → ℕ → ℕ → Option FieldCause
 limit_passed limits octets fields =
     if not (nat_le octets limits.octets) then Some HeaderFull
     else if not (nat_le fields limits.fields) then Some TooManyFields
     else None
 
--- After `octets` kept octets and `fields` kept datasets: with those of the head, the octets pass the limit, or the datasets.
+-- The first limit that a head exceeds, after `octets` stored octets and `fields` stored datasets.
 abbrev pub room_fault : Limits → ℕ → ℕ → Head → Option FieldFault
 room_fault limits octets fields h =
     if not (is_kept h.rec) then None
@@ -113,7 +115,7 @@ room_fault limits octets fields h =
     else if not (nat_le (fields + 1) limits.fields) then Some (fault_on h TooManyFields)
     else None
 
--- the first limit that a head passes after datasets
+-- the first limit that a head exceeds after datasets
 abbrev pub limits_fault : Limits → List Dataset → Head → Option FieldFault
 limits_fault limits ds h = room_fault limits (kept_octets ds) (length (kept ds)) h
 
@@ -121,46 +123,46 @@ limits_fault limits ds h = room_fault limits (kept_octets ds) (length (kept ds))
 abbrev pub first_fault : Limits → List Dataset → Head → Option FieldFault
 first_fault limits ds h = option_or (record_fault ds h) (limits_fault limits ds h)
 
--- ---- Why a head or a value is refused. Each cause has a number and a condition; of the causes whose condition holds, the one of the
--- lowest number is told.
+-- ---- Why a head or a value is rejected. Each cause has a number and a condition; of the causes
+-- whose condition holds, the one with the lowest number is reported.
 
--- What is judged: a complete head, or the complete value of a dataset.
+-- What may be rejected: a complete head, or the complete value of a dataset.
 pub data Token : Type 0 where
   AtHead : Head → Token
   AtValue : Dataset → Token
 
--- ---- the conditions
+-- ---- The conditions.
 
 -- the head begins the record that comes next, which is record 1 at the beginning
 abbrev pub BeginsNext : List Dataset → Head → Type 0
 BeginsNext ds h = (later : List ℕ) × (after (section_after ds) ≡ h.rec ∷ later)
 
--- The head's record is neither the present one, that of the last dataset, nor the next.
+-- The record of the head is neither the current one, that of the last dataset, nor the next.
 abbrev pub IsOutOfOrder : List Dataset → Head → Type 0
 IsOutOfOrder ds h = (((h.rec ≢ 0) × (h.rec ≡ section_after ds)) ⊎ BeginsNext ds h) → ⊥
 
--- No row has the head's numbers. Records 1 and 2 have rows for all numbers.
+-- No row has the record and number of the head. Records 1 and 2 have rows for all numbers.
 abbrev pub HasNoRow : Head → Type 0
 HasNoRow h = row_of h.rec h.set ≡ None
 
--- The dataset does not repeat, and has occurred in the present record.
+-- The dataset does not repeat, and has occurred in the current record.
 abbrev pub IsRepeated : List Dataset → Head → Type 0
 IsRepeated ds h = (repeats h.rec h.set ≡ false) × (h.rec ≡ section_after ds) × (occurs h.set (section_run ds) ≡ true)
 
--- The count is below the row's least, or above its greatest.
+-- The count is below the least number of octets of the row, or above the greatest.
 abbrev pub IsOutOfRange : Head → Type 0
 IsOutOfRange h = IsSomeAnd (row_of h.rec h.set) (λ row. (h.count < row.min) ⊎ (row.max < h.count))
 
--- the present record must have a dataset of this number, and has none
+-- the current record must have a dataset of this number, and has none so far
 pub record IsAbsent (ds : List Dataset) (n : ℕ) : Type 0 where
   pub mandatory : list_any (λ m. m == n) (mandatory (section_after ds)) ≡ true
   pub absent : occurs n (section_run ds) ≡ false
 
--- The head begins the next record, and a mandatory dataset of the present one is absent.
+-- The head begins the next record, and a mandatory dataset of the current one is missing.
 abbrev pub EndsTooEarly : List Dataset → Head → Type 0
 EndsTooEarly ds h = BeginsNext ds h × ((n : ℕ) × IsAbsent ds n)
 
--- The octets are not as the row says.
+-- The octets do not meet the row of the dataset.
 abbrev pub IsBad : Dataset → Type 0
 IsBad d = Meets d.rec d.set d.octets → ⊥
 
@@ -168,11 +170,11 @@ IsBad d = Meets d.rec d.set d.octets → ⊥
 abbrev pub IsOtherFormat : Dataset → Type 0
 IsOtherFormat d = (d.rec ≡ 1) × (d.set ≡ 20) × (number d.octets ≢ 2)
 
--- The head is of record 1 or 2, and the kept data with its count pass the limit.
+-- The head is of record 1 or 2, and the stored data with its count exceed the limit.
 abbrev pub PassesOctets : Limits → List Dataset → Head → Type 0
 PassesOctets limits ds h = IsTrue (is_kept h.rec) × (limits.octets < kept_octets ds + h.count)
 
--- The head is of record 1 or 2, and the kept datasets with its own pass the limit.
+-- The head is of record 1 or 2, and the stored datasets with its own exceed the limit.
 abbrev pub PassesFields : Limits → List Dataset → Head → Type 0
 PassesFields limits ds h = IsTrue (is_kept h.rec) × (limits.fields < length (kept ds) + 1)
 
@@ -186,7 +188,7 @@ abbrev pub OfValue : (Dataset → Type 0) → Token → Type 0
 OfValue P (AtHead h) = ⊥
 OfValue P (AtValue d) = P d
 
--- ---- the causes
+-- ---- The causes.
 
 -- The number of a cause, its name, and its condition at a token after datasets, under limits.
 pub record Rule : Type 1 where
@@ -218,12 +220,13 @@ abbrev pub head_at : Token → Head
 head_at (AtHead h) = h
 head_at (AtValue d) = head_of d
 
--- The dataset that is named: where one is missing, the missing one of the lowest number; else the token's own.
+-- The dataset that the fault names: for Missing, the missing dataset with the lowest number;
+-- otherwise that of the token.
 abbrev pub Names : FieldCause → List Dataset → Token → ℕ → ℕ → Type 0
 Names Missing ds t rec set = (rec ≡ section_after ds) × IsAbsent ds set × ((n : ℕ) → IsAbsent ds n → set ≤ n)
 Names _ ds t rec set = (rec ≡ (head_at t).rec) × (set ≡ (head_at t).set)
 
--- The fault of a token: the condition of its cause holds, and that of no cause of a lower number.
+-- The fault of a token: the condition of its cause holds, and that of no cause with a lower number.
 pub record IsFault (limits : Limits) (ds : List Dataset) (t : Token) (fault : FieldFault) : Type 0 where
   pub holds : HasCause fault.cause limits ds t
   pub lowest : (cause : FieldCause) → number_of_cause cause < number_of_cause fault.cause → HasCause cause limits ds t → ⊥
@@ -240,11 +243,11 @@ name_of_cause cause = (rule_of cause).name
 abbrev pub text_of_cause : FieldCause → List ℕ
 text_of_cause cause = decimal (number_of_cause cause) ++ (codes " " ++ name_of_cause cause)
 
--- a dataset that is refused, and the cause
+-- a rejected dataset and the cause, as they are printed
 abbrev pub text_of_field : FieldFault → List ℕ
 text_of_field fault = codes "refused on " ++ (dataset_name fault.rec fault.set ++ (codes ", cause " ++ text_of_cause fault.cause))
 
--- That memory was refused is cause 70.
+-- the number of a fault of a copy: a failed allocation is 70
 abbrev pub number_of_copy : CopyFault → ℕ
 number_of_copy (Passed cause) = number_of_cause cause
 number_of_copy OutOfMemory = 70

@@ -1,4 +1,4 @@
--- Good records, what can continue to them, and what an envelope's fields are, tell and keep to.
+-- Good records, what can continue to them, and the fields and the identity of an envelope.
 use Rattle.std.specs.Prelude.{◌≡◌, ℕ, ◌==◌, if◌then◌else◌, List, [], ◌∷◌, ◌++◌, Bool, ◌||◌, Option, Some, None, ◌≤◌, nat_eq, ◌&&◌, map, codes, ℤ}
 use Rattle.std.specs.{List.after_first, List.filter, declared.cmp.Ordering.Ordering, Cmp.Lexicographic.pointwise}
 use Rattle.std.specs.{Cmp.Lexicographic.slice_cmp, Option.option_and_then, Option.option_or}
@@ -12,7 +12,7 @@ use Rattle.iim_fields.specs.declared.limits.Limits.{Limits}
 abbrev pub records : List ℕ
 records = 1 ∷ 2 ∷ 7 ∷ 8 ∷ 9 ∷ []
 
--- the records that come after a record, 0 standing for the beginning
+-- the records that come after a record; 0 is the beginning
 abbrev pub after : ℕ → List ℕ
 after r = if r == 0 then records else after_first (λ k. r == k) records
 
@@ -33,32 +33,32 @@ pub record IsEnvelope (ds : List Dataset) : Type 0 where
   pub envelope : IsGoodRecord 1 r1
   pub application : IsGoodRecord 2 r2
 
--- Some datasets that follow complete the datasets of an envelope.
+-- The datasets are a viable prefix: some datasets after them complete the datasets of an envelope.
 abbrev pub SectionsLive : List Dataset → Type 0
 SectionsLive ds = IsAlive AreSections ds
 
--- Some data of the head, and datasets after it, do so.
+-- The datasets and the head are a viable prefix: with some data of the head they are one.
 abbrev pub SectionsLiveAt : List Dataset → Head → Type 0
 SectionsLiveAt ds h = (d : Dataset) × (head_of d ≡ h) × SectionsLive (ds ++ d ∷ [])
 
--- the dataset with the head's numbers and these data
+-- the dataset with the record and number of the head and these data
 abbrev pub data_of : Head → List ℕ → Dataset
 data_of h xs = record { rec = h.rec; set = h.set; octets = xs }
 
--- records 7 and 9 tell numbers
+-- the values of the record are numbers: those of 7 and 9 are
 abbrev pub tells_number : ℕ → Bool
 tells_number rec = rec == 7 || rec == 9
 
--- the number that a value tells
+-- the number that a value encodes
 abbrev pub number_told : Dataset → Option ℕ
 number_told d = if tells_number d.rec then Some (number d.octets) else None
 
--- The kept data, and the number of the kept datasets, are within the limits.
+-- The stored data, and the number of the stored datasets, are within the limits.
 pub record IsWithin (limits : Limits) (octets fields : ℕ) : Type 0 where
   pub octets_in : octets ≤ limits.octets
   pub fields_in : fields ≤ limits.fields
 
--- what the records 1 and 2 of an envelope may have where wire copy is taken: 65,536 octets in 512 datasets
+-- the limits on records 1 and 2 where wire copy is received: 65,536 octets in 512 datasets
 abbrev pub wire_limits : Limits
 wire_limits = record { octets = 65536; fields = 512 }
 
@@ -68,7 +68,7 @@ pub record Identity : Type 0 where
   pub number : List ℕ
   pub date_sent : List ℕ
 
--- texts have the same octets
+-- the texts have the same octets
 abbrev pub text_eq : List ℕ → List ℕ → Bool
 text_eq = pointwise nat_eq
 
@@ -84,33 +84,33 @@ id_eq = eq_of_both (on (λ i. i.service) text_eq) (eq_of_both (on (λ i. i.numbe
 abbrev pub id_cmp : Identity → Identity → Ordering
 id_cmp = then_cmp (on (λ i. i.service) text_cmp) (then_cmp (on (λ i. i.number) text_cmp) (on (λ i. i.date_sent) text_cmp))
 
--- the dataset has the numbers
+-- the dataset has this record and number
 abbrev pub has_names : ℕ → ℕ → Dataset → Bool
 has_names rec set d = d.rec == rec && d.set == set
 
--- the data of each dataset with the numbers, in order
+-- the data of each dataset with this record and number, in order
 abbrev pub all_data : ℕ → ℕ → List Dataset → List (List ℕ)
 all_data rec set ds = map (λ d. d.octets) (filter (has_names rec set) ds)
 
--- the data of the first dataset with the numbers
+-- the data of the first dataset with this record and number
 abbrev pub first_data : ℕ → ℕ → List Dataset → Option (List ℕ)
 first_data rec set [] = None
 first_data rec set (d ∷ ds) = if has_names rec set d then Some d.octets else first_data rec set ds
 
--- the instant of the first datasets of the record with these numbers, a date and a time, in nanoseconds; where there is no time, `absent`
--- stands for it, if that is a text
+-- the instant of the first datasets of the record with these numbers, a date and a time, in
+-- nanoseconds; if there is no time, `absent` is used if it is a text
 abbrev pub instant_of_pair : (rec date_set time_set : ℕ) → Option (List ℕ) → List Dataset → Option ℤ
 instant_of_pair rec date_set time_set absent ds =
     option_and_then (λ date. option_and_then (λ time. instant_in date time) (option_or (first_data rec time_set ds) absent)) (first_data rec date_set ds)
 
--- the instant of 1:70 Date Sent and 1:80 Time Sent, in nanoseconds, where both were sent and name one
+-- the instant of 1:70 Date Sent and 1:80 Time Sent in nanoseconds, if both were sent and have one
 abbrev pub instant_sent : List Dataset → Option ℤ
 instant_sent ds = instant_of_pair 1 70 80 None ds
 
--- the instant of 2:30 Release Date and 2:35 Release Time, or of that day's beginning
+-- the instant of 2:30 Release Date and 2:35 Release Time, or of the beginning of that day
 abbrev pub instant_of_release : List Dataset → Option ℤ
 instant_of_release ds = instant_of_pair 2 30 35 (Some (codes "000000+0000")) ds
 
--- the instant of 2:37 Expiration Date and 2:38 Expiration Time, or of that day's last second
+-- the instant of 2:37 Expiration Date and 2:38 Expiration Time, or of the last second of that day
 abbrev pub instant_of_expiration : List Dataset → Option ℤ
 instant_of_expiration ds = instant_of_pair 2 37 38 (Some (codes "235959+0000")) ds

@@ -1,4 +1,5 @@
--- Where a check of records, a reader of them and a builder of envelopes stand, and why they refuse.
+-- The states of a check of records, of a reader of them and of a builder of envelopes, and why they
+-- reject.
 use Rattle.std.specs.Prelude.{◌≡◌, ℕ, Bool, false, List, length, slice_index_or, ◌≢◌, ⊤, [], ◌∷◌, ◌++◌, Option, Some, None, ◌+◌, ◌≤◌, ◌⊎◌, IsTrue, ◌^◌, ◌<◌, not, if◌then◌else◌}
 use Rattle.std.specs.{Option.option_and_then, Option.option_or, Int.IsInRange}
 use Rattle.iim_dataset.specs.Format.Datasets.{Dataset, head_of, of_record}
@@ -13,47 +14,49 @@ use Rattle.iim_fields.specs.declared.{fault.FieldCause.TheVariants.RecordOrder, 
 use Rattle.iim_fields.specs.declared.{fault.CopyFault.TheVariants.Passed, fault.CopyFault.TheVariants.OutOfMemory}
 pub use Rattle.iim_fields.specs.declared.check.RecordPlace.{RecordPlace}
 
--- the number has occurred in the present record
+-- the number has occurred in the current record
 abbrev pub has_seen : Order → ℕ → Bool
 has_seen o n = slice_index_or o.seen n false
 
--- It has the present record of the datasets, and, in a place for each of 256 numbers, which occurred in it.
+-- It has the current record of the datasets, and for each of 256 numbers whether it occurred in
+-- that record.
 pub record IsOrderOf (o : Order) (ds : List Dataset) : Type 0 where
   pub places : length o.seen ≡ 256
   pub present : o.rec ≡ section_after ds
   pub seen : (n : ℕ) → has_seen o n ≡ occurs n (section_run ds)
 
--- ---- a check, from outside: its place, or None after a refusal
+-- ---- A check, as contracts see it: its state, or `None` after an error.
 
--- No value of a begun dataset is to come: none is begun, or a subfile, whose data are no matter of records.
+-- No value is expected: no dataset is in progress, or a subfile, whose data do not concern the
+-- records.
 abbrev pub AwaitsNone : Option Begun → Type 0
 AwaitsNone None = ⊤
 AwaitsNone (Some begun) = begun.head.rec ≡ 8
 
--- It takes a head.
+-- The check accepts a head.
 pub record TakesHead (check : Option RecordPlace) : Type 0 where
   pub order : Order
   pub begun : Option Begun
   pub at : check ≡ Some (record { order = order; begun = begun })
   pub none : AwaitsNone begun
 
--- No dataset is begun.
+-- No dataset is in progress.
 pub record AwaitsHead (check : Option RecordPlace) : Type 0 where
   pub order : Order
   pub between : check ≡ Some (record { order = order; begun = None })
 
--- A dataset of this head is begun.
+-- A dataset with this head is in progress.
 pub record IsIn (check : Option RecordPlace) (h : Head) : Type 0 where
   pub order : Order
   pub row : Row
   pub inside : check ≡ Some (record { order = order; begun = Some (record { head = h; row = row }) })
   pub known : row_of h.rec h.set ≡ Some row
 
--- It takes a value of n octets.
+-- The check accepts a value of n octets.
 abbrev pub TakesValue : Option RecordPlace → ℕ → Type 0
 TakesValue check n = (h : Head) × IsIn check h × (h.rec ≢ 8) × (h.count ≡ n)
 
--- It stands after these datasets.
+-- The check is in the state after these datasets.
 pub record HasChecked (check : Option RecordPlace) (ds : List Dataset) : Type 0 where
   pub order : Order
   pub begun : Option Begun
@@ -62,7 +65,7 @@ pub record HasChecked (check : Option RecordPlace) (ds : List Dataset) : Type 0 
   pub alive : SectionsLive ds
   pub tells : IsOrderOf order ds
 
--- It stands after these datasets and this head, whose value is to come.
+-- The check is in the state after these datasets and this head, and expects its value.
 pub record IsChecking (check : Option RecordPlace) (ds : List Dataset) (h : Head) : Type 0 where
   pub order : Order
   pub row : Row
@@ -72,31 +75,32 @@ pub record IsChecking (check : Option RecordPlace) (ds : List Dataset) (h : Head
   pub alive : SectionsLiveAt ds h
   pub tells : (d : Dataset) → head_of d ≡ h → IsOrderOf order (ds ++ d ∷ [])
 
--- It has taken this head after these datasets: its value is to come, or any data of a subfile make one dataset more.
+-- The check has accepted this head after these datasets. It expects its value, or the head is that
+-- of a subfile, and any data of it make one dataset more.
 pub record HasTaken (check : Option RecordPlace) (ds : List Dataset) (h : Head) : Type 0 where
   pub checking : h.rec ≢ 8 → IsChecking check ds h
   pub subfile : h.rec ≡ 8 → (d : Dataset) → head_of d ≡ h → Octets d.octets → HasChecked check (ds ++ d ∷ [])
 
--- ---- refusals
+-- ---- Rejections.
 
--- The fault is that of the head in the record layer: the first, and of the lowest number, under any limits. With it no datasets
--- can continue.
+-- The fault is that of the head in the record layer: the first, and with the lowest number, under
+-- any limits. With the head the datasets are no longer a viable prefix.
 pub record IsRecordFault (ds : List Dataset) (h : Head) (fault : FieldFault) : Type 0 where
   pub first : record_fault ds h ≡ Some fault
   pub lowest : (limits : Limits) → IsFault limits ds (AtHead h) fault
   pub dead : SectionsLiveAt ds h → ⊥
 
--- The fault is that of the value, which is no subfile's: the first, and of the lowest number, under any limits. With it no datasets
--- can continue.
+-- The fault is that of the value, which is not a subfile's: the first, and with the lowest number,
+-- under any limits. With the value the datasets are no longer a viable prefix.
 pub record IsValueFault (ds : List Dataset) (d : Dataset) (fault : FieldFault) : Type 0 where
   pub value : d.rec ≢ 8
   pub first : value_fault d ≡ Some fault
   pub lowest : (limits : Limits) → IsFault limits ds (AtValue d) fault
   pub dead : SectionsLive (ds ++ d ∷ []) → ⊥
 
--- ---- what a check tells
+-- ---- What a check returns.
 
--- the head of the begun dataset
+-- the head of the dataset in progress
 abbrev pub begun_head : Option RecordPlace → Option Head
 begun_head check = option_and_then (λ place. option_and_then (λ begun. Some begun.head) place.begun) check
 
@@ -111,10 +115,10 @@ pub record HasEnded (check : Option RecordPlace) : Type 0 where
   pub between : check ≡ Some (record { order = order; begun = None })
   pub last : order.rec ≡ 9
 
--- ---- What a reader of records stands at.
+-- ---- The states of a reader of records.
 
--- A reader of records is seen as where its check stands, its limits, the datasets that it has kept, the octets that it has
--- taken of a begun one, and what it has room for.
+-- A reader of records is seen as the state of its check, its limits, the datasets that it has
+-- stored, the octets received of the dataset in progress, and its capacity.
 pub record FieldsPlace : Type 0 where
   pub check : Option RecordPlace
   pub limits : Limits
@@ -122,19 +126,19 @@ pub record FieldsPlace : Type 0 where
   pub taken : List ℕ
   pub room : Room
 
--- the limits under which it reads
+-- the limits of the reader
 abbrev pub limits_of : FieldsPlace → Limits
 limits_of fields = fields.limits
 
--- what it has room for
+-- the capacity of the reader
 abbrev pub room_of : FieldsPlace → Room
 room_of fields = fields.room
 
--- The room that limits ask for: for their octets, and for their fields.
+-- the capacity for limits: for their octets, and for their fields
 abbrev pub room_for : Limits → Room
 room_for limits = record { octets = limits.octets; entries = limits.fields }
 
--- What a reader may hold stays as it was.
+-- The limits and the capacity of the reader are unchanged.
 pub record SameBounds (old new : FieldsPlace) : Type 0 where
   pub limits : limits_of new ≡ limits_of old
   pub room : room_of new ≡ room_of old
@@ -143,28 +147,29 @@ pub record SameBounds (old new : FieldsPlace) : Type 0 where
 abbrev pub section_of : FieldsPlace → ℕ
 section_of fields = section_at fields.check
 
--- the head of the begun dataset
+-- the head of the dataset in progress
 abbrev pub begun_head_of : FieldsPlace → Option Head
 begun_head_of fields = begun_head fields.check
 
--- Something was refused.
+-- A call returned an error.
 abbrev pub IsFailed : FieldsPlace → Type 0
 IsFailed fields = fields.check ≡ None
 
--- It takes a head.
+-- The reader accepts a head.
 abbrev pub IsBetween : FieldsPlace → Type 0
 IsBetween fields = AwaitsHead fields.check
 
--- It has taken this head, and n octets of its data are still to come. Those of a subfile do not pass here.
+-- The reader has accepted this head, and n octets of its data remain. The data of a subfile do not
+-- pass through it.
 pub record IsInside (fields : FieldsPlace) (h : Head) (n : ℕ) : Type 0 where
   pub head : IsIn fields.check h
   pub to_come : h.rec ≢ 8 → length fields.taken + n ≡ h.count
 
--- It takes k octets of data. What a subfile has does not pass here.
+-- The reader accepts k octets of data. The data of a subfile do not pass through it.
 abbrev pub CanTake : FieldsPlace → ℕ → Type 0
 CanTake fields k = (h : Head) × (n : ℕ) × IsInside fields h n × (h.rec ≢ 8) × (k ≤ n)
 
--- It takes the end of a dataset: all of its octets were given, or it is a subfile.
+-- The reader accepts the end of a dataset: all of its octets were received, or it is a subfile.
 abbrev pub CanClose : FieldsPlace → Type 0
 CanClose fields = (h : Head) × (n : ℕ) × IsInside fields h n × ((h.rec ≡ 8) ⊎ (n ≡ 0))
 
@@ -172,7 +177,7 @@ CanClose fields = (h : Head) × (n : ℕ) × IsInside fields h n × ((h.rec ≡ 
 abbrev pub IsEnded : FieldsPlace → Type 0
 IsEnded fields = HasEnded fields.check
 
--- It stands after these datasets, and has kept those of records 1 and 2.
+-- The reader is in the state after these datasets, and has stored those of records 1 and 2.
 pub record StandsAfter (fields : FieldsPlace) (ds : List Dataset) : Type 0 where
   pub between : IsBetween fields
   pub checked : HasChecked fields.check ds
@@ -181,7 +186,8 @@ pub record StandsAfter (fields : FieldsPlace) (ds : List Dataset) : Type 0 where
   pub kept_are : fields.kept ≡ kept ds
   pub taken_are : fields.taken ≡ []
 
--- It stands after these datasets in one of this head, whose data so far are these.
+-- The reader is in the state after these datasets, in one with this head whose data so far are
+-- these.
 pub record StandsIn (fields : FieldsPlace) (ds : List Dataset) (h : Head) (taken : List ℕ) : Type 0 where
   pub inside : (n : ℕ) × IsInside fields h n
   pub checked : HasTaken fields.check ds h
@@ -193,24 +199,26 @@ pub record StandsIn (fields : FieldsPlace) (ds : List Dataset) (h : Head) (taken
   pub octets : Octets taken
   pub nothing : h.rec ≡ 8 → taken ≡ []
 
--- The fault is that of the head: the first, and of the lowest number. With it no datasets within the limits can continue.
+-- The fault is that of the head: the first, and with the lowest number. With the head the datasets
+-- are no longer a viable prefix, or exceed the limits.
 pub record IsHeadFault (limits : Limits) (ds : List Dataset) (h : Head) (fault : FieldFault) : Type 0 where
   pub first : first_fault limits ds h ≡ Some fault
   pub lowest : IsFault limits ds (AtHead h) fault
   pub dead : SectionsLiveAt ds h → (IsTrue (is_kept h.rec) → IsWithin limits (kept_octets ds + h.count) (length (kept ds) + 1)) → ⊥
 
--- The dataset has this head, and these data if its record is not 8.
+-- The dataset has this head, and these data unless its record is 8.
 pub record IsOf (h : Head) (taken : List ℕ) (d : Dataset) : Type 0 where
   pub head : head_of d ≡ h
   pub octets : Octets d.octets
   pub given : h.rec ≢ 8 → d.octets ≡ taken
 
--- From one to the other by a whole dataset of this head and these data.
+-- The reader accepted a complete dataset with this head and these data.
 pub record TookDataset (old : FieldsPlace) (h : Head) (octets : List ℕ) (new : FieldsPlace) : Type 0 where
   pub section : section_of new ≡ h.rec
   pub stands : (ds : List Dataset) → StandsAfter old ds → StandsAfter new (ds ++ data_of h octets ∷ [])
 
--- From one to the other by a whole subfile of this head: by a reader that stands in it, whatever data the subfile has.
+-- The reader accepted a complete subfile with this head: through a state within the subfile,
+-- whatever data the subfile has.
 pub record PassesSubfile (old : FieldsPlace) (h : Head) (new : FieldsPlace) : Type 0 where
   pub inside : FieldsPlace
   pub head : begun_head_of inside ≡ Some h
@@ -219,49 +227,52 @@ pub record PassesSubfile (old : FieldsPlace) (h : Head) (new : FieldsPlace) : Ty
   pub closes : (ds : List Dataset) (g : Head) (taken : List ℕ) → StandsIn inside ds g taken → (d : Dataset) → IsOf g taken d
       → StandsAfter new (ds ++ d ∷ []) × (None ≡ number_told d)
 
--- The octets are as many as the head counts and as a size may have, and spell the number.
+-- The octets are as many as the head counts and as a size may have, and encode the number.
 pub record Spells (octets : List ℕ) (h : Head) (n : ℕ) : Type 0 where
   pub count : h.count ≡ length octets
   pub few : IsInRange 1 size_octets (length octets)
   pub fit : Octets octets
   pub is : n ≡ number octets
 
--- A whole dataset of this head and these data may come: neither the head nor the value has a fault.
+-- A complete dataset with this head and these data may come next: neither the head nor the value
+-- has a fault.
 pub record Admits (fields : FieldsPlace) (h : Head) (xs : List ℕ) : Type 0 where
   pub count : h.count ≡ length xs
   pub octets : Octets xs
   pub no_fault : (ds : List Dataset) → StandsAfter fields ds → option_or (first_fault (limits_of fields) ds h) (value_fault (data_of h xs)) ≡ None
 
--- A builder is seen as its limits, the datasets so far, and what it has room for.
+-- A builder is seen as its limits, the datasets so far, and its capacity.
 pub record Building : Type 0 where
   pub limits : Limits
   pub fields : List Dataset
   pub room : Room
 
--- The first fault of a dataset that is added: its record is neither 1 nor 2, or else the fault of its head, or else of its value.
+-- The first fault of a dataset that is added: its record is neither 1 nor 2, or else the fault of
+-- its head, or else of its value.
 abbrev pub add_fault : Limits → List Dataset → Dataset → Option FieldFault
 add_fault limits ds d =
     if not (is_kept d.rec) then Some (fault_on (head_of d) RecordOrder)
     else option_or (first_fault limits ds (head_of d)) (value_fault d)
 
--- the lowest mandatory number of the record that is absent
+-- the lowest mandatory number of the record that is missing
 abbrev pub absent : ℕ → List Dataset → Option FieldFault
 absent r ds = missing_fault r (missing_of r (λ n. occurs n (of_record r ds)))
 
--- What is missing of a whole envelope: of record 1, or else of record 2.
+-- the first missing dataset of an envelope: of record 1, or else of record 2
 abbrev pub finish_fault : List Dataset → Option FieldFault
 finish_fault ds = option_or (absent 1 ds) (absent 2 ds)
 
--- They are no more than limits can allow, and have no more octets.
+-- The datasets are no more than limits can allow, and neither are their octets.
 pub record AreFew (ds : List Dataset) : Type 0 where
   pub datasets : length ds < 2 ^ 32
   pub octets : length (joined ds) < 2 ^ 32
 
--- the first limit that all these datasets pass: that on octets, or else that on their number
+-- the first limit that all these datasets exceed: that on octets, or else that on their number
 abbrev pub passed_by : Limits → List Dataset → Option FieldCause
 passed_by limits ds = limit_passed limits (length (joined ds)) (length ds)
 
--- Why an envelope of these datasets is not copied: it passes a limit; or else memory was refused.
+-- Why an envelope of these datasets is not copied: it exceeds a limit; or else the allocation
+-- failed.
 abbrev pub IsCopyFault : Limits → List Dataset → CopyFault → Type 0
 IsCopyFault limits ds (Passed cause) = passed_by limits ds ≡ Some cause
 IsCopyFault limits ds OutOfMemory = passed_by limits ds ≡ None

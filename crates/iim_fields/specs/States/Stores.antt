@@ -1,14 +1,14 @@
--- What a store has room for, and the datasets that its entries tell.
+-- The capacity of a store, and the datasets of its entries.
 use Rattle.std.specs.Prelude.{ℕ, ◌-◌, List, [], ◌∷◌, take, drop}
 use Rattle.iim_dataset.specs.Format.Datasets.{Dataset}
 use Rattle.iim_fields.specs.declared.store.Entry.{Entry}
 
--- how many octets and how many entries there is room for
+-- the capacity in octets, and in entries
 pub record Room : Type 0 where
   pub octets : ℕ
   pub entries : ℕ
 
--- the datasets of entries, the first of which begins there, with these octets
+-- the datasets of entries, of which the first begins at `from`, with these octets
 abbrev pub fields_from : ℕ → List Entry → List ℕ → List Dataset
 fields_from from [] xs = []
 fields_from from (e ∷ es) xs =

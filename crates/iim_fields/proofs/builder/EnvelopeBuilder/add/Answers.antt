@@ -30,7 +30,7 @@ returns-clause-admitted c =
     c.len-kept.ensures c.len.ensures (sym c.in_default.is ∙ c.room_fault.ensures)
     ∙ value_no_fault (fields_of c.self.inside.store) d (c.in_ok-value.ensures.stands (fields_of c.self.inside.store) (head_of d) checking).0.alive
 
--- the store has the dataset
+-- The store has the dataset.
 stored : (c : goal.After-keep) → HasStored c.keep.new.self
     (fields_of c.self.inside.store ++ record { rec = c.args.rec; set = c.args.set; octets = c.args.octets.now } ∷ []) []
 stored c = keeps_holds c.args.rec c.args.set (takes_holds c.args.octets.now c.self.invariant.holds c.take.ensures.octets c.take.ensures.entries)

@@ -3,7 +3,7 @@ use Rattle.iim_fields.proofs.Words.{same_Some, Dataset, HasChecked, HasTaken, Is
 use Rattle.iim_fields.proofs.Checking.{taken_by, record_fault_by, place_headed}
 use Rattle.iim_fields.proofs.check.RecordCheck.head.Goals as goal
 
--- the place has taken the head
+-- The state has accepted the head.
 takes : (c : goal.After-enter) → (ds : List Dataset) → HasChecked (Some c.in-Some.place) ds → HasTaken (Some c.enter.new.self) ds c.args.head
 takes c = taken_by c.each_row_has_values.ensures c.in-Some.place c.enter.new.self c.args.head c.in-Ok.row (omega arith) c.enter.ensures.order
     c.enter.ensures.begun c.in-Ok.ensures.row c.in-Ok.ensures.ok

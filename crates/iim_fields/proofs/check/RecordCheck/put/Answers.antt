@@ -3,11 +3,11 @@ use Rattle.iim_fields.proofs.Words.{same_Some, Dataset, data_of, HasChecked, IsR
 use Rattle.iim_fields.proofs.{Checking.place_led, Wholes.took_by}
 use Rattle.iim_fields.proofs.check.RecordCheck.put.Goals as goal
 
--- it is at this place now
+-- the state after the call
 abbrev next : goal.After-take → RecordPlace
 next c = record { order = c.take.new.self; begun = c.in-Some.place.begun }
 
--- and was led there by the dataset
+-- The dataset reaches that state.
 took : (c : goal.After-take) (xs : List ℕ) → MayTake c.args.self.now c.args.head xs → (ds : List Dataset) → HasChecked (Some c.in-Some.place) ds
     → HasChecked (Some (next c)) (ds ++ data_of c.args.head xs ∷ [])
 took c xs may =

@@ -4,7 +4,7 @@ use Rattle.iim_fields.proofs.Words.{and_parts, and_from, eqb-true, eq-eqb, field
 use lib.Pointwise.{pointwise_decides, bytes_decides}
 use Rattle.iim_fields.proofs.envelope.Envelope.same.Goals as goal
 
--- entries are equal where their numbers and ends are
+-- Entries are equal exactly if their numbers and ends are.
 entry_decides : (E : Entry → Entry → Bool) → ((x y : Entry) → E x y ≡ (nat_eq x.rec y.rec && (nat_eq x.set y.set && nat_eq x.end y.end)))
     → (x y : Entry) → (E x y ≡ true → x ≡ y) × (x ≡ y → E x y ≡ true)
 entry_decides E is x y = (

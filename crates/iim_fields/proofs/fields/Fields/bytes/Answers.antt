@@ -3,7 +3,7 @@ use Rattle.iim_fields.proofs.Words.{vec_capacity, begun_octets, fields_of}
 use Rattle.iim_fields.proofs.Stand.{takes_holds, inside_more, reading_more, size_room, stands_more, store_is, taken_in_size, taken_in_store}
 use Rattle.iim_fields.proofs.fields.Fields.bytes.Goals as goal
 
--- the begun octets are more by these, in the store
+-- The octets of the dataset in progress grow by these, in the store.
 taken : (c : goal.After-take) → (fields_of c.take.new.self ≡ fields_of c.self.inside.store)
     × (begun_octets c.take.new.self ++ c.self.inside.size.items ≡ (begun_octets c.self.inside.store ++ c.self.inside.size.items) ++ c.args.octets.now)
 taken c =
@@ -36,7 +36,7 @@ unwrap-requires c =
     (size_room c.each_row_has_values.ensures _ c.in-Some.head c.self.invariant (rw (← c.self.view_is) at c.requires) (sym c.begun.ensures ∙ c.in-Some.is)
     (sym c.is_kept.ensures ∙ c.if-is_kept.false))
 
--- the begun octets are more by these
+-- The octets of the dataset in progress grow by these, in the size.
 extended : (c : goal.After-unwrap) → begun_octets c.self.inside.store ++ c.try_extend_from_slice.new.self.items
     ≡ (begun_octets c.self.inside.store ++ c.self.inside.size.items) ++ c.args.octets.now
 extended c = taken_in_size c.self.inside.store c.self.inside.size.items _ c.args.octets.now

@@ -3,7 +3,7 @@ use Rattle.iim_fields.proofs.{Words.handed_on, Words.Dataset, Words.Head, Words.
 use Rattle.iim_fields.proofs.Stand.{ends_within, closed_subfile, closes_in, stands_closed, refused_value, somewhere_closed, kept_in_store, reading_kept, reading_between, entry_room, in_store_alone}
 use Rattle.iim_fields.proofs.fields.Fields.close.Goals as goal
 
--- ---- a subfile
+-- ---- A subfile.
 
 pub returns-then-head-eq-OBJECT-clause-stands : goal.returns-then-head-eq-OBJECT-clause-stands
 returns-then-head-eq-OBJECT-clause-stands c =
@@ -21,7 +21,7 @@ invariant_of-self c =
 pub begun-requires-2 : goal.begun-requires-2
 begun-requires-2 c = ends_within c.self.inside.store c.self.invariant.store_is
 
--- ---- a size
+-- ---- A size.
 
 pub returns-in_err-number-clause-fault : goal.returns-in_err-number-clause-fault
 returns-in_err-number-clause-fault c =
@@ -54,7 +54,7 @@ invariant_of-self-then-not-is_kept c =
     (c.as_slice.ensures.value ∙ sym (ap (λ (ys : List ℕ). ys ++ c.self.inside.size.items) none)) (λ i. none i ++ c.clear.ensures i) (Passed passes refl)
     c.in_ok-number.ensures.stands))
 
--- ---- a dataset that is kept
+-- ---- A dataset that is stored.
 
 pub returns-in_err-number-2-clause-fault : goal.returns-in_err-number-2-clause-fault
 returns-in_err-number-2-clause-fault c =

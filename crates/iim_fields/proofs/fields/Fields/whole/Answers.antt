@@ -26,7 +26,7 @@ returns-clause-exactly c = λ ds s.
     let layer = sym c.if-not-whole.false ∙ c.whole.ensures.exactly ds (rw (← c.self.view_is) at s).checked in
     let room = sym c.has_room.ensures ∙ c.if-not-has_room.false in sym (exact ∙ and_from _ _ (sym layer) room)
 
--- the store has the dataset
+-- The store has the dataset.
 stored : (c : goal.After-keep) → HasStored c.keep.new.self (fields_of c.self.inside.store ++ data_of c.args.head c.args.octets.now ∷ []) []
 stored c =
     let none = none_between c.self.invariant (rw (← c.self.view_is) at c.requires.between) in
@@ -34,7 +34,7 @@ stored c =
     keeps_holds c.args.head.rec c.args.head.set (takes_holds c.args.octets.now before c.take.ensures.octets c.take.ensures.entries)
     c.keep.ensures.octets c.keep.ensures.entries
 
--- it stands after the dataset
+-- The reader is in the state after the dataset.
 stands : (c : goal.After-keep) (f : FieldsPlace) → place_of c.self.inside.check c.self.inside.limits c.self.inside.store c.self.inside.size.items ≡ f
     → (ds : List Dataset) → StandsAfter f ds
     → StandsAfter (place_of c.whole.new.self c.self.inside.limits c.keep.new.self c.self.inside.size.items) (ds ++ data_of c.args.head c.args.octets.now ∷ [])
