@@ -1,4 +1,4 @@
--- The bits of a set of numbers, and the booleans that they stand for.
+-- The bits of a set of numbers, and its list of booleans.
 use Rattle.std.proofs.Common.{◌≡◌, ◌≢◌, inl, inr, ℕ, ◌*◌, ◌/◌, ◌%◌, ◌^◌, ◌<◌, nat_eq, Bool, true, false, ◌||◌, List, [], ◌∷◌, length, get_or, set, replicate, bit_and, bit_or, w64, refl, ap, sym, ◌∙◌, arith}
 use Rattle.std.proofs.lemmas.Nat.Bits.{shr_and_one, bit_at_set_same, bit_at_set_other}
 use Rattle.iim_fields.specs.StoreLayout.{members}

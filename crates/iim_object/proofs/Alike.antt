@@ -1,10 +1,10 @@
--- From places at which one reader stands the same tokens lead on alike.
+-- From places that give the same state, the same tokens reach places that give the same state.
 use Rattle.iim_object.proofs.Words.{◌≡◌, ℕ, List, [], ◌∷◌, ◌++◌, length, Option, Some, None, is_some, refl, sym, ap, ◌∙◌, arith, nil_from_length, IsAlive, all_append, all_last, Stated, InRow, number_at, ObjectToken, NumberRead, SubfileBegun, ObjectEnded, Confirmed, ObjectLanguage, Place, MayFollow, place_after, tokens_of, IsStateAt, StandsAt, LeadsOn, State, TokensLead}
 use Rattle.iim_object.specs.{States.Reading.SizeCause, Laws.TokensLeadOnAlike}
 use Rattle.iim_object.proofs.{Numbers.once-append, Subfiles.front_lives, Saved.one_state, Leading.tokens_after}
 use Rattle.iim_object.proofs.Steps.{tells_of, once_last, cause_in, next, leads_on, refused, tokens_follow}
 
--- ---- a token follows at both places
+-- ---- A token follows at both places.
 
 same_number : (s : State) (p q : Place) (set n : ℕ) → IsStateAt s p → IsStateAt s q → InRow (record {
   set = set;
@@ -40,9 +40,9 @@ same_ending p q ObjectEnded e = refl
 same_ending p q (Confirmed n) e = refl
 same_ending p q token e = e
 
--- ---- tokens
+-- ---- Tokens.
 
--- a token with which the object layer lives leads the state on
+-- A token with which the tokens are a viable prefix reaches the next state.
 next_of : (s : State) (p : Place) (token : ObjectToken) → StandsAt (Some s) p → MayFollow p token → IsAlive ObjectLanguage (tokens_of p ++ token ∷ [])
     → LeadsOn (Some s) token (Some (next s token))
 next_of s p token st follows alive = by_cause (cause_in s token) refl

@@ -1,4 +1,4 @@
--- Numbers and subfiles that stay within bounds: lemmas for the proofs of every crate, of which nothing is to be believed.
+-- Numbers and subfiles within bounds: lemmas for the proofs of every crate.
 use Rattle.iim_object.proofs.Words.{◌≡◌, ℕ, zero, suc, ◌≤◌, Bool, true, false, List, [], ◌∷◌, ◌++◌, map, length, Option, refl, arith, inl, inr, greatest_size, ObjectToken, NumberRead, SubfileBegun, ObjectEnded, Confirmed, Place, max_subfiles, Stated, InRow, mode_number, TokensWithin, StandsAt, State, IsPossible}
 
 pub mode_known : (n : ℕ) → n ≤ 1 → (known : Bool) × (n ≡ mode_number known)
@@ -17,7 +17,7 @@ pub begun_within : (most : ℕ) (ls : List ℕ) → TokensWithin most (map Subfi
 begun_within most [] = tt
 begun_within most (l ∷ ls) = begun_within most ls
 
--- what rows allow is at most the greatest size
+-- Numbers that rows allow are at most the greatest size.
 pub row_low : (p : Stated) → InRow p → p.number ≤ greatest_size
 row_low p (inl h) = omega (arith, h.1)
 row_low p (inr (inl h)) = h.2

@@ -1,9 +1,10 @@
--- A plan's bound leaves room for just the objects that keep to what is said of their sizes.
+-- The bound of a plan allows exactly the objects that do not exceed the sizes it states.
 use Rattle.iim_object.proofs.Words.{ℕ, ◌≤◌, length, IfSome, arith, greatest_size, announced_of, maximum_of, limit_of, Size}
 use Rattle.iim_object.specs.Laws.{SubfilesAreFew}
 use Rattle.iim_object.proofs.{Cutting.few_parts, Cutting.held_in_few, PlanParts.plan_parts}
 
--- what is within the limit keeps to the announced size and to the maximum, and what keeps to them and to the greatest size is within it
+-- A number within the limit is within the announced size and the maximum, and the other way round
+-- if it is at most the greatest size.
 limit_kept : (n : ℕ) (size : Size) → n ≤ limit_of size → IfSome (announced_of size) (λ most. n ≤ most) × IfSome (maximum_of size) (λ most. n ≤ most)
 limit_kept n size h = grind arith
 

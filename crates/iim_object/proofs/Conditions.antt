@@ -1,11 +1,11 @@
--- The first cause by tests is the cause of the lowest number whose condition holds.
+-- The first cause by tests is the cause with the lowest number whose condition holds.
 use Rattle.iim_object.proofs.Words.{◌≡◌, ℕ, ◌<◌, ◌≤◌, ◌+◌, ◌⊎◌, List, [], ◌∷◌, ◌++◌, sum, Option, Some, None, IfSome, unwrap_or, refl, ap, ◌∙◌, arith, inl, inr, IsAlive, greatest_size, Stated, number_at, ObjectToken, SubfileBegun, ObjectLanguage, Place, HasBoth, MayFollow, tokens_of, cause_at}
 use Rattle.iim_object.specs.declared.reading.fault.SizeCause.{SizeCause}
 use Rattle.iim_object.specs.Format.Causes.{bound, number_of, PassesBound, HasCause}
 use Rattle.iim_object.specs.Laws.{CausesAreTheFirst, ObjectsDieForCauses}
 use Rattle.iim_object.proofs.Steps.{announced_small, lives_on, tokens_follow}
 
--- causes of one number are one
+-- Causes with the same number are the same cause.
 same_cause : (a b : SizeCause) → number_of a ≤ number_of b → number_of b ≤ number_of a → a ≡ b
 same_cause a b h k = grind arith
 
@@ -13,14 +13,14 @@ past_given : (o : Option ℕ) (most total : ℕ) → unwrap_or o most < total �
 past_given None most total h = inl h
 past_given (Some n) most total h = inr (n, refl, h)
 
--- what passes the bound passes one of its three numbers
+-- A total above the bound is above one of its three numbers.
 past_met : (ps : List Stated) (total : ℕ) → bound (number_at 90 ps) (number_at 95 ps) < total → PassesBound ps total
 past_met ps total h =
     let announced = past_given (number_at 90 ps) greatest_size total in
     let most = past_given (number_at 95 ps) greatest_size total in
     grind arith
 
--- the condition of the cause that is told holds
+-- The condition of the reported cause holds.
 subfile_holds : (p : Place) (count : ℕ) (c : SizeCause) → HasBoth p.stated → cause_at p (SubfileBegun count) ≡ Some c → HasCause c p (SubfileBegun count)
 subfile_holds p count c both e = let met = past_met p.stated (sum p.lengths + count) in grind arith
 
@@ -28,7 +28,7 @@ holds : (p : Place) (token : ObjectToken) (c : SizeCause) → MayFollow p token 
 holds p (SubfileBegun count) c may e = subfile_holds p count c may.1 e
 holds p token c may e = grind arith
 
--- and of no lower one, and of none where none is told
+-- No condition of a lower cause holds, and none at all if none is reported.
 lowest : (p : Place) (token : ObjectToken) (c told : SizeCause) → IfSome (number_at 90 p.stated) (λ a. a ≤ greatest_size) → HasCause c p token
     → cause_at p token ≡ Some told
     → number_of told ≤ number_of c
@@ -38,7 +38,7 @@ none_holds : (p : Place) (token : ObjectToken) (c : SizeCause) → IfSome (numbe
     → cause_at p token ≡ None → ⊥
 none_holds p token c small h e = grind arith
 
--- ---- the laws
+-- ---- The lemmas.
 
 pub first_law : CausesAreTheFirst
 first_law p token cause stated may = (

@@ -1,13 +1,13 @@
--- Where datasets end in records 7 to 9, and the places there.
+-- Prefixes of the datasets of records 7 to 9, and the places there.
 use Rattle.iim_object.proofs.Words.{◌≡◌, ℕ, ◌<◌, ◌≤◌, ◌⊎◌, Bool, ◌==◌, List, [], ◌∷◌, ◌++◌, length, refl, sym, ap, subst, ◌∙◌, arith, inl, inr, append-nil, length-append, AllByRecursion, eq-eqb, nil_from_length, Dataset, of_record, all_front, all_back, all_map, nothing_of_two, Place, AreObjectRecords, numbers_of, lengths_of, place_after_datasets}
 use Rattle.std.proofs.lemmas.Bool.{ne_eqb}
 use Rattle.std.proofs.lemmas.List.Elements.{filter-append}
 use Rattle.iim_object.specs.{Format.Objects.ending_of, Laws.AreByNumber, Laws.RecordsAreByNumber}
 use Rattle.iim_object.proofs.Members.{IsMember, one_confirmation}
 
--- ---- the datasets of a record
+-- ---- The datasets of a record.
 
--- a dataset of the record is one more, and others are none
+-- A dataset of the record adds one to its datasets, and others add none.
 pub more_of : (rec : ℕ) (ds : List Dataset) (d : Dataset) (more : List Dataset) → d.rec ≡ rec
     → of_record rec (ds ++ d ∷ more) ≡ of_record rec ds ++ d ∷ of_record rec more
 more_of rec ds d more e = rw (filter-append (λ (x : Dataset). x.rec == rec) ds (d ∷ more), eq-eqb d.rec rec e) refl
@@ -31,7 +31,7 @@ lower_record : (wanted : ℕ) (ds : List Dataset) → 7 ≤ wanted → AllByRecu
 lower_record wanted ds high h = none_in wanted ds (all_map (λ (d : Dataset). d.rec < 7) (λ (d : Dataset). d.rec ≡ wanted
     → ⊥) ds (λ d low e. absurd (omega arith)) h)
 
--- datasets of records below 7, of 7, of 8 and of 9
+-- Datasets of records below 7, of 7, of 8 and of 9.
 pub record AreSorted (before d7 d8 d9 : List Dataset) : Type 0 where
   pub others : AllByRecursion (λ d. d.rec < 7) before
   pub sevens : AllByRecursion (λ d. d.rec ≡ 7) d7
@@ -44,7 +44,7 @@ of_parts rec b x y z =
     let p : Dataset → Bool = λ d. d.rec == rec in
     rw (filter-append p b (x ++ (y ++ z)), filter-append p x (y ++ z), filter-append p y z) refl
 
--- so those of each record are the ones of its number
+-- In sorted datasets, those of each record are the ones of its number.
 by_record : (b x y z : List Dataset) → AreSorted b x y z → AreByNumber (b ++ (x ++ (y ++ z))) x y z
 by_record b x y z s = record {
   sevens =
@@ -71,16 +71,17 @@ pub sorted_members : (b x y z : List Dataset) → AllByRecursion (λ d. d.rec < 
     → AllByRecursion (IsMember 9) z → AreSorted b x y z
 sorted_members b x y z others sevens eights nines = record { others = others; sevens = of_rec 7 x sevens; eights = of_rec 8 y eights; nines = of_rec 9 z nines }
 
--- the records that come after are sorted
+-- The records that come after one another are sorted.
 pub sorted : {ds : List Dataset} (r : AreObjectRecords ds) → AreSorted r.before r.r7 r.r8 r.r9
 sorted r = sorted_members r.before r.r7 r.r8 r.r9 r.others r.descriptor.each r.object.each r.confirmation.each
 
 pub records_by_number : RecordsAreByNumber
 records_by_number ds r = subst (λ (all : List Dataset). AreByNumber all r.r7 r.r8 r.r9) (sym r.parts) (by_record r.before r.r7 r.r8 r.r9 (sorted r))
 
--- ---- where datasets end
+-- ---- Where a prefix ends.
 
--- The datasets end in the first of two lists, or after it: fronts of both, and what is left of them.
+-- The prefix ends in the first of two lists, or after it: prefixes of both, and what remains of
+-- them.
 record Fronts (ds more xs ys : List Dataset) : Type 0 where
   first : List Dataset
   left : List Dataset
@@ -120,7 +121,8 @@ fronts (d ∷ ds) more (x ∷ xs) ys e =
       either = p.either;
     }
 
--- Of each record the datasets that have come, and those that are to come: none of a record before one that has begun.
+-- Of each record the datasets in the prefix, and those that remain: none of a record before one
+-- that has some.
 pub record Parted (ds more r7 r8 r9 : List Dataset) : Type 0 where
   pub before : List Dataset
   pub d7 : List Dataset
@@ -180,7 +182,7 @@ parted ds more r =
 pub by_number : {ds more r7 r8 r9 : List Dataset} (p : Parted ds more r7 r8 r9) → AreByNumber ds p.d7 p.d8 p.d9
 by_number p = rw p.seen (by_record p.before p.d7 p.d8 p.d9 (sorted_members p.before p.d7 p.d8 p.d9 p.others p.members7 p.members8 p.members9))
 
--- the first dataset of sorted ones, from record 7 on
+-- The first dataset of sorted ones, from record 7 on.
 pub first_of : (d : Dataset) (more b x y z : List Dataset) → d ∷ more ≡ b ++ (x ++ (y ++ z)) → AreSorted b x y z → 7 ≤ d.rec
     → ((d.rec ≡ 7) × (0 < length x)) ⊎ (((d.rec ≡ 8) × (x ≡ []) × (0 < length y)) ⊎ ((d.rec ≡ 9) × (x ≡ []) × (y ≡ []) × (0 < length z)))
 first_of d more (c ∷ b) x y z e s high = let same : d ≡ c = cc in absurd (omega (arith, ap (λ (d : Dataset). d.rec) same, s.others.0))
@@ -189,7 +191,7 @@ first_of d more [] [] (c ∷ y) z e s high = let same : d ≡ c = cc in inr (inl
 first_of d more [] [] [] (c ∷ z) e s high = let same : d ≡ c = cc in inr (inr (rw same s.nines.0, refl, refl, omega arith))
 first_of d more [] [] [] [] e s high = absurd cc
 
--- before a number of record 7 there is no subfile, and no end
+-- Before a number of record 7 there is no subfile, and no end.
 pub next_number : (ds : List Dataset) (d : Dataset) (more : List Dataset) (r : AreObjectRecords (ds ++ d ∷ more)) → d.rec ≡ 7
     → (of_record 8 ds ≡ []) × (of_record 9 ds ≡ [])
 next_number ds d more r is =
@@ -203,7 +205,7 @@ next_number ds d more r is =
     let n = by_number p in
     (n.eights ∙ both.0, n.nines ∙ both.1)
 
--- before a subfile all of record 7 has come, and no end
+-- Before a subfile there is all of record 7, and no end.
 pub next_subfile : (ds : List Dataset) (d : Dataset) (more : List Dataset) (r : AreObjectRecords (ds ++ d ∷ more)) → d.rec ≡ 8
     → (of_record 7 ds ≡ r.r7) × (of_record 9 ds ≡ [])
 next_subfile ds d more r is =
@@ -216,7 +218,7 @@ next_subfile ds d more r is =
       | inr (inr f) ↦ absurd (omega (arith, f.0))
     ]
 
--- before the end all of records 7 and 8 has come, and no end
+-- Before the end there are all of records 7 and 8, and no other end.
 pub record NextEnd (ds r7 r8 : List Dataset) : Type 0 where
   pub before : List Dataset
   pub others : AllByRecursion (λ d. d.rec < 7) before

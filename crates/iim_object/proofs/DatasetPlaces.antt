@@ -6,9 +6,9 @@ use Rattle.iim_object.proofs.{Numbers.in_row_at, Numbers.largest_at_most, Subfil
 use Rattle.iim_object.proofs.Members.{IsMember, are_stated, descriptor_of, object_of, confirmation_of, one_confirmation, some_subfile, ten_of, stating, subfiles, confirmation}
 use Rattle.iim_object.proofs.Cuts.{AreSorted, Parted, parted, by_number, next_end, sorted, sorted_members, place_is}
 
--- ---- the tokens of the parts
+-- ---- The tokens of the parts.
 
--- of numbers, and of subfiles
+-- the tokens of numbers, and of subfiles
 abbrev numbers : List Dataset → List ObjectToken
 numbers ds = number_tokens (numbers_of ds)
 
@@ -21,22 +21,22 @@ numbers_append xs ys = simp map-append
 lengths_append : (xs ys : List Dataset) → lengths_of (xs ++ ys) ≡ lengths_of xs ++ lengths_of ys
 lengths_append xs ys = simp map-append
 
--- of whole records
+-- The tokens of complete records.
 tokens_whole : (ds : List Dataset) (r : AreObjectRecords ds) → object_tokens ds ≡ numbers r.r7 ++ (heads r.r8 ++ ending_tokens (ending_of r.r9))
 tokens_whole ds r = rw r.parts (ap tokens_of (place_is r.before r.r7 r.r8 r.r9 (sorted r)))
 
--- of those that have come
+-- The tokens of the datasets so far.
 tokens_seen : {ds more r7 r8 r9 : List Dataset} (p : Parted ds more r7 r8 r9)
     → object_tokens ds ≡ numbers p.d7 ++ (heads p.d8 ++ ending_tokens (ending_of p.d9))
 tokens_seen p = let n = by_number p in rw (n.sevens, n.eights, n.nines) refl
 
--- ---- whole records
+-- ---- Complete records.
 
--- the number of the one dataset of record 9
+-- The number of the one dataset of record 9.
 confirmed_at : (r9 : List Dataset) (e : Dataset) (n : ℕ) → IsMember 9 e → r9 ≡ e ∷ [] → number_at 10 (numbers_of r9) ≡ Some n → number e.octets ≡ n
 confirmed_at r9 e n m one h = same_Some (number e.octets) n (rw (one, eq-eqb e.set 10 (ten_of e m)) at h)
 
--- the tokens of datasets that have sizes are a member
+-- The tokens of datasets that have sizes are in the language.
 member_of : (ds : List Dataset) → AreSized ds → ObjectLanguage (object_tokens ds)
 member_of ds sized =
     let r = sized.records in
@@ -57,7 +57,7 @@ member_of ds sized =
       tokens_are = tokens_whole ds r ∙ rw is (rw value refl);
     }
 
--- datasets with the numbers and lengths of a member have sizes
+-- Datasets with the numbers and lengths of tokens in the language have sizes.
 sized_of : (b x y : List Dataset) (e : Dataset) (tokens : List ObjectToken) (o : ObjectLanguage tokens) → AllByRecursion (λ d. d.rec < 7) b
     → AllByRecursion (IsMember 7) x → AllByRecursion (IsMember 8) y → IsMember 9 e
     → numbers_of x ≡ o.stated → lengths_of y ≡ o.lengths → number e.octets ≡ o.confirmed → AreSized (b ++ (x ++ (y ++ e ∷ [])))
@@ -87,7 +87,7 @@ sized_of b x y e tokens o others sevens eights nine stated lengths value = recor
   };
 }
 
--- datasets of the numbers, of the lengths and of the confirmed size of a member
+-- Datasets with the numbers of tokens in the language.
 stating_of : (tokens : List ObjectToken) (o : ObjectLanguage tokens) (ps more : List Stated) → o.stated ≡ ps ++ more
     → (ds : List Dataset) × AllByRecursion (IsMember 7) ds × (numbers_of ds ≡ more)
 stating_of tokens o ps more parts = stating more (all_back InRow ps more (rw parts at o.are_stated.each))
@@ -102,7 +102,7 @@ subfiles_of tokens o ls more parts =
 confirmation_in : (tokens : List ObjectToken) (o : ObjectLanguage tokens) → (d : Dataset) × IsMember 9 d × (number d.octets ≡ o.confirmed)
 confirmation_in tokens o = confirmation o.confirmed (omega (arith, o.agree.as_confirmed, o.agree.total_fits))
 
--- each member is the tokens of datasets that have sizes
+-- Tokens in the language are those of datasets that have sizes.
 datasets_of : (tokens : List ObjectToken) → ObjectLanguage tokens → (ds : List Dataset) × AreSized ds × (object_tokens ds ≡ tokens)
 unfolding sized_of
 datasets_of tokens o =
@@ -115,9 +115,9 @@ datasets_of tokens o =
 pub tokens_law : TokensAreOfSizedDatasets
 tokens_law tokens = (datasets_of tokens, λ h. rw h.2 at (member_of h.0 h.1))
 
--- ---- datasets that continue
+-- ---- Datasets that continue.
 
--- what begins a member is alive
+-- A prefix of tokens in the language is a viable prefix.
 alive_by : (xs rest all : List ObjectToken) → all ≡ xs ++ rest → ObjectLanguage all → IsAlive ObjectLanguage xs
 alive_by xs rest all e o = (rest, rw e at o)
 
@@ -128,7 +128,7 @@ heads_begun : (x y z : List Dataset) (tail : List ObjectToken)
     → numbers (x ++ []) ++ (heads (y ++ z) ++ tail) ≡ (numbers x ++ (heads y ++ [])) ++ (heads z ++ tail)
 heads_begun x y z tail = simp (map-append, append-nil, append_assoc)
 
--- the tokens of what has come begin those of whole records
+-- The tokens of the datasets so far are a prefix of those of complete records.
 tokens_front : (d7 m7 d8 m8 d9 m9 : List Dataset) → (m7 ≡ []) ⊎ (d8 ++ d9 ≡ []) → (m8 ≡ []) ⊎ (d9 ≡ []) → (rest : List ObjectToken)
     × (numbers (d7 ++ m7) ++ (heads (d8 ++ m8) ++ ending_tokens (ending_of (d9 ++ m9))) ≡ (numbers d7 ++ (heads d8 ++ ending_tokens (ending_of d9))) ++ rest)
 tokens_front d7 m7 d8 m8 (e ∷ d9) m9 (inl f) (inl g) = ([], rw (f, g) (simp append-nil))
@@ -145,7 +145,7 @@ live_datasets ds (more, sized) =
     alive_by (object_tokens ds) rest (object_tokens (ds ++ more))
     (cc (tokens_whole (ds ++ more) sized.records, p.whole7, p.whole8, p.whole9, tokens_seen p, e)) (member_of (ds ++ more) sized)
 
--- datasets whose tokens continue to an object continue to one that has sizes
+-- Datasets whose tokens continue to an object continue to datasets that have sizes.
 continues : (ds b x y z : List Dataset) (rest : List ObjectToken) → AllByRecursion (λ d. d.rec < 7) b → AllByRecursion (IsMember 7) x
     → AllByRecursion (IsMember 8) y → AllByRecursion (IsMember 9) z
     → length z ≤ 1 → (z ≡ []) ⊎ (0 < length y) → ds ≡ b ++ (x ++ (y ++ z)) → ObjectLanguage (numbers x ++ (heads y ++ (ending_tokens (ending_of z) ++ rest)))
@@ -192,16 +192,16 @@ live_tokens ds (more, r) (rest, o) =
 pub datasets_law : DatasetsLiveWithTheirTokens
 datasets_law ds good = (live_datasets ds, live_tokens ds good)
 
--- ---- the end of the object
+-- ---- The end of the object.
 
--- the tokens after the head of 9:10
+-- The tokens after the head of 9:10.
 ended_tokens : (ds b x y : List Dataset) → AreSorted b x y [] → ds ≡ b ++ (x ++ y) → tokens_of (place_ended ds) ≡ numbers x ++ (heads y ++ ObjectEnded ∷ [])
 ended_tokens ds b x y s seen =
     let whole : ds ≡ b ++ (x ++ (y ++ [])) = rw append-nil seen in
     let place = (rw (← whole) at (place_is b x y [] s)) in
     ap (λ (p : Place). tokens_of (record p { ending = Ended })) place
 
--- before a dataset of record 9 the tokens are of all numbers and subfiles
+-- Before a dataset of record 9 the tokens are those of all numbers and subfiles.
 ended_before : (ds : List Dataset) (e : Dataset) (more : List Dataset) (r : AreObjectRecords (ds ++ e ∷ more)) → e.rec ≡ 9
     → tokens_of (place_ended ds) ≡ numbers r.r7 ++ (heads r.r8 ++ ObjectEnded ∷ [])
 ended_before ds e more r nine =

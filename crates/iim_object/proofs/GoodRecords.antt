@@ -5,7 +5,7 @@ use Rattle.iim_object.specs.Laws.{PackedRecordsAreGood}
 use Rattle.iim_object.proofs.PlanParts.{plan_parts}
 use Rattle.iim_object.proofs.Members.{IsMember, descriptor_of, object_of, confirmation_of, numbers_good, mode_good}
 
--- ---- record 7
+-- ---- Record 7.
 
 mode_small : (size : Size) → mode_number (is_known size) ≤ 1
 mode_small size = grind arith
@@ -20,7 +20,7 @@ once_seven subfile (Known n) = (refl, (refl, (refl, tt)))
 once_seven subfile (Unknown (Some m)) = (refl, (refl, (refl, tt)))
 once_seven subfile (Unknown None) = (refl, (refl, tt))
 
--- ---- parts
+-- ---- Parts.
 
 good_parts : (size : ℕ) (full : List (List ℕ)) (last : List ℕ) → size ≤ greatest_size → AreFull size full → length last ≤ size
     → Octets (joined_parts full ++ last)
@@ -32,7 +32,7 @@ good_parts size (f ∷ fs) last most fulls short o =
     (part_meets f (omega (arith, fulls.0))) in
     ((refl, good), good_parts size fs last most fulls.1 short (all_back IsOctet f (joined_parts fs ++ last) whole))
 
--- ---- the law
+-- ---- The lemma.
 
 pub records_good : PackedRecordsAreGood
 records_good subfile size object parts plan octets cut within =

@@ -1,9 +1,9 @@
--- Tokens lead to the places that are possible.
+-- Tokens reach the possible places.
 use Rattle.iim_object.proofs.Words.{◌≡◌, ℕ, ◌<◌, ◌≤◌, List, [], ◌∷◌, ◌++◌, length, map, refl, sym, ap, subst, ◌∙◌, arith, append_assoc, append-nil, length-append, IsAlive, max_subfiles, Stated, AreStated, ObjectToken, SubfileBegun, ObjectLanguage, number_tokens, Place, Ending, NotEnded, Ended, ConfirmedAs, HasBoth, MayFollow, ending_tokens, place_start, place_after, tokens_of, IsPossible, TokensLead}
 use Rattle.iim_object.specs.Laws.{PlacesAreLedTo}
 use Rattle.iim_object.proofs.{Leads.stated_front, Steps.IsAdmitted, Steps.admitted_at, Steps.starts, Steps.stays_admitted, Steps.tokens_follow}
 
--- ---- what tokens lead to
+-- ---- What tokens reach.
 
 few_after : (p : Place) (token : ObjectToken) → length p.lengths ≤ max_subfiles → MayFollow p token → length (place_after p token).lengths ≤ max_subfiles
 few_after p (SubfileBegun count) few may = omega (arith, may.2, length-append p.lengths (count ∷ []))
@@ -15,7 +15,7 @@ admitted_after p q [] a few e = rw (← e) (a, few)
 admitted_after p q (token ∷ tokens) a few (follows, leads) =
     admitted_after (place_after p token) q tokens (stays_admitted p token a follows) (few_after p token few follows) leads
 
--- the tokens of a place are those before and the ones that led there
+-- The tokens of a place are those before and the ones that reach it from there.
 pub tokens_after : (p q : Place) (tokens : List ObjectToken) → TokensLead p tokens q → tokens_of q ≡ tokens_of p ++ tokens
 tokens_after p q [] e = ap tokens_of (sym e) ∙ sym (append-nil (tokens_of p))
 tokens_after p q (token ∷ tokens) (follows, leads) =
@@ -27,7 +27,7 @@ led_possible p tokens leads alive =
     let a = admitted_after place_start p tokens (admitted_at starts) (omega arith) leads in
     record { stated = a.0.stated; subfiles = a.0.subfiles; duties = a.0.duties; few = a.1; alive = rw (tokens_after place_start p tokens leads) alive }
 
--- ---- tokens that lead to a place
+-- ---- Tokens that reach a place.
 
 lead_on : (p q r : Place) (xs ys : List ObjectToken) → TokensLead p xs q → TokensLead q ys r → TokensLead p (xs ++ ys) r
 lead_on p q r [] ys e next = subst (λ (x : Place). TokensLead x ys r) (sym e) next

@@ -1,4 +1,4 @@
--- What datasets tell leads from place to place.
+-- The tokens of a dataset take the place before it to the place after it.
 use Rattle.iim_object.proofs.Words.{◌≡◌, ℕ, ◌<◌, List, [], ◌∷◌, ◌++◌, length, None, refl, sym, ap, ◌∙◌, arith, append_assoc, map-append, length-map, Dataset, of_record, all_front, Stated, InRow, AreOnce, AreStated, number_at, AreObjectRecords, numbers_of, lengths_of}
 use Rattle.iim_object.specs.{Format.Objects.ending_of, Laws.OthersLeadNowhere, Laws.NumbersLead, Laws.SubfilesLead, Laws.EndsLead}
 use Rattle.iim_object.proofs.{Numbers.at-append, Members.are_stated, Members.have_both, Members.some_subfile, Members.stated_of}
@@ -7,7 +7,7 @@ use Rattle.iim_object.proofs.Cuts.{more_of, same_of, next_number, next_subfile, 
 pub others_lead : OthersLeadNowhere
 others_lead ds d low = rw (same_of 7 ds d (λ e. omega arith), same_of 8 ds d (λ e. omega arith), same_of 9 ds d (λ e. omega arith)) refl
 
--- ---- numbers
+-- ---- Numbers.
 
 none_front : (set : ℕ) (ps qs : List Stated) → number_at set (ps ++ qs) ≡ None → number_at set ps ≡ None
 none_front set ps qs e = grind (arith, at-append)
@@ -31,7 +31,7 @@ numbers_lead ds d (more, all) is =
       rw (more_of 7 ds d [] is, same_of 8 ds d (λ e. omega arith), same_of 9 ds d (λ e. omega arith)) (simp map-append),
     )
 
--- ---- subfiles
+-- ---- Subfiles.
 
 pub subfiles_lead : SubfilesLead
 subfiles_lead ds d (more, all) is few =
@@ -41,7 +41,7 @@ subfiles_lead ds d (more, all) is few =
       rw (more_of 8 ds d [] is, same_of 7 ds d (λ e. omega arith), same_of 9 ds d (λ e. omega arith)) (simp map-append),
     )
 
--- ---- the end
+-- ---- The end.
 
 pub ends_lead : EndsLead
 ends_lead ds d (more, all) is =

@@ -1,4 +1,4 @@
--- Datasets of records 7, 8 and 9 as their rows say, and the numbers that they state.
+-- Datasets of records 7, 8 and 9 that meet their rows, and the numbers that they state.
 use Rattle.iim_object.proofs.Words.{◌≡◌, ℕ, suc, ◌<◌, ◌≤◌, true, false, ◌==◌, List, [], ◌∷◌, length, replicate, Some, None, is_some, refl, sym, ◌∙◌, arith, inl, inr, AllByRecursion, eq-eqb, number, greatest_size, Dataset, written_number, number_back, good_elsewhere, part_meets, Stated, InRow, AreOnce, AreStated, number_at, numbers_of, lengths_of, number_dataset}
 use Rattle.std.proofs.Common.{◌&&◌, nat_le}
 use Rattle.std.specs.List.{list_any}
@@ -12,13 +12,13 @@ use Rattle.iim_tables.specs.Format.Records.{repeats, occurrences, IsGoodDataset,
 use Rattle.iim_tables.proofs.GoodDatasets.{occurrences_cons}
 use Rattle.iim_object.specs.Laws.{NumberDatasetsAreGood}
 
--- ---- what the rows say
+-- ---- What the rows require.
 
 -- the dataset is of the record and good
 abbrev pub IsMember : ℕ → Dataset → Type 0
 IsMember rec d = (d.rec ≡ rec) × IsGoodDataset d
 
--- its octets are as its row says
+-- The octets meet their row.
 met : (rec : ℕ) (d : Dataset) → IsMember rec d → Meets rec d.set d.octets
 met rec d m = rw m.0 at m.1.meets
 
@@ -42,7 +42,7 @@ at_most_one : (set : ℕ) (xs : List ℕ) (k : ℕ) → Meets 7 set xs → (repe
 unfolding row_of table
 at_most_one set xs k m h = grind arith
 
--- records 8 and 9 have one row
+-- Records 8 and 9 have one row.
 subfile_row : (set : ℕ) (xs : List ℕ) → Meets 8 set xs → set ≡ 10
 unfolding row_of table
 subfile_row set xs meets = grind arith
@@ -56,7 +56,7 @@ subfiles_repeat : (set : ℕ) → repeats 8 set ≡ true
 unfolding row_of table
 subfiles_repeat set = grind arith
 
--- ---- numbers of record 7
+-- ---- Numbers of record 7.
 
 here_counted : (set : ℕ) (d : Dataset) (ds : List Dataset) → d.set ≡ set → occurrences set (d ∷ ds) ≡ suc (occurrences set ds)
 here_counted set d ds e = let c = occurrences_cons set d ds in grind arith
@@ -104,7 +104,7 @@ pub have_both : (ds : List Dataset) → IsGoodRecord 7 ds → (is_some (number_a
 unfolding row_of table
 have_both ds m = (occurs_at 10 ds m.mandatory.0, occurs_at 20 ds m.mandatory.1.0)
 
--- datasets whose numbers are those of an object are record 7
+-- Datasets whose numbers are those of an object are a good record 7.
 pub descriptor_of : (ds : List Dataset) (mode largest : ℕ) → AllByRecursion (IsMember 7) ds → AreOnce (numbers_of ds)
     → number_at 10 (numbers_of ds) ≡ Some mode → number_at 20 (numbers_of ds) ≡ Some largest → IsGoodRecord 7 ds
 unfolding row_of table
@@ -114,9 +114,9 @@ descriptor_of ds mode largest each once m l = record {
   once = λ set h. once_counts set ds once;
 }
 
--- ---- records 8 and 9
+-- ---- Records 8 and 9.
 
--- subfiles, one or more, are record 8
+-- Subfiles, at least one, are a good record 8.
 pub object_of : (ds : List Dataset) → AllByRecursion (IsMember 8) ds → 0 < length ds → IsGoodRecord 8 ds
 unfolding table
 object_of [] each some = absurd (omega arith)
@@ -135,7 +135,7 @@ unfolding row_of table
 some_subfile [] m = let bad : false ≡ true = m.mandatory.0 in absurd cc
 some_subfile (d ∷ ds) m = omega arith
 
--- one confirmed size is record 9
+-- One confirmed size is a good record 9.
 pub confirmation_of : (d : Dataset) → IsMember 9 d → IsGoodRecord 9 (d ∷ [])
 unfolding row_of table
 confirmation_of d m = record {
@@ -144,7 +144,7 @@ confirmation_of d m = record {
   once = λ set h. once_counts set (d ∷ []) (refl, tt);
 }
 
--- and record 9 is one
+-- A good record 9 is one confirmed size.
 pub one_confirmation : (ds : List Dataset) → IsGoodRecord 9 ds → (d : Dataset) × IsMember 9 d × (ds ≡ d ∷ [])
 unfolding row_of table
 one_confirmation [] m = let bad : false ≡ true = m.mandatory.0 in absurd cc
@@ -153,9 +153,9 @@ one_confirmation (d ∷ e ∷ ds) m =
     let most : occurrences 10 (d ∷ e ∷ ds) ≤ 1 = m.once 10 refl in
     absurd (omega (arith, here_counted 10 d (e ∷ ds) (ten_of d m.each.0), here_counted 10 e ds (ten_of e m.each.1.0)))
 
--- ---- datasets of given numbers and lengths
+-- ---- Datasets of given numbers and lengths.
 
--- it is a size, of a length that the rows allow
+-- The number as it is written is a size, of a length that the rows allow.
 size_from : (least n : ℕ) → least ≤ n → n ≤ greatest_size → (within 1 size_octets (length (written_number n)) && is_size_from least (written_number n)) ≡ true
 size_from least n one le = grind (arith, some_octets, few_octets, number_back)
 

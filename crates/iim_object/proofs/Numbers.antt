@@ -1,8 +1,8 @@
--- The numbers of record 7: what is stated stays stated, what rows say of them, and their tokens.
+-- The numbers of record 7: they stay stated, what rows require of them, and their tokens.
 use Rattle.iim_object.proofs.Words.{◌≡◌, ℕ, ◌≤◌, false, ◌==◌, List, [], ◌∷◌, ◌++◌, map, Some, None, refl, arith, AllByRecursion, greatest_size, all_map, Stated, InRow, AreOnce, number_at, TokensWithin, ObjectToken, SubfileBegun, ObjectEnded, Confirmed, number_tokens}
 use Rattle.iim_object.proofs.Bounded.{within_append, begun_within, row_low}
 
--- ---- what is stated stays stated
+-- ---- Numbers stay stated.
 
 pub at-append : (set n : ℕ) (ps qs : List Stated) → number_at set ps ≡ Some n → number_at set (ps ++ qs) ≡ Some n
 at-append set n [] qs e = absurd cc
@@ -19,7 +19,7 @@ pub once-append : (ps : List Stated) (q : Stated) → AreOnce ps → number_at q
 once-append [] q o e = (refl, tt)
 once-append (p ∷ ps) q o e = let n = none_parts q.set p ps e in let more = once-append ps q o.1 n.1 in (grind (arith, none-append), more)
 
--- ---- numbers that are low, and tokens of them
+-- ---- Numbers that are at most a bound, and tokens of them.
 
 abbrev pub AreLow : ℕ → List Stated → Type 0
 AreLow most ps = AllByRecursion (λ (p : Stated). p.number ≤ most) ps
@@ -36,7 +36,7 @@ pub numbers_low : (most : ℕ) (ps : List Stated) (rest : List ObjectToken) → 
 numbers_low most [] rest all = tt
 numbers_low most (p ∷ ps) rest all = (all.0, numbers_low most ps rest all.1)
 
--- tokens of low numbers, any lengths, and a low size
+-- The tokens of numbers within a bound, of any lengths, and of a confirmed size within it.
 pub whole_within : (most : ℕ) (all : List Stated) (lengths : List ℕ) (n : ℕ) → AreLow most all → n ≤ most
     → TokensWithin most (number_tokens all ++ (map SubfileBegun lengths ++ (ObjectEnded ∷ Confirmed n ∷ [])))
 whole_within most all lengths n low le =
@@ -46,7 +46,7 @@ whole_within most all lengths n low le =
 pub rows_low : (ps : List Stated) → AllByRecursion InRow ps → AreLow greatest_size ps
 rows_low ps all = all_map InRow (λ (p : Stated). p.number ≤ greatest_size) ps row_low all
 
--- ---- what rows say
+-- ---- What rows require.
 
 pub in_row_at : (set n : ℕ) (ps : List Stated) → AllByRecursion InRow ps → number_at set ps ≡ Some n → InRow (record { set = set; number = n })
 in_row_at set n [] h e = absurd cc

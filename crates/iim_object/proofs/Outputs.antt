@@ -1,4 +1,4 @@
--- Writes after one another.
+-- Writes one after another.
 use Rattle.iim_object.proofs.Words.{◌≡◌, ℕ, ◌+◌, List, ◌++◌, length, take, sym, subst, arith, length-append, Device, TextsJoin, Puts, Cuts, Output}
 use Rattle.std.specs.Prelude.{Result, Ok, Err, OnOk, OnErr}
 use Rattle.std.proofs.lemmas.List.{take-append-le}
@@ -35,7 +35,7 @@ cuts_more state a b xs ys q =
       patience = q.patience;
     }
 
--- ---- results
+-- ---- Results.
 
 pub on_err : {A E : Type 0} (r : Result A E) (P Q : Type 0) → (P → Q) → OnErr r P → OnErr r Q
 on_err (Ok a) P Q f h = tt

@@ -3,7 +3,7 @@ use Rattle.iim_object.proofs.Words.{◌≡◌, ℕ, ◌≤◌, List, [], ◌∷�
 use Rattle.iim_object.specs.{Format.Objects.fits, Format.Packing.IsAsKnown, Format.Packing.packed_sizes, Laws.PackedObjectsHaveSizes}
 use Rattle.iim_object.proofs.PlanParts.{plan_parts}
 
--- ---- lengths
+-- ---- Lengths.
 
 lengths_are : (parts : List (List ℕ)) → lengths_of (subfile_datasets parts) ≡ map length parts
 lengths_are [] = refl
@@ -31,14 +31,14 @@ pub each_fits : (size : ℕ) (object : List ℕ) (parts : List (List ℕ)) → I
     → AllByRecursion (λ n. n ≤ size) (lengths_of (subfile_datasets parts))
 each_fits size object parts c = rw (lengths_are parts, c.parts_are) (no_longer size c.full c.last c.are_full c.fits)
 
--- ---- sizes
+-- ---- Sizes.
 
 agree : (subfile : ℕ) (size : Size) (object : List ℕ) (parts : List (List ℕ)) (lengths : List ℕ) → limit_of size ≤ greatest_size
     → length object ≤ limit_of size → IsAsKnown size object
     → AllByRecursion (λ n. n ≤ subfile) lengths → Agree (packed_sizes subfile size object parts) lengths (length object)
 agree subfile size object parts lengths limit le exact each = grind arith
 
--- a number that is at most the greatest size is read as it is written
+-- A number that is at most the greatest size is read back as it was written.
 read_back : (n : ℕ) → n ≤ greatest_size → number (written_number n) ≡ n
 read_back n le = number_back n (omega (arith, le))
 

@@ -1,4 +1,4 @@
--- What a plan of subfiles keeps to, part by part, for the proofs of every crate: nothing here is to be believed.
+-- The conditions of a plan of subfiles, one by one, for the proofs of every crate.
 use Rattle.iim_object.proofs.Words.{ℕ, ◌≤◌, arith, List, [], ◌∷◌, ◌++◌, length, Some, None, length-append, greatest_size, limit_of, Size, Known, Unknown, canonical_dataset, canonical_stream, tag_octets, number_dataset, size_datasets, plan_datasets, is_known, mode_number}
 use Rattle.std.proofs.Common.{IsTrue}
 use Rattle.iim_object.specs.Format.Objects.{is_plan, most_sizes}
@@ -11,7 +11,7 @@ pub record IsPlan (subfile : ℕ) (size : Size) : Type 0 where
 pub plan_parts : (subfile : ℕ) (size : Size) → IsTrue (is_plan subfile size) → IsPlan subfile size
 plan_parts subfile size h = grind arith
 
--- ---- Lemmas on how long record 7 is, for the proofs of every crate: nothing here is to be believed.
+-- ---- The length of record 7, for the proofs of every crate.
 
 pub number_length : (rec set n : ℕ) → length (canonical_dataset (number_dataset rec set n)) ≤ tag_octets
 number_length rec set n = grind arith

@@ -1,4 +1,4 @@
--- Tokens lead to each state, and to no others.
+-- Tokens reach each state that satisfies the invariant, and no others.
 use Rattle.iim_object.proofs.Words.{◌≡◌, ℕ, zero, suc, ◌-◌, ◌*◌, ◌<◌, ◌≤◌, Bool, List, [], ◌∷◌, ◌++◌, length, map, sum, Option, Some, None, is_some, unwrap_or, refl, sym, ap, ◌∙◌, arith, inl, inr, append_assoc, AllByRecursion, cases_lt, nil_from_length, IsAlive, sum_cons, max_subfiles, Stated, InRow, AreOnce, AreStated, number_at, SubfileBegun, ObjectLanguage, number_tokens, NoClash, HasDuties, Fit, Place, NotEnded, HasBoth, ending_tokens, tokens_of, HasNumbers, IsState, IsStateAt, StandsAt, State}
 use Rattle.std.proofs.Common.{min, IfSome}
 use Rattle.iim_dataset.specs.Format.Octets.{greatest_size}
@@ -8,13 +8,13 @@ use Rattle.iim_dataset.proofs.Lists.{sum_fits}
 use Rattle.iim_object.proofs.{Numbers.in_row_at, Subfiles.front_lives, Subfiles.numbers_law, Subfiles.subfiles_law}
 use Rattle.iim_object.proofs.Steps.{tells_of, both_of, not_ended_tokens, number_before}
 
--- ---- the state of a place
+-- ---- The state of a place.
 
--- numbers that meet their rows and don't clash are those of a state
+-- Numbers that meet their rows and do not clash are those of a state.
 numbers_told : (s : State) (p : Place) → IsStateAt s p → AllByRecursion InRow p.stated → NoClash p.stated → HasNumbers s
 numbers_told s p t each clash = grind (arith, in_row_at)
 
--- within the bound
+-- The total is within the bound.
 within_bound : (announced most : Option ℕ) (n : ℕ) → n ≤ greatest_size → IfSome announced (λ a. n ≤ a) → IfSome most (λ m. n ≤ m) → n ≤ bound announced most
 within_bound announced most n greatest least below = grind arith
 
@@ -56,9 +56,9 @@ state_of s p st few =
       some_subfiles = subfiles_of_place s p st few;
     }
 
--- ---- a place of the state
+-- ---- A place of the state.
 
--- what states a number, where it is given
+-- the numbers, with one more if it is given
 abbrev pub stating : ℕ → Option ℕ → List Stated → List Stated
 stating set None ps = ps
 stating set (Some n) ps = record { set = set; number = n } ∷ ps
@@ -93,7 +93,7 @@ clash_in s h = record {
   sizes = λ a m e f. h.sizes a m (sym (announced_in s) ∙ e) (sym (maximum_in s) ∙ f);
 }
 
--- subfiles of octets, the first ones full
+-- subfiles of this many octets, the first ones full
 abbrev pub filled : ℕ → ℕ → ℕ → List ℕ
 filled zero most octets = []
 filled (suc k) most octets = min octets most ∷ filled k most (octets - min octets most)
@@ -125,7 +125,7 @@ total_in s is = filled_sum s.subfiles (unwrap_or s.subfile 0) s.total (elim (cas
   | inr none ↦ omega (arith, is.no_subfile (omega (arith, none)))
 ])
 
--- the place where these numbers, and then these subfiles, have come
+-- the place with the numbers of the state, and as many subfiles
 abbrev pub place_in : State → Place
 place_in s = record { stated = numbers_in s; lengths = lengths_in s; ending = NotEnded }
 

@@ -1,10 +1,10 @@
--- How many octets are out of an object that is cut into subfiles.
+-- How many octets were written of an object that is divided into subfiles.
 use Rattle.iim_object.proofs.Words.{◌≡◌, ℕ, ◌+◌, ◌*◌, ◌≤◌, true, false, List, [], length, refl, arith, le_of_mul-le-mul_left, canonical_dataset, tag_octets, Device, greatest_size, dataset_length, subfile_dataset, max_subfiles, Puts, Cuts, HasRoom, Output, Cutter}
 use Rattle.iim_dataset.specs.States.Devices.{Reserved}
 use Rattle.iim_object.specs.{Steps.Becomes, Format.Objects.most_sizes}
 use Rattle.iim_object.proofs.PlanParts.{plan_parts}
 
--- what is out and what is held, while no write failed
+-- What was written and what is buffered, while no write failed.
 pub out_fits : {W : Type 0} (c : Cutter W) → HasRoom c → c.failed ≡ false
     → c.output.written + length c.held.items ≤ most_sizes + greatest_size + tag_octets * max_subfiles
 out_fits c room unfailed =
@@ -12,9 +12,9 @@ out_fits c room unfailed =
     let few : room.parts ≤ max_subfiles = le_of_mul-le-mul_left (omega (arith, room.sent, room.bound)) plan.least in
     omega (arith, room.count unfailed, room.bound, plan.limit, few)
 
--- ---- what stays when a subfile is written, and when a write fails
+-- ---- What is unchanged when a subfile is written, and when a write fails.
 
--- the cutter with these octets held in place of its own
+-- the cutter with these buffered octets
 abbrev pub holding : {W : Type 0} → Cutter W → List ℕ → Cutter W
 holding c xs = record c { held = record { items = xs; room = c.held.room } }
 

@@ -1,4 +1,4 @@
--- Where numbers are those of a possible place, and the state that stands there.
+-- When numbers are those of a possible place, and the state there.
 use Rattle.iim_object.proofs.Words.{◌≡◌, ℕ, ◌+◌, ◌-◌, ◌≤◌, [], ◌∷◌, length, sum, Option, Some, None, IfSome, refl, sym, ap, ◌∙◌, arith, max_subfiles, ObjectToken, ObjectLanguage, SubfileBegun, Place, HasBoth, MayFollow, place_after, tokens_of, IsState, TakesSubfile, IsStateAt, StandsAt, LeadsOn, Refuses, State, IsPossible}
 use Rattle.std.proofs.Common.{◌↔◌, IsSome, Result, Ok, Err, IfOk, IfErr}
 use Rattle.std.proofs.lemmas.List.{length_push}
@@ -8,12 +8,12 @@ use Rattle.iim_object.specs.Laws.{PlacesHaveOneReader}
 use Rattle.iim_object.proofs.{Subfiles.front_lives, Steps.sum_more, Steps.tokens_follow, Staying.may_take, Bounded.possible_of}
 use Rattle.iim_object.proofs.Reached.{place_in, tells_in, stands_in, few_in, state_of}
 
--- ---- a place and its state
+-- ---- A place and its state.
 
 pub stands_by : (s : State) (p : Place) → IsStateAt s p → IsPossible p → StandsAt (Some s) p
 stands_by s p t h = record { state = s; is_state = refl; tells = t; stated = h.stated; subfiles = h.subfiles; duties = h.duties; alive = h.alive }
 
--- the numbers, one by one
+-- The numbers, one by one.
 pub tells_by : (s : State) (p : Place) → state_numbers s ≡ stated_numbers p.stated → s.subfiles ≡ length p.lengths → s.total ≡ sum p.lengths → IsStateAt s p
 tells_by s p numbers subfiles total = record { mode = cc; largest = cc; announced = cc; maximum = cc; subfiles = subfiles; total = total }
 
@@ -34,11 +34,12 @@ one_state a b p x y =
     } in
     cc (x.is_state, y.is_state)
 
--- A state is found exactly where one of these places is possible, and then it stands at each of them that is.
+-- A state is found exactly if one of these places is possible, and then it is the state at each of
+-- them that is.
 abbrev pub Finds : (Place → Type 0) → Option State → Type 0
 Finds IsOne found = (IsSome found ↔ ((p : Place) × IsOne p × IsPossible p)) × IfSome found (λ s. (p : Place) → IsOne p → IsPossible p → StandsAt (Some s) p)
 
--- ---- between subfiles
+-- ---- Between subfiles.
 
 -- the state with `subfiles` subfiles, and `total` octets of them
 abbrev pub with_subfiles : State → ℕ → ℕ → State
@@ -70,9 +71,9 @@ finds_between n taken heads found there back value =
     is_one None is at = tt
     is_one (Some x) is at = rw is at
 
--- ---- within a subfile
+-- ---- Within a subfile.
 
--- before a begun subfile
+-- the state before the subfile in progress
 abbrev pub state_before : State → ℕ → ℕ → ℕ → ℕ → State
 state_before n taken count left heads = with_subfiles n (heads - 1) (taken - (count - left))
 

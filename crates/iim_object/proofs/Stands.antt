@@ -1,4 +1,4 @@
--- What a reader that stands after whole records says of their sizes.
+-- The sizes that a reader returns after complete records.
 use Rattle.iim_object.proofs.Words.{◌≡◌, subst, ◌<◌, List, [], ◌∷◌, length, true, Some, None, refl, sym, ap, ◌∙◌, arith, length-map, eq-eqb, number, Dataset, Agree, sizes_at, HasDuties, AreObjectRecords, numbers_of, lengths_of, place_after_datasets, StandsAt, State}
 use Rattle.iim_object.specs.{Laws.ReadersTellSizes, Format.Objects.HaveSizes}
 use Rattle.iim_object.proofs.{Subfiles.agree_of, Subfiles.confirmed_law, Steps.sizes_are, Steps.sizes_in, Cuts.place_is, Cuts.place_with, Cuts.sorted}

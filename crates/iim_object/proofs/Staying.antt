@@ -1,4 +1,4 @@
--- From state to state: each token leads from a state to which tokens lead to another.
+-- Each token takes a state that tokens reach to another one.
 use Rattle.iim_object.proofs.Words.{◌≡◌, ℕ, ◌+◌, ◌≤◌, ◌∷◌, [], length, Option, Some, None, is_some, true, false, refl, ap, ◌∙◌, arith, inl, inr, length-append, greatest_size, all_last, some_of, InRow, ObjectToken, NumberRead, SubfileBegun, ObjectEnded, Confirmed, Place, MayFollow, place_after, end_cause, confirmed_cause, HasNumbers, IsState, TakesSubfile, state_with, StandsAt, Refuses, State}
 use Rattle.iim_dataset.proofs.Lists.{no_some}
 use Rattle.iim_object.specs.declared.reading.fault.SizeCause.TheVariants.{ModeClash}
@@ -6,15 +6,15 @@ use Rattle.iim_object.specs.States.Reading.{TakesNumber, EndsAs, RefusesToEnd, S
 use Rattle.iim_object.proofs.Steps.{cause_in, next, tells_of, leads_on, refused}
 use Rattle.iim_object.proofs.Reached.{mode_in, largest_in, place_in, tells_in, stands_in, state_of}
 
--- ---- tokens that may not come
+-- ---- Tokens that may not come next.
 
--- the state takes the token
+-- the state accepts the token
 abbrev pub Takes : State → ObjectToken → Type 0
 Takes s (NumberRead set number) = TakesNumber s set number
 Takes s (SubfileBegun count) = TakesSubfile s
 Takes s _ = Unit {0}
 
--- where a token may follow, the state takes it
+-- If a token may follow, the state accepts it.
 pub takes_of : (s : State) (token : ObjectToken) (p : Place) → StandsAt (Some s) p → MayFollow p token → Takes s token
 takes_of s (NumberRead set number) p st (not_ended, none, stated) = (
   (tells_of s p st).subfiles ∙ ap length none,
@@ -30,7 +30,7 @@ takes_of s (SubfileBegun count) p st (not_ended, both, few) = let t = tells_of s
 )
 takes_of s _ p st may = tt
 
--- a token is refused that is not taken, or has a cause
+-- A token that is not accepted, or has a cause, is rejected.
 pub refuses : (s : State) (token : ObjectToken) → (Takes s token × (cause_in s token ≡ None) → ⊥) → (cause : SizeCause) × Refuses (Some s) token cause
 refuses s token out = by_cause (cause_in s token) refl
   where
@@ -38,7 +38,7 @@ refuses s token out = by_cause (cause_in s token) refl
     by_cause None e = (ModeClash, λ p st follows. absurd (out (takes_of s token p st follows, e)))
     by_cause (Some c) e = (c, refused s token c e)
 
--- ---- a number
+-- ---- A number.
 
 numbers_with : (s : State) (set number : ℕ) → HasNumbers s → InRow (record {
   set = set;
@@ -54,12 +54,12 @@ number_state s set number is (none, row) no_cause = record {
   some_subfiles = λ some. absurd (omega (arith, none, some));
 }
 
--- ---- a subfile
+-- ---- A subfile.
 
 pub room_for : (s : State) (count : ℕ) → IsState s → cause_in s (SubfileBegun count) ≡ None → s.total + count ≤ greatest_size
 room_for s count is no_cause = let small = is.numbers.announced in grind arith
 
--- after the subfiles of a state that takes one more, one may follow
+-- After the subfiles of a state that accepts one more, one may follow.
 pub may_take : (s : State) (count : ℕ) → IsState s → TakesSubfile s → MayFollow (place_in s) (SubfileBegun count)
 may_take s count is (mode, largest, few) = (
   refl,
@@ -74,7 +74,7 @@ subfile_state s count is takes no_cause =
     (leads_on s (SubfileBegun count) no_cause p (stands_in s is) (may_take s count is takes))
     (omega (arith, (tells_in s is).subfiles, takes.2, length-append p.lengths (count ∷ [])))
 
--- ---- the end
+-- ---- The end.
 
 pub ends_as : (s : State) (number : ℕ) → is_some (end_cause s.announced s.total) ≡ false → is_some (confirmed_cause s.total number) ≡ false
     → EndsAs (Some s) number (Some s)

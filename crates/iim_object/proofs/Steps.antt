@@ -1,11 +1,11 @@
--- How each token leads on, and where the object layer dies with it.
+-- The state after each token, and when the tokens are no longer a viable prefix.
 use Rattle.iim_object.proofs.Words.{◌≡◌, ℕ, ◌+◌, ◌<◌, ◌≤◌, Bool, List, [], ◌∷◌, ◌++◌, length, map, sum, Option, Some, None, IfSome, unwrap_or, refl, sym, ap, ◌∙◌, arith, append_assoc, append-nil, length-append, AllByRecursion, map-append, nil_from_length, same_Some, IsAlive, greatest_size, all_append, all_last, sum_append, some_of, Stated, AreOnce, AreStated, number_at, mode_number, ObjectToken, NumberRead, SubfileBegun, ObjectEnded, Confirmed, ObjectLanguage, number_tokens, NoClash, HasDuties, Fit, MeetsAnnounced, Place, NotEnded, ConfirmedAs, tokens_of, place_after, place_start, HasBoth, MayFollow, end_cause, confirmed_cause, cause_at, IsStateAt, StandsAt, LeadsOn, Refuses, State, state_with}
 use Rattle.iim_object.specs.{Format.Objects.Sizes, Laws.TokensFollow, Format.Causes.is_given, Format.Causes.number_cause, Format.Causes.subfile_cause}
 use Rattle.iim_object.specs.States.Reading.{LivesWith, IsSizes, SizeCause, set_where, state_start}
 use Rattle.iim_object.proofs.{Numbers.at-append, Numbers.at_most_size, Numbers.in_row_at, Numbers.mode_at_most_one, Numbers.none-append, Bounded.mode_known}
 use Rattle.iim_object.proofs.Subfiles.{numbers_law, subfiles_law, ends_law, confirmed_law}
 
--- ---- tokens of a place
+-- ---- Tokens of a place.
 
 pub not_ended_tokens : (p : Place) → p.ending ≡ NotEnded → tokens_of p ≡ number_tokens p.stated ++ map SubfileBegun p.lengths
 not_ended_tokens p e = rw e (simp append-nil)
@@ -19,7 +19,7 @@ tokens_follow p (SubfileBegun count) (not_ended, both, few) = rw not_ended (simp
 tokens_follow p ObjectEnded (not_ended, some) = rw not_ended (simp (append-nil, append_assoc))
 tokens_follow p (Confirmed n) ended = rw ended (simp append_assoc)
 
--- ---- what the record layer has admitted
+-- ---- What the record layer has accepted.
 
 pub record IsAdmitted (p : Place) : Type 0 where
   pub stated : AreStated p.stated
@@ -29,11 +29,11 @@ pub record IsAdmitted (p : Place) : Type 0 where
 pub admitted_at : {reader : Option State} {p : Place} → StandsAt reader p → IsAdmitted p
 admitted_at st = record { stated = st.stated; subfiles = st.subfiles; duties = st.duties }
 
--- once the object has ended a subfile has come
+-- Once the object has ended it has a subfile.
 pub some_lengths : (p : Place) → IsAdmitted p → (p.ending ≡ NotEnded → ⊥) → 0 < length p.lengths
 some_lengths p a ended = grind (arith, nil_from_length p.lengths)
 
--- it stays so with a token that may follow
+-- The place stays so with a token that may follow.
 pub stays_admitted : (p : Place) (token : ObjectToken) → IsAdmitted p → MayFollow p token → IsAdmitted (place_after p token)
 stays_admitted p (NumberRead set n) a (not_ended, none, stated) = record {
   stated = stated;
@@ -44,9 +44,9 @@ stays_admitted p (SubfileBegun count) a (not_ended, both, few) = record { stated
 stays_admitted p ObjectEnded a (not_ended, some) = record { stated = a.stated; subfiles = λ e. absurd (omega (arith, ap length e)); duties = a.duties }
 stays_admitted p (Confirmed n) a ended = record { stated = a.stated; subfiles = λ e. absurd (let clash = sym (a.subfiles e) ∙ ended in cc); duties = a.duties }
 
--- ---- where a token has no cause
+-- ---- A token without a cause.
 
--- the last of numbers that don't repeat was not there before
+-- The last of numbers that do not repeat did not occur before.
 pub once_last : (ps : List Stated) (q : Stated) → AreOnce (ps ++ q ∷ []) → number_at q.set ps ≡ None
 once_last [] q o = refl
 once_last (p ∷ ps) q o = let rest = once_last ps q o.1 in grind (arith, at-append, none-append)
@@ -54,18 +54,18 @@ once_last (p ∷ ps) q o = let rest = once_last ps q o.1 in grind (arith, at-app
 pub sum_more : (lengths : List ℕ) (count : ℕ) → sum (lengths ++ count ∷ []) ≡ sum lengths + count
 sum_more lengths count = grind (arith, sum_append)
 
--- the announced size is at most the greatest
+-- The announced size is at most the greatest.
 pub announced_small : (ps : List Stated) → AreStated ps → IfSome (number_at 90 ps) (λ a. a ≤ greatest_size)
 announced_small ps stated = grind (arith, in_row_at, at_most_size)
 
--- no cause, no clash
+-- If there is no cause, there is no clash.
 pub clear_numbers : (ps : List Stated) → number_cause (number_at 10 ps) (number_at 90 ps) (number_at 95 ps) ≡ None → NoClash ps
 clear_numbers ps e = grind arith
 
 no_number_cause : (ps : List Stated) → NoClash ps → number_cause (number_at 10 ps) (number_at 90 ps) (number_at 95 ps) ≡ None
 no_number_cause ps clash = grind arith
 
--- mode and largest subfile
+-- Mode and largest subfile are stated.
 pub both_of : (ps : List Stated) → AreStated ps → HasBoth ps → (known : Bool) × (subfile : ℕ) × HasDuties known subfile ps
 both_of ps stated both =
     let mode = some_of (number_at 10 ps) both.0 in
@@ -73,14 +73,14 @@ both_of ps stated both =
     let known = mode_known mode.0 (mode_at_most_one mode.0 (in_row_at 10 mode.0 ps stated.each mode.1)) in
     (known.0, largest.0, record { stated = stated; mode = mode.1 ∙ ap (λ (n : ℕ). Some n) known.1; largest = largest.1 })
 
--- what the numbers and subfiles so far have
+-- The numbers do not clash, and no subfile is too long.
 so_far : (known : Bool) (subfile : ℕ) (ps : List Stated) (lengths : List ℕ) → HasDuties known subfile ps
     → IsAlive ObjectLanguage (number_tokens ps ++ map SubfileBegun lengths)
     → NoClash ps × AllByRecursion (λ n. n ≤ subfile) lengths
 so_far known subfile ps [] d alive = ((numbers_law ps d.stated).0 (rw append-nil at alive), tt)
 so_far known subfile ps (l ∷ lengths) d alive = let fit = (subfiles_law known subfile ps (l ∷ lengths) d (omega arith)).0 alive in (fit.clash, fit.each)
 
--- no cause, and one more subfile fits
+-- If there is no cause, one more subfile fits.
 subfile_fits : (known : Bool) (subfile : ℕ) (ps : List Stated) (lengths : List ℕ) (count : ℕ) → HasDuties known subfile ps → NoClash ps
     → AllByRecursion (λ n. n ≤ subfile) lengths
     → IfSome (number_at 90 ps) (λ a. a ≤ greatest_size)
@@ -100,7 +100,7 @@ whole_of ps lengths fits e = grind arith
 no_end_cause : (ps : List Stated) (lengths : List ℕ) → MeetsAnnounced ps lengths → end_cause (number_at 90 ps) (sum lengths) ≡ None
 no_end_cause ps lengths whole = grind arith
 
--- The object layer lives with a token just where it has no cause.
+-- With a token the tokens are a viable prefix exactly if it has no cause.
 pub lives_on : {reader : Option State} (p : Place) (token : ObjectToken) → StandsAt reader p → MayFollow p token
     → (IsAlive ObjectLanguage (tokens_of (place_after p token)) → cause_at p token ≡ None)
     × (cause_at p token ≡ None → IsAlive ObjectLanguage (tokens_of (place_after p token)))
@@ -127,22 +127,22 @@ lives_on p (Confirmed n) st ended =
     let law = confirmed_law known subfile p.stated p.lengths n d some in
     (λ alive. let same = (law.0 alive).2 in grind arith, λ e. law.1 (fit.0, fit.1, grind arith))
 
--- ---- the state
+-- ---- The state.
 
--- the state that has taken a token
+-- the state after a token
 abbrev pub next : State → ObjectToken → State
 next s (NumberRead set n) = state_with s set n
 next s (SubfileBegun count) = record s { subfiles = s.subfiles + 1; total = s.total + count }
 next s _ = s
 
--- what is wrong with a token by the state
+-- the cause against a token, by the state
 abbrev pub cause_in : State → ObjectToken → Option SizeCause
 cause_in s (NumberRead set n) = number_cause (state_with s set n).mode (state_with s set n).announced (state_with s set n).maximum
 cause_in s (SubfileBegun count) = subfile_cause s.mode s.subfile s.announced s.maximum s.total count
 cause_in s ObjectEnded = end_cause s.announced s.total
 cause_in s (Confirmed n) = confirmed_cause s.total n
 
--- the state that the reader has tells of the place
+-- The state of the reader is that of the place.
 pub tells_of : (s : State) (p : Place) → StandsAt (Some s) p → IsStateAt s p
 tells_of s p st = rw (same_Some s st.state st.is_state) st.tells
 
@@ -171,12 +171,12 @@ tells_next s p (SubfileBegun count) t may = record {
 }
 tells_next s p token t may = record { mode = t.mode; largest = t.largest; announced = t.announced; maximum = t.maximum; subfiles = t.subfiles; total = t.total }
 
--- the state's cause is the place's
+-- The cause by the state is that by the place.
 cause_is : (s : State) (p : Place) (token : ObjectToken) → IsStateAt s p → MayFollow p token → cause_in s token ≡ cause_at p token
 cause_is s p (NumberRead set n) t may = let u = tells_next s p (NumberRead set n) t may in cc
 cause_is s p token t may = cc
 
--- a token without a cause leads on, and one with a cause is refused
+-- A token without a cause reaches the next state, and one with a cause is rejected.
 pub leads_on : (s : State) (token : ObjectToken) → cause_in s token ≡ None → LeadsOn (Some s) token (Some (next s token))
 leads_on s token e p st may =
     let t = tells_of s p st in
@@ -196,11 +196,11 @@ refused s token c e p st may =
     let cause = sym (cause_is s p token (tells_of s p st) may) ∙ e in
     ((st.alive, λ alive. let none = (lives_on p token st may).0 (rw (tokens_follow p token may) alive) in cc), cause)
 
--- a token that leads on leaves the object layer alive
+-- With a token that reaches the next state, the tokens are a viable prefix.
 pub lives_with : (old new : Option State) (token : ObjectToken) → LeadsOn old token new → LivesWith old token
 lives_with old new token goes p st may = rw (tokens_follow p token may) at (goes p st may).alive
 
--- ---- the beginning, and the sizes at the end
+-- ---- The beginning, and the sizes at the end.
 
 pub starts : StandsAt (Some state_start) place_start
 starts = record {

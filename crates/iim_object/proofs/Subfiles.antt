@@ -1,32 +1,33 @@
--- The object layer by numbers and lengths: while record 7 is read it is alive exactly where the numbers don't clash, and while subfiles come
--- and at the end exactly where they fit.
+-- The object layer by numbers and lengths. While record 7 is read the tokens are a viable prefix
+-- exactly if the numbers do not clash; while subfiles are read, exactly if they fit; and at the
+-- end, exactly if they have the announced total.
 use Rattle.iim_object.proofs.Words.{◌≡◌, ℕ, zero, suc, ◌+◌, ◌-◌, ◌<◌, ◌≤◌, Bool, true, false, List, [], ◌∷◌, ◌++◌, length, replicate, map, sum, Option, Some, None, is_some, refl, sym, ap, ◌∙◌, arith, inl, inr, append_assoc, append-nil, length-append, AllByRecursion, map-append, IsAlive, greatest_size, all_append, all_front, sum_append, sum_cons, NoClash, HasDuties, Fit, MeetsAnnounced, LanguageWithin, Stated, InRow, AreStated, Agree, number_at, mode_number, sizes_at, Ending, NotEnded, Ended, ConfirmedAs, ending_tokens, ObjectToken, NumberRead, SubfileBegun, ObjectEnded, Confirmed, ObjectLanguage, number_tokens}
 use Rattle.std.proofs.Common.{◌↔◌}
 use Rattle.iim_object.specs.Laws.{SizesAreDetermined, NumbersLiveWithoutClash, SubfilesLiveWhileTheyFit, ObjectsEndWhereTheyAreWhole, TotalsAreConfirmed}
 use Rattle.iim_object.proofs.Numbers.{AreLow, at-append, none-append, once-append, low_at, rows_low, whole_within, in_row_at, at_least_one, at_most_size, mode_at_most_one}
 
--- ---- what follows completes
+-- ---- Completions.
 
 -- the tokens of the end
 abbrev pub end_with : ℕ → List ObjectToken
 end_with n = ObjectEnded ∷ Confirmed n ∷ []
 
--- what lives, lived before
+-- A prefix of a viable prefix is one.
 pub front_lives : (Language : List ObjectToken → Type 0) (xs ys : List ObjectToken) → IsAlive Language (xs ++ ys) → IsAlive Language xs
 front_lives Language xs ys (rest, all) = (ys ++ rest, rw append_assoc at all)
 
--- by which ending so many subfiles are whole
+-- the subfiles are complete with this ending
 abbrev pub Ends : Ending → List Stated → List ℕ → Type 0
 Ends NotEnded ps lengths = Unit {0}
 Ends Ended ps lengths = MeetsAnnounced ps lengths
 Ends (ConfirmedAs n) ps lengths = MeetsAnnounced ps lengths × (n ≡ sum lengths)
 
--- the sizes agree where the subfiles fit and are whole
+-- The sizes agree if the subfiles fit and have the announced total.
 pub agree_of : (known : Bool) (subfile : ℕ) (ps : List Stated) (lengths : List ℕ) → Fit known subfile ps lengths → MeetsAnnounced ps lengths
     → Agree (sizes_at known subfile ps lengths) lengths (sum lengths)
 agree_of known subfile ps lengths fit whole = grind arith
 
--- an object of these numbers and lengths, by each greatest size that they keep to
+-- An object with these numbers and lengths, for each greatest size that they do not exceed.
 whole_object : (most : ℕ) (known : Bool) (subfile : ℕ) (ps : List Stated) (lengths : List ℕ) → AreLow most ps → sum lengths ≤ most
     → HasDuties known subfile ps → 0 < length lengths → Fit known subfile ps lengths
     → MeetsAnnounced ps lengths → LanguageWithin most (number_tokens ps ++ (map SubfileBegun lengths ++ end_with (sum lengths)))
@@ -55,7 +56,7 @@ short_ones : (n subfile : ℕ) → 1 ≤ subfile → AllByRecursion (λ k. k ≤
 short_ones zero subfile h = tt
 short_ones (suc n) subfile h = (h, short_ones n subfile h)
 
--- with subfiles of one octet the announced size is reached
+-- Subfiles of one octet fill the announced size.
 filled_fits : (known : Bool) (subfile : ℕ) (ps : List Stated) (lengths : List ℕ) (a : ℕ) → HasDuties known subfile ps → Fit known subfile ps lengths
     → number_at 90 ps ≡ Some a
     → Fit known subfile ps (lengths ++ replicate (a - sum lengths) 1) × (sum (lengths ++ replicate (a - sum lengths) 1) ≡ a)
@@ -66,7 +67,7 @@ filled_fits known subfile ps lengths a d fit e =
     let clash = fit.clash.sizes a in
     grind (arith, sum_append lengths (replicate (a - sum lengths) 1), sum_ones (a - sum lengths))
 
--- It can continue by each greatest size that numbers and total keep to.
+-- The tokens are a viable prefix for each greatest size that numbers and total do not exceed.
 pub alive_within : (most : ℕ) (known : Bool) (subfile : ℕ) (ps : List Stated) (lengths : List ℕ) (ending : Ending) → AreLow most ps → sum lengths ≤ most
     → HasDuties known subfile ps → 0 < length lengths
     → Fit known subfile ps lengths → Ends ending ps lengths
@@ -86,9 +87,9 @@ alive_within most known subfile ps lengths Ended low le d some fit
 alive_within most known subfile ps lengths (ConfirmedAs n) low le d some fit
     ends = ([], rw ends.1 (simp append-nil (whole_object most known subfile ps lengths low le d some fit ends.0)))
 
--- ---- numbers complete, too
+-- ---- Completions of the numbers.
 
--- numbers that may stand together, and are low
+-- Numbers that may occur together, and are within a bound.
 record AreFit (most : ℕ) (ps : List Stated) : Type 0 where
   low : AreLow most ps
   stated : AreStated ps
@@ -109,7 +110,7 @@ live_before most ps q alive = front_lives (LanguageWithin most) (number_tokens p
 empty_fits : (known : Bool) (subfile : ℕ) (ps : List Stated) → NoClash ps → is_some (number_at 90 ps) ≡ known → Fit known subfile ps (0 ∷ [])
 empty_fits known subfile ps clash by_mode = grind arith
 
--- neither the largest subfile nor a mode by which the size is announced clashes
+-- Neither the largest subfile nor a mode that fits the announced size clashes.
 largest_clash : (ps : List Stated) → NoClash ps → NoClash (ps ++ record { set = 20; number = 1 } ∷ [])
 largest_clash ps clash = grind (arith, at-append, none-append)
 
@@ -119,7 +120,7 @@ mode_clash : (ps : List Stated) → number_at 10 ps ≡ None → NoClash ps → 
 } ∷ [])
 mode_clash ps none clash = grind (arith, at-append, none-append)
 
--- the largest subfile is given or to come
+-- The largest subfile is given, or is added.
 with_largest : (most : ℕ) (known : Bool) (ps : List Stated) → 1 ≤ most → AreFit most ps → number_at 10 ps ≡ Some (mode_number known)
     → is_some (number_at 90 ps) ≡ known → IsAlive (LanguageWithin most) (number_tokens ps)
 with_largest most known ps one fit mode by_mode = by_given (number_at 20 ps) refl
@@ -141,7 +142,7 @@ with_largest most known ps one fit mode by_mode = by_given (number_at 20 ps) ref
         live_before most ps q (run 1 (ps ++ q ∷ []) (with_one most ps q fit e (inr (inl (refl, omega arith, omega arith))) one (largest_clash ps fit.clash))
         (at-append 10 (mode_number known) ps (q ∷ []) mode) (none-append 20 ps (q ∷ []) e) (grind (arith, at-append, none-append)))
 
--- so is the announced size where the mode is 1
+-- The announced size is given, or is added if the mode is 1.
 with_announced : (most : ℕ) (known : Bool) (ps : List Stated) → 1 ≤ most → AreFit most ps → number_at 10 ps ≡ Some (mode_number known)
     → IsAlive (LanguageWithin most) (number_tokens ps)
 with_announced most false ps one fit mode = with_largest most false ps one fit mode (ap is_some (fit.clash.mode mode))
@@ -155,7 +156,7 @@ with_announced most true ps one fit mode = by_given (number_at 90 ps) refl
         (with_one most ps q fit e (inr (inr (inl refl, omega arith))) (omega arith) (grind (arith, at-append, none-append, fit.clash)))
         (at-append 10 1 ps (q ∷ []) mode) (ap is_some (none-append 90 ps (q ∷ []) e)))
 
--- It can continue by each greatest size that the numbers keep to.
+-- The tokens are a viable prefix for each greatest size that the numbers do not exceed.
 pub numbers_alive_within : (most : ℕ) → 1 ≤ most → (ps : List Stated) → AreLow most ps → AreStated ps → NoClash ps
     → IsAlive (LanguageWithin most) (number_tokens ps)
 numbers_alive_within most one ps low stated clash = by_given (number_at 10 ps) refl
@@ -173,9 +174,10 @@ numbers_alive_within most one ps low stated clash = by_given (number_at 10 ps) r
     by_given (Some (suc zero)) e = with_announced most true ps one fit e
     by_given (Some (suc (suc n))) e = absurd (omega (arith, mode_at_most_one (suc (suc n)) (in_row_at 10 (suc (suc n)) ps stated.each e)))
 
--- ---- and what completes has these parts
+-- ---- The parts of a completion.
 
--- Tokens that begin others are theirs, and what comes after them begins the rest.
+-- If tokens of one kind begin a list, they are the first of that kind in it, and what comes after
+-- them is the rest.
 front_of : {X : Type 0} (f : X → ObjectToken) (tail : List ObjectToken) → ((x y : X) → f x ≡ f y → x ≡ y)
     → ((x : X) (ts : List ObjectToken) → f x ∷ ts ≡ tail → ⊥) → (xs ys : List X) (rest : List ObjectToken)
     → map f xs ++ rest ≡ map f ys ++ tail → (more : List X) × (ys ≡ xs ++ more) × (rest ≡ map f more ++ tail)
@@ -199,7 +201,7 @@ numbers_front ps all rest lengths n e = front_of (λ (p : Stated). NumberRead p.
     no_number p ts [] e = cc
     no_number p ts (l ∷ lengths) e = cc
 
--- the parts of an object whose tokens begin with numbers and subfiles
+-- The parts of an object whose tokens begin with numbers and subfiles.
 pub parts_of : (ps : List Stated) (lengths : List ℕ) (rest : List ObjectToken) → 0 < length lengths
     → (o : ObjectLanguage (number_tokens ps ++ (map SubfileBegun lengths ++ rest)))
     → (o.stated ≡ ps) × ((more : List ℕ) × (o.lengths ≡ lengths ++ more) × (rest ≡ map SubfileBegun more ++ end_with o.confirmed))
@@ -213,7 +215,7 @@ parts_of ps (l ∷ lengths) rest some o = let (more, all, tokens) = numbers_fron
     by_more [] all tokens = (all ∙ append-nil ps, front_of SubfileBegun (end_with o.confirmed) (λ x y e. cc) (λ x ts e. cc) (l ∷ lengths) o.lengths rest tokens)
     by_more (p ∷ more) all tokens = absurd cc
 
--- and of one that ends with them
+-- The parts of an object whose tokens end with them.
 pub ended_parts : (ps : List Stated) (lengths : List ℕ) (rest : List ObjectToken) → 0 < length lengths
     → (o : ObjectLanguage (number_tokens ps ++ (map SubfileBegun lengths ++ ObjectEnded ∷ rest)))
     → (o.stated ≡ ps) × ((o.lengths ≡ lengths) × (rest ≡ Confirmed o.confirmed ∷ []))
@@ -224,12 +226,12 @@ ended_parts ps lengths rest some o = let (stated, (more, all, tokens)) = parts_o
     by_more [] all tokens = (all ∙ append-nil lengths, cc)
     by_more (l ∷ more) all tokens = absurd cc
 
--- numbers whose sizes agree don't clash, and those before them don't either
+-- Numbers whose sizes agree do not clash, and neither do those before them.
 no_clash : (ps more all : List Stated) (known : Bool) (subfile n : ℕ) (lengths : List ℕ) → all ≡ ps ++ more → number_at 10 all ≡ Some (mode_number known)
     → Agree (sizes_at known subfile all lengths) lengths n → NoClash ps
 no_clash ps more all known subfile n lengths parts mode agree = grind (arith, at-append)
 
--- a front of lengths that agree fits
+-- A prefix of lengths that agree fits.
 fits_so : (known k : Bool) (subfile j n : ℕ) (ps : List Stated) (lengths more all : List ℕ) → HasDuties known subfile ps
     → number_at 10 ps ≡ Some (mode_number k) → number_at 20 ps ≡ Some j
     → Agree (sizes_at k j ps all) all n → all ≡ lengths ++ more → Fit known subfile ps lengths
@@ -251,7 +253,7 @@ ends_so k j n ps lengths [] all rest (ConfirmedAs m) agree parts tokens = (
   let same : m ≡ n = cc in same ∙ (rw (parts, append-nil) at agree.as_confirmed),
 )
 
--- What lives fits, and is as whole as its ending says.
+-- If the tokens are a viable prefix, the subfiles fit, and are complete as their ending requires.
 pub lives_by : (known : Bool) (subfile : ℕ) (ps : List Stated) (lengths : List ℕ) (ending : Ending) → HasDuties known subfile ps → 0 < length lengths
     → IsAlive ObjectLanguage (number_tokens ps ++ (map SubfileBegun lengths ++ ending_tokens ending)) → Fit known subfile ps lengths × Ends ending ps lengths
 lives_by known subfile ps lengths ending d some (rest, all) =
@@ -262,7 +264,7 @@ lives_by known subfile ps lengths ending d some (rest, all) =
       ends_so o.known o.subfile o.confirmed ps lengths more o.lengths rest ending agree parts tokens,
     )
 
--- ---- the laws
+-- ---- The lemmas.
 
 pub numbers_law : NumbersLiveWithoutClash
 numbers_law ps stated = (
@@ -272,7 +274,8 @@ numbers_law ps stated = (
   λ clash. let alive = numbers_alive_within greatest_size (omega arith) ps (rows_low ps stated.each) stated clash in (alive.0, alive.1.0),
 )
 
--- the object layer lives with subfiles and an ending just where they fit and are whole
+-- With subfiles and an ending the tokens are a viable prefix exactly if the subfiles fit and are
+-- complete.
 pub ending_law : (known : Bool) (subfile : ℕ) (ps : List Stated) (lengths : List ℕ) (ending : Ending) → HasDuties known subfile ps → 0 < length lengths
     → IsAlive ObjectLanguage (number_tokens ps ++ (map SubfileBegun lengths ++ ending_tokens ending)) ↔ (Fit known subfile ps lengths × Ends ending ps lengths)
 ending_law known subfile ps lengths ending d some = (
@@ -292,7 +295,7 @@ pub confirmed_law : TotalsAreConfirmed
 confirmed_law known subfile ps lengths n d some = let law = ending_law known subfile ps lengths (ConfirmedAs n) d
     some in (λ alive. let e = law.0 alive in (e.0, e.1.0, e.1.1), λ h. law.1 (h.0, (h.1, h.2)))
 
--- ---- the sizes
+-- ---- The sizes.
 
 mode_is : (a b : Bool) → Some (mode_number a) ≡ Some (mode_number b) → a ≡ b
 mode_is a b e = grind arith

@@ -1,4 +1,5 @@
--- From a possible place the layer can continue by each smaller greatest size that the place keeps to.
+-- At a possible place the tokens are a viable prefix for each smaller greatest size that the place
+-- does not exceed.
 use Rattle.iim_object.proofs.Words.{◌≡◌, ℕ, ◌<◌, ◌≤◌, List, [], ◌∷◌, ◌++◌, length, map, sum, refl, arith, append-nil, IsAlive, Stated, AreStated, SubfileBegun, ObjectLanguage, number_tokens, Ending, NotEnded, HasBoth, ending_tokens, LanguageWithin}
 use Rattle.iim_object.specs.Laws.{PlacesLiveWithin}
 use Rattle.iim_object.proofs.{Numbers.AreLow, Numbers.numbers_low, Steps.both_of}

@@ -1,4 +1,4 @@
--- The names that several proofs bring in, passed on from one place.
+-- The names that several proofs import, re-exported from one place.
 pub use Rattle.iim_dataset.proofs.Each.{all_append, all_back, all_front, all_last, all_map}
 pub use Rattle.iim_dataset.proofs.Lists.{nothing_of_two, some_of, sum_append, sum_cons}
 pub use Rattle.iim_dataset.proofs.WrittenNumbers.{dataset_length, number_back}

@@ -1,4 +1,4 @@
--- How a writer of subfiles continues, breaks off and finishes.
+-- How a writer of subfiles continues, fails and finishes.
 use Rattle.iim_object.proofs.Words.{◌≡◌, ℕ, ◌+◌, ◌<◌, ◌≤◌, Bool, true, false, Option, Some, None, List, [], ◌∷◌, ◌++◌, length, take, drop, refl, sym, ap, ◌∙◌, arith, append_assoc, append-nil, length-append, length-take, map-append, all_append, Device, TextsJoin, Dataset, canonical_dataset, canonical_stream, joined_parts, AreFull, IsCut, ObjectsAreCutOneWay, plan_datasets, subfile_dataset, subfile_datasets, number_dataset, Puts, Cuts, total_of, octets_out, Lengthens, write_cause, finish_cause, writing_of, Plan, Output, Cutter}
 use Rattle.std.proofs.Common.{cond}
 use Rattle.std.specs.Prelude.{IfNone}
@@ -7,7 +7,7 @@ use Rattle.iim_object.specs.{Format.Packing.confirmed_datasets, Format.Packing.o
 use Rattle.iim_object.specs.States.Writing.{Writing, HasWritten, Begins, BreaksOff, ContinuesWith, IsTheWhole, Finishes}
 use Rattle.iim_object.proofs.{Rooms.holding, PlanParts.plan_parts, Cutting.same_first, Cutting.some_octet, Cutting.too_short}
 
--- ---- streams
+-- ---- Streams.
 
 pub stream_append : (xs ys : List Dataset) → canonical_stream (xs ++ ys) ≡ canonical_stream xs ++ canonical_stream ys
 stream_append [] ys = refl
@@ -22,7 +22,7 @@ begun_more plan ps qs =
     let ds = plan_datasets plan.subfile plan.size in
     ap (λ (t : List Dataset). canonical_stream (ds ++ t)) (map-append subfile_dataset ps qs) ∙ stream_more ds (subfile_datasets ps) (subfile_datasets qs)
 
--- ---- parts
+-- ---- Parts.
 
 pub joined_append : (ps : List (List ℕ)) (p : List ℕ) → joined_parts (ps ++ p ∷ []) ≡ joined_parts ps ++ p
 joined_append [] p = append-nil p
@@ -31,7 +31,8 @@ joined_append (q ∷ ps) p = ap (λ (t : List ℕ). q ++ t) (joined_append ps p)
 full_append : (size : ℕ) (ps : List (List ℕ)) (p : List ℕ) → AreFull size ps → length p ≡ size → AreFull size (ps ++ p ∷ [])
 full_append size ps p h e = all_append (λ (part : List ℕ). length part ≡ size) ps (p ∷ []) h (e, tt)
 
--- The full parts that an object begins with are the first of its cut, where it continues after them.
+-- The full parts that an object begins with are the first of its division, if it continues after
+-- them.
 pub first_parts : (size : ℕ) (ps full : List (List ℕ)) (last more : List ℕ) → 1 ≤ size → AreFull size ps → AreFull size full → length last ≤ size
     → (last ≡ [] → joined_parts full ++ last ≡ []) → 1 ≤ length more → joined_parts ps ++ more ≡ joined_parts full ++ last
     → (others : List (List ℕ)) × (full ++ last ∷ [] ≡ ps ++ others)
@@ -45,15 +46,15 @@ first_parts size (p ∷ ps) (g ∷ gs) last more one pf f short some long e =
     let rest = first_parts size ps gs last more one pf.1 f.1 short (λ empty. absurd (omega (arith, least, ap length empty))) long parts.1 in
     (rest.0, λ i. sym parts.0 i ∷ rest.1 i)
 
--- ---- prefixes
+-- ---- Prefixes.
 
--- what is out and a front of what follows begins the whole
+-- What was written and a prefix of what follows are a prefix of the whole.
 pub begins_by : (out text rest whole : List ℕ) (n : ℕ) → whole ≡ out ++ (text ++ rest) → Begins (out ++ take n text) whole
 begins_by out text rest whole n e =
     let text_is : take n text ++ (drop n text ++ rest) ≡ text ++ rest = simp (← append_assoc, take-append-drop) in
     (drop n text ++ rest, rw (e, ← text_is) (simp append_assoc))
 
--- ---- a writer continues
+-- ---- A writer continues.
 
 pub goes_nowhere : {W : Type 0} (state : W → Device) (w : Writing W) → TextsJoin → w.failed ≡ false → Lengthens state w w []
 goes_nowhere state w join unfailed = record {
@@ -83,7 +84,7 @@ leads_on state a b c xs ys join l m = record {
 no_less : (xs ys : List ℕ) → 1 ≤ length ys → xs ++ ys ≡ [] → ⊥
 no_less xs ys some e = omega (arith, some, length-append xs ys, ap length e)
 
--- Octets are held.
+-- Octets are buffered.
 pub filled : {W : Type 0} (state : W → Device) (old new : Cutter W) (xs : List ℕ) → TextsJoin → old.failed ≡ false → 1 ≤ length xs
     → Becomes new (holding old (old.held.items ++ xs)) → Lengthens state (writing_of old) (writing_of new) xs
 filled state old new xs join unfailed some is =
@@ -109,7 +110,7 @@ filled state old new xs join unfailed some is =
       };
     })
 
--- A full subfile is written, and octets are held after it.
+-- A full subfile is written, and octets are buffered after it.
 pub flushed : {W : Type 0} (state : W → Device) (old mid new : Cutter W) (xs : List ℕ) → TextsJoin → old.failed ≡ false
     → length old.held.items ≡ old.plan.subfile → 1 ≤ length xs → Puts state old.output mid.output (canonical_dataset (subfile_dataset old.held.items))
     → Becomes mid (record (holding old []) { sent = old.sent + length old.held.items; output = mid.output }) → Becomes new (holding mid (mid.held.items ++ xs))
@@ -137,12 +138,12 @@ flushed state old mid new xs join unfailed full some put out is =
       };
     })
 
--- ---- a writer breaks off
+-- ---- A writer fails.
 
 pub front_length : (n : ℕ) (text : List ℕ) → n < length text → length (take n text) ≡ n
 front_length n text lt = omega (arith, lt, length-take n text)
 
--- the whole after full parts that are out, and one more
+-- The whole, after full parts that were written and one more.
 parted : (ds last : List Dataset) (ps others : List (List ℕ)) (p : List ℕ) → canonical_stream (ds ++ (subfile_datasets ((ps ++ p ∷ []) ++ others) ++ last))
     ≡ canonical_stream (ds ++ subfile_datasets ps) ++ (canonical_dataset (subfile_dataset p) ++ canonical_stream (subfile_datasets others ++ last))
 parted ds last ps others p =
@@ -150,7 +151,7 @@ parted ds last ps others p =
     ++ (subfile_dataset p ∷ (subfile_datasets others ++ last)) = simp (map-append, append_assoc) in
     ap canonical_stream all ∙ stream_append (ds ++ subfile_datasets ps) (subfile_dataset p ∷ (subfile_datasets others ++ last))
 
--- A write of this text failed, with which continues whatever may be written.
+-- A write of this text failed, with which all that may be written continues.
 breaks_off : {W : Type 0} (state : W → Device) (May : List ℕ → List ℕ → Type 0) (old : Cutter W) (output : Output W) (text : List ℕ)
     → Cuts state old.output output text
     → ((object out whole : List ℕ) → HasWritten (writing_of old) object out → May object whole → (rest : List ℕ) × (whole ≡ out ++ (text ++ rest)))
@@ -166,7 +167,7 @@ breaks_off state May old output text cut continues = record {
   begins = λ object out whole s may. let (rest, is) = continues object out whole s may in begins_by out text rest whole cut.out is;
 }
 
--- A full subfile could not be written, and octets were to come after it.
+-- A full subfile could not be written, and octets remained after it.
 pub halted : {W : Type 0} (state : W → Device) (old new : Cutter W) (octets : List ℕ) → length old.held.items ≡ old.plan.subfile → 1 ≤ length octets
     → Cuts state old.output new.output (canonical_dataset (subfile_dataset old.held.items))
     → Becomes new (record old { output = new.output; failed = true }) → BreaksOff state (ContinuesWith old.plan octets) (writing_of old) (writing_of new)
@@ -186,7 +187,8 @@ halted state old new octets full some cut is =
       rw (w.octets_are, cut.parts_are, first, s.out_is) (parted (plan_datasets plan.subfile plan.size) last s.parts others held),
     )))
 
--- A break comes after octets that were taken before it, whatever may be written: what may be written of all of them may be of the rest.
+-- A failure after octets that were accepted is a failure of both together, for whatever may be
+-- written.
 pub breaks_on : {W : Type 0} (state : W → Device) (Now May : List ℕ → List ℕ → Type 0) (a b c : Writing W) (xs : List ℕ) → TextsJoin → Lengthens state a b xs
     → ((object whole : List ℕ) → May object whole → Now (object ++ xs) whole) → BreaksOff state Now b c → BreaksOff state May a c
 breaks_on state Now May a b c xs join l may k = record {
@@ -208,7 +210,7 @@ breaks_later state a b c xs ys join l k =
     breaks_on state (ContinuesWith b.plan ys) (ContinuesWith a.plan (xs ++ ys)) a b c xs join l
     (λ object whole w. (w.0, rw (l.plan, append_assoc object xs ys) w.1)) k
 
--- ---- a writer finishes
+-- ---- A writer finishes.
 
 -- what is still to be written: the last subfile, and record 9
 abbrev pub ending_of : {W : Type 0} → Writing W → List ℕ
@@ -217,7 +219,7 @@ ending_of w = canonical_dataset (subfile_dataset w.held) ++ canonical_dataset (n
 total_is : {W : Type 0} (w : Writing W) (object out : List ℕ) → HasWritten w object out → length object ≡ total_of w
 total_is w object out s = omega (arith, ap length s.object_is, s.sent, length-append (joined_parts s.parts) w.held)
 
--- the parts that are out and the last one
+-- The parts that were written and the last one are the division of the object.
 cut_here : {W : Type 0} (w : Writing W) (object out : List ℕ) (s : HasWritten w object out) → IsCut w.plan.subfile object (s.parts ++ w.held ∷ [])
 cut_here w object out s = record {
   full = s.parts;
@@ -229,7 +231,7 @@ cut_here w object out s = record {
   parts_are = refl;
 }
 
--- The whole is what is out and what is still to be written.
+-- The whole is what was written and what is still to be written.
 ended : {W : Type 0} (w : Writing W) (object out : List ℕ) (s : HasWritten w object out)
     → canonical_stream (object_datasets w.plan.subfile w.plan.size object (s.parts ++ w.held ∷ [])) ≡ out ++ ending_of w
 ended w object out s =
@@ -260,7 +262,7 @@ unfinished state old output one cut =
     (cut_here (writing_of old) object out s) in
     ([], rw (w.octets_are, same, append-nil) (ended (writing_of old) object out s)))
 
--- ---- causes
+-- ---- Causes.
 
 pub if_none : {A : Type 0} (o : Option A) (P : Type 0) → P → IfNone o P
 if_none None P p = p

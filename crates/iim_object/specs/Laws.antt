@@ -1,4 +1,4 @@
--- What holds of all objects; the record at the end has a field for each law.
+-- Lemmas on all objects. The record at the end has a field for each.
 use Rattle.std.specs.Prelude.{◌≡◌, ◌↔◌, ℕ, ◌<◌, ◌≤◌, Bool, List, [], ◌∷◌, ◌++◌, length, map, sum, is_some, Some, None, IfSome, Option, IsTrue}
 use Rattle.std.specs.List.{AllByRecursion}
 use Rattle.iim_dataset.specs.Format.Octets.{IsAlive, DiesAt, greatest_size, number, Octets}
@@ -11,19 +11,20 @@ use Rattle.iim_tables.specs.Format.Records.{IsGoodDataset, IsGoodRecord}
 
 -- ---- When the object layer can continue, by the numbers and lengths so far.
 
--- The numbers don't clash: a size that isn't known is not announced, and the announced size is at most the maximum.
+-- The numbers do not clash: a size that is not known is not announced, and the announced size is at
+-- most the maximum.
 pub record NoClash (ps : List Stated) : Type 0 where
   pub mode : number_at 10 ps ≡ Some 0 → number_at 90 ps ≡ None
   pub sizes : (a m : ℕ) → number_at 90 ps ≡ Some a → number_at 95 ps ≡ Some m → a ≤ m
 
--- Mode and largest subfile are stated.
+-- Mode and largest subfile are stated, with these values.
 pub record HasDuties (known : Bool) (subfile : ℕ) (ps : List Stated) : Type 0 where
   pub stated : AreStated ps
   pub mode : number_at 10 ps ≡ Some (mode_number known)
   pub largest : number_at 20 ps ≡ Some subfile
 
--- Subfiles of these lengths fit: the size is announced where it is known, no subfile is too long, and the total passes
--- neither the greatest size nor what is announced nor the maximum.
+-- Subfiles of these lengths fit: the size is announced if it is known, no subfile is too long, and
+-- the total exceeds neither the greatest size nor the announced size nor the maximum.
 pub record Fit (known : Bool) (subfile : ℕ) (ps : List Stated) (lengths : List ℕ) : Type 0 where
   pub clash : NoClash ps
   pub by_mode : is_some (number_at 90 ps) ≡ known
@@ -32,32 +33,34 @@ pub record Fit (known : Bool) (subfile : ℕ) (ps : List Stated) (lengths : List
   pub announced : IfSome (number_at 90 ps) (λ a. sum lengths ≤ a)
   pub maximum : IfSome (number_at 95 ps) (λ m. sum lengths ≤ m)
 
--- The total is what was announced, if anything was.
+-- The total is the announced size, if one was announced.
 abbrev pub MeetsAnnounced : List Stated → List ℕ → Type 0
 MeetsAnnounced ps lengths = IfSome (number_at 90 ps) (λ a. sum lengths ≡ a)
 
--- While record 7 is read, the object layer can continue exactly where its numbers don't clash.
+-- While record 7 is read, the tokens are a viable prefix exactly if its numbers do not clash.
 abbrev pub NumbersLiveWithoutClash : Type 0
 NumbersLiveWithoutClash = (ps : List Stated) → AreStated ps → IsAlive ObjectLanguage (number_tokens ps) ↔ NoClash ps
 
--- While subfiles come, the object layer can continue exactly where they fit.
+-- While subfiles are read, the tokens are a viable prefix exactly if the subfiles fit.
 abbrev pub SubfilesLiveWhileTheyFit : Type 0
 SubfilesLiveWhileTheyFit = (known : Bool) (subfile : ℕ) (ps : List Stated) (lengths : List ℕ) → HasDuties known subfile ps → 0 < length lengths
     → IsAlive ObjectLanguage (number_tokens ps ++ map SubfileBegun lengths) ↔ Fit known subfile ps lengths
 
--- At the end of the object, its layer can continue exactly where the subfiles fit and are whole.
+-- At the end of the object, the tokens are a viable prefix exactly if the subfiles fit and have the
+-- announced total.
 abbrev pub ObjectsEndWhereTheyAreWhole : Type 0
 ObjectsEndWhereTheyAreWhole = (known : Bool) (subfile : ℕ) (ps : List Stated) (lengths : List ℕ) → HasDuties known subfile ps → 0 < length lengths
     → IsAlive ObjectLanguage (number_tokens ps ++ (map SubfileBegun lengths ++ ObjectEnded ∷ [])) ↔ (Fit known subfile ps lengths × MeetsAnnounced ps lengths)
 
--- With the confirmed size, the object layer can continue exactly where that is the total.
+-- With the confirmed size, the tokens are a viable prefix exactly if, besides, that size is the
+-- total.
 abbrev pub TotalsAreConfirmed : Type 0
 TotalsAreConfirmed = (known : Bool) (subfile : ℕ) (ps : List Stated) (lengths : List ℕ) (n : ℕ) → HasDuties known subfile ps → 0 < length lengths
     → IsAlive ObjectLanguage (number_tokens ps ++ (map SubfileBegun lengths ++ (ObjectEnded ∷ Confirmed n ∷ [])))
     ↔ (Fit known subfile ps lengths × MeetsAnnounced ps lengths × (n ≡ sum lengths))
 
--- ---- Records 7, 8 and 9 of an envelope, and the sizes that they state (IIM version 4, the chapters on the pre-ObjectData
--- descriptor, ObjectData and post-ObjectData descriptor records).
+-- ---- Records 7, 8 and 9 of an envelope, and the sizes that they state (IIM version 4, the
+-- chapters on the pre-ObjectData descriptor, ObjectData and post-ObjectData descriptor records).
 
 -- The records of the datasets have sizes.
 pub record AreSized (ds : List Dataset) : Type 0 where
@@ -69,34 +72,35 @@ pub record AreSized (ds : List Dataset) : Type 0 where
 abbrev pub SizesAreDetermined : Type 0
 SizesAreDetermined = (r7 r8 r9 : List Dataset) (s t : Sizes) → HaveSizes r7 r8 r9 s → HaveSizes r7 r8 r9 t → s ≡ t
 
--- ---- The place that whole datasets lead to, and their tokens.
+-- ---- The place after complete datasets, and their tokens.
 
--- the tokens of datasets: dataset and number of each of record 7, each length of record 8, the end of the object, and the
--- number of 9:10
+-- the tokens of datasets: dataset and number of each of record 7, each length of record 8, the end
+-- of the object, and the number of 9:10
 abbrev pub object_tokens : List Dataset → List ObjectToken
 object_tokens ds = tokens_of (place_after_datasets ds)
 
--- The tokens of datasets that have sizes are in the language of the object layer, and each member of it is the tokens of some
--- such datasets.
+-- The tokens of datasets that have sizes are in the language of the object layer, and each list of
+-- tokens in it is that of some such datasets.
 abbrev pub TokensAreOfSizedDatasets : Type 0
 TokensAreOfSizedDatasets = (tokens : List ObjectToken) → ObjectLanguage tokens ↔ ((ds : List Dataset) × AreSized ds × (object_tokens ds ≡ tokens))
 
--- After whole datasets, as their rows say, they can continue to some that have sizes exactly where the object layer can
--- continue from their tokens.
+-- Complete datasets that meet their rows can continue to some that have sizes exactly if their
+-- tokens are a viable prefix.
 abbrev pub DatasetsLiveWithTheirTokens : Type 0
 DatasetsLiveWithTheirTokens = (ds : List Dataset) → IsAlive AreObjectRecords ds → IsAlive AreSized ds ↔ IsAlive ObjectLanguage (object_tokens ds)
 
--- With a dataset of record 9 they can exactly where the object layer can continue from the end of the object.
+-- With a dataset of record 9 they can exactly if the tokens up to the end of the object are a
+-- viable prefix.
 abbrev pub DatasetsEndWithTheirTokens : Type 0
 DatasetsEndWithTheirTokens = (ds : List Dataset) (d : Dataset) → IsAlive AreObjectRecords (ds ++ d ∷ []) → d.rec ≡ 9
     → ((e : Dataset) × (e.rec ≡ 9) × IsAlive AreSized (ds ++ e ∷ [])) ↔ IsAlive ObjectLanguage (tokens_of (place_ended ds))
 
--- Where the rows admit a dataset, each token that it gives may follow at the place after the datasets before, and leads to the
--- place after the dataset, whose tokens are those before and this one.
+-- After a token that may follow at a place, the tokens of the new place are those of the old one
+-- and this token.
 abbrev pub TokensFollow : Type 0
 TokensFollow = (p : Place) (token : ObjectToken) → MayFollow p token → tokens_of (place_after p token) ≡ tokens_of p ++ token ∷ []
 
--- The token may follow at the place, and leads to the other.
+-- The token may follow at the place, and reaches the other.
 abbrev pub Leads : Place → ObjectToken → Place → Type 0
 Leads p token q = MayFollow p token × (place_after p token ≡ q)
 
@@ -104,82 +108,87 @@ Leads p token q = MayFollow p token × (place_after p token ≡ q)
 abbrev pub OthersLeadNowhere : Type 0
 OthersLeadNowhere = (ds : List Dataset) (d : Dataset) → d.rec < 7 → place_after_datasets (ds ++ d ∷ []) ≡ place_after_datasets ds
 
--- A number of record 7 that the rows admit leads to the place after its dataset.
+-- A number of record 7 that the rows accept reaches the place after its dataset.
 abbrev pub NumbersLead : Type 0
 NumbersLead = (ds : List Dataset) (d : Dataset) → IsAlive AreObjectRecords (ds ++ d ∷ []) → d.rec ≡ 7
     → Leads (place_after_datasets ds) (NumberRead d.set (number d.octets)) (place_after_datasets (ds ++ d ∷ []))
 
--- The head of a subfile that the rows admit leads to the place after it, if there are not too many.
+-- The head of a subfile that the rows accept reaches the place after it, if there are not too many.
 abbrev pub SubfilesLead : Type 0
 SubfilesLead = (ds : List Dataset) (d : Dataset) → IsAlive AreObjectRecords (ds ++ d ∷ []) → d.rec ≡ 8 → length (of_record 8 ds) < max_subfiles
     → Leads (place_after_datasets ds) (SubfileBegun (length d.octets)) (place_after_datasets (ds ++ d ∷ []))
 
--- The head of 9:10 leads to the end of the object, and its number to the place after the dataset.
+-- The head of 9:10 reaches the end of the object, and its number the place after the dataset.
 abbrev pub EndsLead : Type 0
 EndsLead = (ds : List Dataset) (d : Dataset) → IsAlive AreObjectRecords (ds ++ d ∷ []) → d.rec ≡ 9
     → Leads (place_after_datasets ds) ObjectEnded (place_ended ds) × Leads (place_ended ds) (Confirmed (number d.octets)) (place_after_datasets (ds ++ d ∷ []))
 
--- Where datasets have the records 7, 8 and 9 in their order, those are the datasets of each of these numbers.
+-- The datasets of each of the numbers 7, 8 and 9 are these.
 pub record AreByNumber (ds r7 r8 r9 : List Dataset) : Type 0 where
   pub sevens : of_record 7 ds ≡ r7
   pub eights : of_record 8 ds ≡ r8
   pub nines : of_record 9 ds ≡ r9
 
--- Where datasets have the records 7, 8 and 9 in their order, those are the datasets of each of these numbers.
+-- If datasets have the records 7, 8 and 9 in their order, those are the datasets of each of these
+-- numbers.
 abbrev pub RecordsAreByNumber : Type 0
 RecordsAreByNumber = (ds : List Dataset) (r : AreObjectRecords ds) → AreByNumber ds r.r7 r.r8 r.r9
 
--- ---- The states to which tokens lead.
+-- ---- The states that tokens reach.
 
--- An `ObjectReader` holds numbers to which some tokens lead, and all such numbers are ones that it may hold.
+-- Some tokens reach the numbers of each `ObjectReader`, and a reader may have all numbers that
+-- tokens reach.
 abbrev pub PlacesAreReached : Type 0
 PlacesAreReached = (s : State) → IsState s ↔ ((p : Place) × StandsAt (Some s) p × (length p.lengths ≤ max_subfiles))
 
--- The tokens may follow one after the other, and lead from one place to the other.
+-- The tokens may follow one after the other, and take one place to the other.
 abbrev pub TokensLead : Place → List ObjectToken → Place → Type 0
 TokensLead p [] q = p ≡ q
 TokensLead p (token ∷ tokens) q = MayFollow p token × TokensLead (place_after p token) tokens q
 
--- Tokens lead to the places that are possible, and to no others from which the object layer can continue.
+-- Tokens reach the possible places, and no others at which they are a viable prefix.
 abbrev pub PlacesAreLedTo : Type 0
 PlacesAreLedTo = (p : Place) → IsPossible p ↔ ((tokens : List ObjectToken) × TokensLead place_start tokens p × IsAlive ObjectLanguage tokens)
 
--- What stands at a place is determined by the place.
+-- The place determines the state of the reader.
 abbrev pub PlacesHaveOneReader : Type 0
 PlacesHaveOneReader = (a b : Option State) (p : Place) → StandsAt a p → StandsAt b p → a ≡ b
 
--- From places at which one reader stands the same tokens lead on alike.
+-- From places that give the same state, the same tokens reach places that give the same state.
 abbrev pub TokensLeadOnAlike : Type 0
 TokensLeadOnAlike = (old new : Option State) (p q r : Place) (tokens : List ObjectToken) → StandsAt old p → StandsAt old q → p.ending ≡ q.ending
     → TokensLead p tokens r → StandsAt new r → (t : Place) × TokensLead q tokens t × StandsAt new t × (r.ending ≡ t.ending)
 
--- From a possible place the object layer can continue by each smaller greatest size that the place keeps to.
+-- At a possible place the tokens are a viable prefix for each smaller greatest size that the place
+-- does not exceed.
 abbrev pub PlacesLiveWithin : Type 0
 PlacesLiveWithin = (most : ℕ) (p : Place) → 1 ≤ most → IsPossible p → TokensWithin most (tokens_of p) → sum p.lengths ≤ most → IsAlive (LanguageWithin most) (tokens_of p)
 
--- ---- Why a token is refused: the causes, each with its number and the condition in which it stands. The lowest number is told.
+-- ---- Why a token is rejected: the causes, each with its number and its condition. The one with
+-- the lowest number is reported.
 
--- The cause is the one of the lowest number whose condition holds.
+-- The cause is the one with the lowest number whose condition holds.
 pub record IsFirstCause (p : Place) (token : ObjectToken) (cause : SizeCause) : Type 0 where
   pub holds : HasCause cause p token
   pub lowest : (other : SizeCause) → HasCause other p token → number_of cause ≤ number_of other
 
--- The cause for which a token is refused is the one of the lowest number whose condition holds.
+-- The cause for which a token is rejected is the one with the lowest number whose condition holds.
 abbrev pub CausesAreTheFirst : Type 0
 CausesAreTheFirst = (p : Place) (token : ObjectToken) (cause : SizeCause) → AreStated p.stated → MayFollow p token
     → (cause_at p token ≡ Some cause) ↔ IsFirstCause p token cause
 
--- The object layer dies with a token exactly where the condition of a cause holds.
+-- With a token the tokens are no longer a viable prefix exactly if the condition of a cause holds.
 abbrev pub ObjectsDieForCauses : Type 0
 ObjectsDieForCauses = (reader : Option State) (p : Place) (token : ObjectToken) → StandsAt reader p → MayFollow p token
     → DiesAt ObjectLanguage (tokens_of p) token ↔ ((cause : SizeCause) × HasCause cause p token)
 
--- A reader has sizes that are those of the records, wherever it stands after whole ones.
+-- A reader has sizes that are those of the records, if it is in the state after complete ones.
 abbrev pub ReadersTellSizes : Type 0
 ReadersTellSizes = (reader : Option State) → (sizes : Sizes)
     × ((ds : List Dataset) (r : AreObjectRecords ds) → StandsAt reader (place_after_datasets ds) → HaveSizes r.r7 r.r8 r.r9 sizes)
 
--- An object is cut into subfiles in one way (IIM version 4, the chapter on the ObjectData record).
+-- An object is divided into subfiles in one way (IIM version 4, the chapter on the ObjectData
+-- record).
 abbrev pub ObjectsAreCutOneWay : Type 0
 ObjectsAreCutOneWay = (size : ℕ) (object : List ℕ) (parts others : List (List ℕ)) → 1 ≤ size → IsCut size object parts → IsCut size object others
     → parts ≡ others
@@ -192,7 +201,7 @@ pub record AreGoodRecords (subfile : ℕ) (size : Size) (object : List ℕ) (par
   pub eight : IsGoodRecord 8 (subfile_datasets parts)
   pub nine : IsGoodRecord 9 (confirmed_datasets object)
 
--- The records 7, 8 and 9 that are written of an object for which a plan has room are good.
+-- Records 7, 8 and 9 that are written of an object within the bound of a plan are good.
 abbrev pub PackedRecordsAreGood : Type 0
 PackedRecordsAreGood = (subfile : ℕ) (size : Size) (object : List ℕ) (parts : List (List ℕ)) → IsTrue (is_plan subfile size) → Octets object
     → IsCut subfile object parts → length object ≤ bound_of subfile size → AreGoodRecords subfile size object parts
@@ -210,28 +219,29 @@ PackedObjectsHaveSizes = (subfile : ℕ) (size : Size) (object : List ℕ) (part
     → IsCut subfile object parts → Suits subfile size object
     → HaveSizes (plan_datasets subfile size) (subfile_datasets parts) (confirmed_datasets object) (packed_sizes subfile size object parts)
 
--- What an object in parts may be by a plan, in the words of sizes: it is at most the greatest size, at most the announced size and at
--- most the maximum where there is one, and there are as many subfiles as one envelope may have, or fewer.
+-- What an object in parts may be under a plan, by its sizes: at most the greatest size, at most the
+-- announced size and at most the maximum, if there is one, and of no more subfiles than one
+-- envelope may have.
 pub record KeepsToSizes (size : Size) (object : List ℕ) (parts : List (List ℕ)) : Type 0 where
   pub greatest : length object ≤ greatest_size
   pub announced : IfSome (announced_of size) (λ n. length object ≤ n)
   pub maximum : IfSome (maximum_of size) (λ n. length object ≤ n)
   pub few : length parts ≤ max_subfiles
 
--- A plan's bound leaves room for an object exactly where that is at most the greatest size, at most the known size or the
--- maximum where one is said, and has at most 4,294,967,295 subfiles.
+-- An object is within the bound of a plan exactly if it is at most the greatest size, at most the
+-- known size or the maximum if one is given, and has at most 4,294,967,295 subfiles.
 abbrev pub SubfilesAreFew : Type 0
 SubfilesAreFew = (subfile : ℕ) (size : Size) (object : List ℕ) (parts : List (List ℕ)) → IsTrue (is_plan subfile size) → IsCut subfile object parts
     → (length object ≤ bound_of subfile size) ↔ KeepsToSizes size object parts
 
--- The laws of objects: a field for each.
+-- The lemmas on objects: a field for each.
 pub record ObjectLaws : Type 0 where
-  -- when the object layer can continue, by the numbers and lengths so far:
+  -- when tokens are a viable prefix, by the numbers and lengths so far:
   pub numbers_live_without_clash : NumbersLiveWithoutClash
   pub subfiles_live_while_they_fit : SubfilesLiveWhileTheyFit
   pub objects_end_where_they_are_whole : ObjectsEndWhereTheyAreWhole
   pub totals_are_confirmed : TotalsAreConfirmed
-  -- how its tokens come from datasets:
+  -- how tokens come from datasets:
   pub tokens_are_of_sized_datasets : TokensAreOfSizedDatasets
   pub datasets_live_with_their_tokens : DatasetsLiveWithTheirTokens
   pub datasets_end_with_their_tokens : DatasetsEndWithTheirTokens
@@ -241,10 +251,10 @@ pub record ObjectLaws : Type 0 where
   pub subfiles_lead : SubfilesLead
   pub ends_lead : EndsLead
   pub records_are_by_number : RecordsAreByNumber
-  -- for which cause a token is refused:
+  -- for which cause a token is rejected:
   pub causes_are_the_first : CausesAreTheFirst
   pub objects_die_for_causes : ObjectsDieForCauses
-  -- the places to which tokens lead, and who stands there:
+  -- the places that tokens reach, and the states of readers there:
   pub places_are_reached : PlacesAreReached
   pub places_are_led_to : PlacesAreLedTo
   pub places_have_one_reader : PlacesHaveOneReader

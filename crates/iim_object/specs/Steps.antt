@@ -1,4 +1,4 @@
--- A writer of subfiles and its target from inside.
+-- A writer of subfiles and its target, by their fields.
 use Rattle.std.specs.Prelude.{◌≡◌, ℕ, ◌+◌, ◌*◌, ◌<◌, ◌≤◌, false, length, List}
 use Rattle.iim_dataset.specs.Format.Datasets.{tag_octets}
 use Rattle.iim_object.specs.Format.Objects.{most_out, most_sizes}
@@ -10,8 +10,8 @@ use Rattle.iim_dataset.specs.States.Devices.{Device, Wrote, Stopped, WithinInter
 abbrev pub writing_of : {W : Type 0} → Cutter W → Writing W
 writing_of c = record { plan = c.plan; held = c.held.items; room = c.held.room; sent = c.sent; written = c.output.written; failed = c.failed; writer = c.output.writer }
 
--- It has room for what the plan allows. Full subfiles are out, `parts` of them: so its numbers are small. Record 7 and their tags are
--- out too.
+-- The cutter has capacity for what the plan allows. It has written record 7 and `parts` full
+-- subfiles with their tags, so its numbers are small.
 pub record HasRoom {W : Type 0} (c : Cutter W) : Type 0 where
   pub capacity : room_of c.plan ≤ c.held.room
   pub within : length c.held.items ≤ c.plan.subfile
@@ -21,25 +21,27 @@ pub record HasRoom {W : Type 0} (c : Cutter W) : Type 0 where
   pub count : c.failed ≡ false → c.output.written ≤ most_sizes + c.sent + tag_octets * parts
   pub small : c.output.written < most_out
 
--- It may take these octets: it has room for what the plan allows, no write failed, there are some, and the plan allows them too.
+-- The cutter may accept these octets: it has capacity for what the plan allows, no write failed,
+-- there is at least one octet, and the plan allows them.
 pub record MayTake {W : Type 0} (c : Cutter W) (octets : List ℕ) : Type 0 where
   pub room : HasRoom c
   pub unfailed : c.failed ≡ false
   pub some : 0 < length octets
   pub within : total_of (writing_of c) + length octets ≤ most_of c.plan
 
--- After a call it is this one, and has room for what the plan allows.
+-- After a call the cutter equals `is`, and has capacity for what the plan allows.
 pub record Becomes {W : Type 0} (new is : Cutter W) : Type 0 where
   pub same : new ≡ is
   pub room : HasRoom new
 
--- The text is out, and was counted. A million interruptions at most came for each octet.
+-- The text was written and counted, with at most a million interruptions in a row for each octet.
 pub record Puts {W : Type 0} (state : W → Device) (old new : Output W) (text : List ℕ) : Type 0 where
   pub wrote : Wrote (state old.writer) (state new.writer) text
   pub counted : new.written ≡ old.written + length text
   pub patience : WithinInterruptionLimit (length text) (state old.writer) (state new.writer)
 
--- A write failed. The octets of the text that are out were counted. A million interruptions at most came for each, and for the next.
+-- A write failed. The octets of the text that were written were counted, with at most a million
+-- interruptions in a row for each and for the next.
 pub record Cuts {W : Type 0} (state : W → Device) (old new : Output W) (text : List ℕ) : Type 0 where
   pub out : ℕ
   pub stopped : Stopped (state old.writer) (state new.writer) text out

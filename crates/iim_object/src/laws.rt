@@ -1,20 +1,20 @@
-//! When the object layer can continue, and how its tokens come from datasets. The functions do nothing: their contracts are
-//! the laws.
+//! Lemmas on when the object layer can continue, and on the tokens of datasets. The functions do
+//! nothing: their contracts are the lemmas.
 
 ghost use Rattle.iim_object.specs.Laws.{ReadersTellSizes, ObjectsAreCutOneWay, ObjectLaws};
 
-/// What holds of sizes, subfiles and their places: a field for each law.
+/// Proves the lemmas on sizes, subfiles and states; the record has a field for each.
 pub fn object_laws()
     ensures { ObjectLaws }
 {}
 
-/// Wherever a reader stands after whole records, it has their sizes.
+/// Proves that a reader that is in the state after complete records 7 to 9 has their sizes.
 #[tactic(auto, using(crate::proofs::Stands::tell_sizes))]
 pub fn readers_tell_sizes()
     ensures { ReadersTellSizes }
 {}
 
-/// An object is cut into subfiles of a plan in one way.
+/// Proves that an object has exactly one division into subfiles of a given length.
 pub fn objects_are_cut_one_way()
     ensures { ObjectsAreCutOneWay }
 {}

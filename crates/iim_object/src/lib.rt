@@ -1,7 +1,8 @@
-//! The sizes of an object and its subfiles (records 7 to 9 of the Information Interchange Model, version 4).
+//! The sizes of an object and its subfiles (records 7 to 9 of the Information Interchange Model,
+//! version 4).
 //!
-//! Stands on `iim_tables` and `iim_dataset`. The crate above uses [`ObjectReader`]: a token leads it on, or the object layer
-//! dies with it and the fault is the first cause.
+//! Depends on `iim_tables` and `iim_dataset`. The crate above uses [`ObjectReader`], which accepts
+//! a token or returns the first cause for which the tokens are no longer a viable prefix.
 #![tactic(auto)]
 
 pub mod laws;

@@ -1,4 +1,4 @@
-//! How an object is to be cut into subfiles.
+//! Plans of how an object is divided into subfiles.
 
 ghost use Rattle.std.specs.Prelude.{◌≡◌, ◌≤◌, ◌↔◌, IsTrue, IsSome, IfSome};
 ghost use Rattle.iim_dataset.specs.Format.Octets.{greatest_size};
@@ -7,20 +7,20 @@ ghost use Rattle.iim_object.specs.Format.Objects.{is_plan, bound_of, limit_of, f
 use crate::size::Size;
 use iim_dataset::GREATEST_SIZE;
 
-/// The most subfiles of one envelope.
+/// The greatest number of subfiles of one envelope.
 pub const MAX_SUBFILES: u64 = 4_294_967_295;
 
-/// How an object is cut: full subfiles of one length, and what is said of its size.
+/// A plan for an object: the length of its full subfiles, and what is known of its size.
 #[derive(Clone, Copy, Debug, PartialEq, Eq)]
 pub struct Plan {
-    /// How many octets a full subfile has.
+    /// The number of octets of a full subfile.
     pub subfile: u64,
-    /// What is said of the object's size.
+    /// What is known of the size of the object.
     pub size: Size,
     ghost valid: { IsTrue (is_plan subfile size) },
 }
 
-/// Whether a size may be planned with subfiles of `subfile` octets.
+/// Checks whether a plan with subfiles of `subfile` octets may have the size.
 fn fits(subfile: u64, size: Size) -> bool
     requires { subfile ≤ greatest_size }
     ensures { result ≡ fits subfile size }
@@ -33,7 +33,7 @@ fn fits(subfile: u64, size: Size) -> bool
     }
 }
 
-/// The most octets that are said of a size.
+/// Returns the greatest number of octets that a size allows.
 fn limit_of(size: Size) -> u64
     ensures { result ≡ limit_of size }
 {
@@ -45,8 +45,9 @@ fn limit_of(size: Size) -> u64
 }
 
 impl Plan {
-    /// The plan. `None` where a subfile has no octet or more than the greatest size of an object ([`GREATEST_SIZE`]), where
-    /// a size is above that, or where a known size needs more than 4,294,967,295 subfiles.
+    /// Creates a plan. Returns `None` if a subfile has no octet or more than the greatest size of
+    /// an object ([`GREATEST_SIZE`]), if a size is above that, or if a known size needs more than
+    /// 4,294,967,295 subfiles.
     pub fn new(subfile: u64, size: Size) -> Option<Plan>
         ensures exactly { IsSome result ↔ IsTrue (is_plan subfile size) }
         ensures value { IfSome result (λ plan. (plan.subfile ≡ subfile) × (plan.size ≡ size)) }
@@ -57,15 +58,16 @@ impl Plan {
         Some(Plan { subfile, size })
     }
 
-    /// The most octets of an object that goes by the plan: the known size, the maximum or the greatest size, and never
-    /// more than 4,294,967,295 full subfiles hold. The law `subfiles_are_few` says that it is no less.
+    /// Returns the greatest number of octets of an object under the plan: the known size, the
+    /// maximum or the greatest size, and never more than 4,294,967,295 full subfiles hold. The
+    /// lemma `subfiles_are_few` proves that this bound is exact.
     pub fn bound(&self) -> u64
         ensures { result ≡ bound_of self.now.subfile self.now.size }
     {
         limit_of(self.size).min(self.subfile.saturating_mul(MAX_SUBFILES))
     }
 
-    /// Whether an object of `total` octets is below a known size.
+    /// Checks whether an object of `total` octets is below a known size.
     pub fn is_short(&self, total: u64) -> bool
         ensures { result ≡ is_short self.now.size total }
     {

@@ -1,4 +1,4 @@
-//! An object, read: its numbers, its subfiles, and why it is refused.
+//! The reader of an object: its state, its steps, and why it rejects a token.
 
 pub(crate) mod fault;
 pub(crate) mod place;

@@ -1,27 +1,30 @@
-//! What is said of the size of an object.
+//! The sizes of an object.
 
-/// What a packer is told of the size of an object before it begins.
+/// What a packer is given of the size of an object before it begins.
 #[derive(Clone, Copy, Debug, PartialEq, Eq)]
 pub enum Size {
-    /// It has just this number of octets: size mode 1, and 7:90 ObjectData Size Announced.
+    /// The object has exactly this number of octets: size mode 1, and 7:90 ObjectData Size
+    /// Announced.
     Known(u64),
-    /// How many octets it has isn't known: size mode 0, and 7:95 Maximum ObjectData Size where one is given.
+    /// The number of octets is not known: size mode 0, and 7:95 Maximum ObjectData Size if a
+    /// maximum is given.
     Unknown(Option<u64>),
 }
 
-/// What records 7 to 9 say of an object, in octets but for `subfiles`.
+/// What records 7 to 9 state of an object. All sizes are in octets; `subfiles` is a number of
+/// subfiles.
 #[derive(Clone, Copy, Debug, PartialEq, Eq)]
 pub struct Sizes {
     /// Whether the size is known at the start: 7:10 Size Mode.
     pub known: bool,
-    /// The largest size of a subfile: 7:20.
+    /// The greatest size of a subfile: 7:20.
     pub subfile: u64,
-    /// The size that is announced: 7:90.
+    /// The announced size: 7:90.
     pub announced: Option<u64>,
     /// The greatest size that is allowed: 7:95.
     pub maximum: Option<u64>,
-    /// How many subfiles there are.
+    /// The number of subfiles.
     pub subfiles: u64,
-    /// The octets of all subfiles together.
+    /// The number of octets of all subfiles together.
     pub total: u64,
 }

@@ -1,4 +1,5 @@
-//! An object, written: cut into subfiles as it comes, and why a call is refused.
+//! The writer of an object, which divides it into subfiles as octets arrive, and why it rejects a
+//! call.
 
 pub(crate) mod buffer;
 pub(crate) mod cause;

@@ -1,4 +1,5 @@
--- Why a token of an object is refused, and why a packer refuses: the causes, and how they are printed.
+-- Why a token of an object is rejected, and why a packer rejects a call: the causes, and how they
+-- are printed.
 use Rattle.std.specs.Prelude.{◌≡◌, ◌⊎◌, ℕ, ◌+◌, ◌<◌, List, [], ◌∷◌, ◌++◌, sum, Some, None, ◌==◌, Bool, false, ◌&&◌, not, nat_lt, min, if◌then◌else◌, is_some, Option, unwrap_or, codes, decimal}
 use Rattle.iim_dataset.specs.Format.Octets.{greatest_size}
 use Rattle.iim_object.specs.Format.Objects.{Stated, number_at, ObjectToken, NumberRead, SubfileBegun, ObjectEnded, Confirmed, Place}
@@ -16,11 +17,11 @@ number_of PastSize = 23
 number_of Short = 24
 number_of ConfirmedWrong = 25
 
--- the numbers of record 7, with the one that the token brings
+-- the numbers of record 7, with that of the token
 abbrev pub stated_with : Place → ℕ → ℕ → List Stated
 stated_with p set n = p.stated ++ record { set = set; number = n } ∷ []
 
--- The total passes the greatest size, what is announced, or the maximum.
+-- The total exceeds the greatest size, the announced size, or the maximum.
 abbrev pub PassesBound : List Stated → ℕ → Type 0
 PassesBound ps total = (greatest_size < total)
     ⊎ (((announced : ℕ) × (number_at 90 ps ≡ Some announced) × (announced < total))
@@ -30,7 +31,7 @@ PassesBound ps total = (greatest_size < total)
 -- 20: mode 0 with an announced size, at the later of the two; or mode 1 without one, at a subfile.
 -- 21: the announced size is above the maximum, at the later of the two.
 -- 22: the subfile is longer than the largest may be.
--- 23: with the subfile the total passes the bound.
+-- 23: with the subfile the total exceeds the bound.
 -- 24: at the end the total is below the announced size.
 -- 25: the confirmed size is not the total.
 abbrev pub HasCause : SizeCause → Place → ObjectToken → Type 0
@@ -45,9 +46,9 @@ HasCause PastSize p token = (count : ℕ) × (token ≡ SubfileBegun count) × P
 HasCause Short p token = (announced : ℕ) × (token ≡ ObjectEnded) × (number_at 90 p.stated ≡ Some announced) × (sum p.lengths < announced)
 HasCause ConfirmedWrong p token = (n : ℕ) × (token ≡ Confirmed n) × (n ≡ sum p.lengths → ⊥)
 
--- ---- The first cause for which a token is refused, by the numbers so far.
+-- ---- The first cause for which a token is rejected, by the numbers so far.
 
--- the number is given, and is this one
+-- the number is given, and equals n
 abbrev pub is_given : Option ℕ → ℕ → Bool
 is_given None n = false
 is_given (Some m) n = m == n
@@ -57,22 +58,24 @@ abbrev pub is_above : Option ℕ → Option ℕ → Bool
 is_above (Some a) (Some m) = nat_lt m a
 is_above announced maximum = false
 
--- of a number of record 7: mode 0 with an announced size; an announced size above the maximum
+-- the cause against the numbers of record 7: mode 0 with an announced size; an announced size above
+-- the maximum
 abbrev pub number_cause : Option ℕ → Option ℕ → Option ℕ → Option SizeCause
 number_cause mode announced maximum =
     if is_given mode 0 && is_some announced then Some ModeClash
     else if is_above announced maximum then Some SizeClash
     else None
 
--- the least of the greatest size, the announced one where given and the maximum where given
+-- the least of the greatest size, the announced size if given, and the maximum if given
 abbrev pub bound : Option ℕ → Option ℕ → ℕ
 bound announced maximum = min (unwrap_or announced greatest_size) (unwrap_or maximum greatest_size)
 
--- with `count` octets more the total is above the most
+-- with `count` more octets the total is above `most`
 abbrev pub is_past : ℕ → ℕ → ℕ → Bool
 is_past most total count = nat_lt most (total + count)
 
--- of a subfile: mode 1 without an announced size; longer than the largest; a total past the bound
+-- the cause against a subfile: mode 1 without an announced size; longer than the largest; a total
+-- above the bound
 abbrev pub subfile_cause : Option ℕ → Option ℕ → Option ℕ → Option ℕ → ℕ → ℕ → Option SizeCause
 subfile_cause mode largest announced maximum total count =
     if is_given mode 1 && not (is_some announced) then Some ModeClash
@@ -80,15 +83,15 @@ subfile_cause mode largest announced maximum total count =
     else if is_past (bound announced maximum) total count then Some PastSize
     else None
 
--- of the end: a total below the announced size
+-- the cause against the end: a total below the announced size
 abbrev pub end_cause : Option ℕ → ℕ → Option SizeCause
 end_cause announced total = if nat_lt total (unwrap_or announced 0) then Some Short else None
 
--- of the confirmed size: it is not the total
+-- the cause against the confirmed size: it is not the total
 abbrev pub confirmed_cause : ℕ → ℕ → Option SizeCause
 confirmed_cause total n = if n == total then None else Some ConfirmedWrong
 
--- the first cause for which a token is refused after a place
+-- the first cause for which a token is rejected after a place
 abbrev pub cause_at : Place → ObjectToken → Option SizeCause
 cause_at p (NumberRead set n) =
     let ps = p.stated ++ record { set = set; number = n } ∷ [] in number_cause (number_at 10 ps) (number_at 90 ps) (number_at 95 ps)
@@ -108,7 +111,7 @@ name_of ConfirmedWrong = codes "ConfirmedWrong"
 abbrev pub text_of : SizeCause → List ℕ
 text_of cause = decimal (number_of cause) ++ (codes " " ++ name_of cause)
 
--- That the sink stopped is cause 60.
+-- the number of a fault: a stop of the sink is 60
 abbrev pub fault_number : ObjectFault → ℕ
 fault_number (Size cause) = number_of cause
 fault_number (Stopped stop) = 60

@@ -1,4 +1,4 @@
--- Objects: what records 7, 8 and 9 say of one, its tokens, and how far it has been read.
+-- Objects: what records 7, 8 and 9 state of one, its tokens, and how far it has been read.
 use Rattle.std.specs.Prelude.{◌≡◌, ℕ, ◌≤◌, ◌==◌, ◌⊎◌, Bool, true, false, cond, List, [], ◌∷◌, length, sum, is_some, Option, Some, None, IfSome, ◌+◌, ◌*◌, ◌^◌, ◌&&◌, nat_le, nat_lt, min, unwrap_or, ◌<◌, ◌++◌, map, if◌then◌else◌}
 use Rattle.std.specs.{List.AllByRecursion, Option.option_or}
 use Rattle.iim_dataset.specs.Format.Octets.{greatest_size, greatest_u32, number}
@@ -6,18 +6,18 @@ use Rattle.iim_dataset.specs.Format.Datasets.{tag_octets, Dataset, of_record}
 use Rattle.iim_tables.specs.Format.Records.{IsGoodRecord}
 pub use Rattle.iim_object.specs.declared.size.{Sizes.Sizes, Size.Size, Size.TheVariants.Known, Size.TheVariants.Unknown}
 
--- the number of a dataset of record 7, with the dataset's own number
+-- a number that a dataset of record 7 states, with the number of the dataset
 pub record Stated : Type 0 where
   pub set : ℕ
   pub number : ℕ
 
--- the number that is stated for a dataset of record 7, where one is
+-- the number that is stated for a dataset of record 7, if one is
 abbrev pub number_at : ℕ → List Stated → Option ℕ
 number_at set [] = None
 number_at set (p ∷ ps) = cond (p.set == set) (Some p.number) (number_at set ps)
 
--- A number is one that the row of its dataset allows: 7:10 Size Mode 0 or 1, 7:20 from 1 on, and 7:20, 7:90 and 7:95 up to
--- the greatest size of an object.
+-- The row of the dataset allows the number: 7:10 Size Mode 0 or 1, 7:20 at least 1, and 7:20, 7:90
+-- and 7:95 at most the greatest size of an object.
 abbrev pub InRow : Stated → Type 0
 InRow p = ((p.set ≡ 10) × (p.number ≤ 1)) ⊎ (((p.set ≡ 20) × (1 ≤ p.number) × (p.number ≤ greatest_size)) ⊎ (((p.set ≡ 90) ⊎ (p.set ≡ 95)) × (p.number ≤ greatest_size)))
 
@@ -35,12 +35,13 @@ abbrev pub mode_number : Bool → ℕ
 mode_number true = 1
 mode_number false = 0
 
--- what is said of an object: by record 7, and by subfiles of these lengths
+-- the sizes of an object with these numbers of record 7 and subfiles of these lengths
 abbrev pub sizes_at : Bool → ℕ → List Stated → List ℕ → Sizes
 sizes_at known subfile ps lengths = record { known = known; subfile = subfile; announced = number_at 90 ps; maximum = number_at 95 ps; subfiles = length lengths; total = sum lengths }
 
--- The sizes agree: 7:90 stands exactly where the size is known; it is at most 7:95; no subfile is longer than 7:20; the
--- total is at most the greatest size and 7:95, equals 7:90, and is the size that 9:10 confirms.
+-- The sizes agree: 7:90 occurs exactly if the size is known; it is at most 7:95; no subfile is
+-- longer than 7:20; the total is at most the greatest size and 7:95, equals 7:90, and is the size
+-- that 9:10 confirms.
 pub record Agree (s : Sizes) (lengths : List ℕ) (confirmed : ℕ) : Type 0 where
   pub by_mode : is_some s.announced ≡ s.known
   pub announced_fits : IfSome s.announced (λ a. IfSome s.maximum (λ m. a ≤ m))
@@ -52,23 +53,24 @@ pub record Agree (s : Sizes) (lengths : List ℕ) (confirmed : ℕ) : Type 0 whe
 
 -- ---- Plans of objects.
 
--- the most subfiles of one envelope
+-- the greatest number of subfiles of one envelope
 abbrev pub max_subfiles : ℕ
 max_subfiles = greatest_u32
 
--- the most octets of record 7: 7:10, 7:20, and 7:90 or 7:95
+-- the greatest number of octets of record 7: 7:10, 7:20, and 7:90 or 7:95
 abbrev pub most_sizes : ℕ
 most_sizes = 6 + 2 * tag_octets
 
--- more octets than are ever out of one envelope: those of the greatest object, of the tag of each of its subfiles, and of all other records
+-- a bound on the octets of one envelope: more than those of the greatest object, of the tag of each
+-- of its subfiles, and of all other records
 abbrev pub most_out : ℕ
 most_out = 2 ^ 63 + 2 ^ 40
 
--- the most octets that subfiles of `subfile` octets hold
+-- the greatest number of octets that subfiles of `subfile` octets hold
 abbrev pub most_in : ℕ → ℕ
 most_in subfile = subfile * max_subfiles
 
--- A size is at most the greatest, and a known one needs no more subfiles than there may be.
+-- A size is at most the greatest, and a known one needs no more subfiles than are allowed.
 abbrev pub fits : ℕ → Size → Bool
 fits subfile (Known n) = nat_le n greatest_size && nat_le n (most_in subfile)
 fits subfile (Unknown (Some m)) = nat_le m greatest_size
@@ -78,21 +80,21 @@ fits subfile (Unknown None) = true
 abbrev pub is_plan : ℕ → Size → Bool
 is_plan subfile size = nat_le 1 subfile && nat_le subfile greatest_size && fits subfile size
 
--- a known size is announced
+-- the announced size: a known one
 abbrev pub announced_of : Size → Option ℕ
 announced_of (Known n) = Some n
 announced_of (Unknown most) = None
 
--- of an unknown one a maximum may be said
+-- the maximum: that of an unknown size, if it has one
 abbrev pub maximum_of : Size → Option ℕ
 maximum_of (Known n) = None
 maximum_of (Unknown most) = most
 
--- what is said of the size: the known one, the maximum, or the greatest
+-- the limit of the size: the known one, the maximum, or the greatest
 abbrev pub limit_of : Size → ℕ
 limit_of size = unwrap_or (option_or (announced_of size) (maximum_of size)) greatest_size
 
--- the most octets of the object: never more than full subfiles hold
+-- the greatest number of octets of the object: the limit, and never more than full subfiles hold
 abbrev pub bound_of : ℕ → Size → ℕ
 bound_of subfile size = min (limit_of size) (most_in subfile)
 
@@ -101,7 +103,8 @@ abbrev pub is_short : Size → ℕ → Bool
 is_short (Known n) total = nat_lt total n
 is_short (Unknown most) total = false
 
--- the number of a value of record 7, the count of a head of 8:10, the head of 9:10, and the number of its value
+-- the tokens: the number of a value of record 7, the count of a head of 8:10, the head of 9:10, and
+-- the number of its value
 pub data ObjectToken : Type 0 where
   NumberRead : (set : ℕ) → (number : ℕ) → ObjectToken
   SubfileBegun : (count : ℕ) → ObjectToken
@@ -111,8 +114,9 @@ pub data ObjectToken : Type 0 where
 abbrev pub number_tokens : List Stated → List ObjectToken
 number_tokens ps = map (λ p. NumberRead p.set p.number) ps
 
--- The language of the object layer, by numbers and lengths: the numbers of record 7, of which mode and largest subfile are
--- two, one subfile or more, and the confirmed size, so that the sizes agree.
+-- The language of the object layer, by numbers and lengths: the numbers of record 7, among them
+-- mode and largest subfile, at least one subfile, and the confirmed size, such that the sizes
+-- agree.
 pub record ObjectLanguage (tokens : List ObjectToken) : Type 0 where
   pub stated : List Stated
   pub lengths : List ℕ
@@ -138,15 +142,16 @@ pub record AreObjectRecords (ds : List Dataset) : Type 0 where
   pub confirmation : IsGoodRecord 9 r9
   pub parts : ds ≡ before ++ (r7 ++ (r8 ++ r9))
 
--- the number of each dataset, with the dataset's own number
+-- the number of each dataset, with the number of the dataset in its record
 abbrev pub numbers_of : List Dataset → List Stated
 numbers_of ds = map (λ d. record { set = d.set; number = number d.octets }) ds
 
 abbrev pub lengths_of : List Dataset → List ℕ
 lengths_of ds = map (λ d. length d.octets) ds
 
--- The sizes are what the records state: the numbers of record 7, how many subfiles there are, and the sum of their lengths.
--- They agree with one another, with each subfile, and with the number of 9:10.
+-- The sizes are what the records state: the numbers of record 7, the number of subfiles, and the
+-- sum of their lengths. They agree with one another, with each subfile, and with the number of
+-- 9:10.
 pub record HaveSizes (r7 r8 r9 : List Dataset) (s : Sizes) : Type 0 where
   pub mode : number_at 10 (numbers_of r7) ≡ Some (mode_number s.known)
   pub largest : number_at 20 (numbers_of r7) ≡ Some s.subfile
@@ -158,7 +163,8 @@ pub record HaveSizes (r7 r8 r9 : List Dataset) (s : Sizes) : Type 0 where
   pub is_confirmed : number_at 10 (numbers_of r9) ≡ Some confirmed
   pub agree : Agree s (lengths_of r8) confirmed
 
--- ---- How far an object has been read: the numbers, the lengths of the subfiles, and whether it has ended.
+-- ---- How far an object has been read: the numbers, the lengths of the subfiles, and whether it
+-- has ended.
 
 -- before the end, after the head of 9:10, after its value
 pub data Ending : Type 0 where
@@ -176,11 +182,11 @@ ending_tokens NotEnded = []
 ending_tokens Ended = ObjectEnded ∷ []
 ending_tokens (ConfirmedAs n) = ObjectEnded ∷ Confirmed n ∷ []
 
--- the tokens that lead to the place
+-- the tokens that reach the place
 abbrev pub tokens_of : Place → List ObjectToken
 tokens_of p = number_tokens p.stated ++ (map SubfileBegun p.lengths ++ ending_tokens p.ending)
 
--- the place after one token more
+-- the place after one more token
 abbrev pub place_after : Place → ObjectToken → Place
 place_after p (NumberRead set n) = record p { stated = p.stated ++ record { set = set; number = n } ∷ [] }
 place_after p (SubfileBegun count) = record p { lengths = p.lengths ++ count ∷ [] }
@@ -191,16 +197,16 @@ place_after p (Confirmed n) = record p { ending = ConfirmedAs n }
 abbrev pub HasBoth : List Stated → Type 0
 HasBoth ps = (is_some (number_at 10 ps) ≡ true) × (is_some (number_at 20 ps) ≡ true)
 
--- The record layer has admitted the token, and the limits too: numbers of record 7 that meet their rows, none twice, come
--- before the subfiles; these come after mode and largest subfile, and not too many; the end after one subfile at least; and
--- the confirmed size after the end.
+-- The record layer and the limits accept the token: numbers of record 7 that meet their rows, none
+-- twice, come before the subfiles; these come after mode and largest subfile, and are not too many;
+-- the end comes after at least one subfile; and the confirmed size after the end.
 abbrev pub MayFollow : Place → ObjectToken → Type 0
 MayFollow p (NumberRead set n) = (p.ending ≡ NotEnded) × (p.lengths ≡ []) × AreStated (p.stated ++ record { set = set; number = n } ∷ [])
 MayFollow p (SubfileBegun count) = (p.ending ≡ NotEnded) × HasBoth p.stated × (length p.lengths < max_subfiles)
 MayFollow p ObjectEnded = (p.ending ≡ NotEnded) × (0 < length p.lengths)
 MayFollow p (Confirmed n) = p.ending ≡ Ended
 
--- where nothing has been read
+-- the place before the first token
 abbrev pub place_start : Place
 place_start = record { stated = []; lengths = []; ending = NotEnded }
 
@@ -212,12 +218,13 @@ value_token rec set n = if rec == 9 then Confirmed n else NumberRead set n
 abbrev pub head_token : ℕ → ℕ → ObjectToken
 head_token rec count = if rec == 9 then ObjectEnded else SubfileBegun count
 
--- the end that datasets of record 9 make
+-- the end that the datasets of record 9 make
 abbrev pub ending_of : List Dataset → Ending
 ending_of [] = NotEnded
 ending_of (d ∷ ds) = ConfirmedAs (number d.octets)
 
--- the place after datasets: the numbers of record 7, the lengths of record 8, and the number of record 9
+-- the place after datasets: the numbers of record 7, the lengths of record 8, and the number of
+-- record 9
 abbrev pub place_after_datasets : List Dataset → Place
 place_after_datasets ds = record { stated = numbers_of (of_record 7 ds); lengths = lengths_of (of_record 8 ds); ending = ending_of (of_record 9 ds) }
 
@@ -233,8 +240,8 @@ TokensWithin most (SubfileBegun n ∷ tokens) = TokensWithin most tokens
 TokensWithin most (ObjectEnded ∷ tokens) = TokensWithin most tokens
 TokensWithin most (Confirmed n ∷ tokens) = (n ≤ most) × TokensWithin most tokens
 
--- The language of the object layer, if the greatest size is `most`: the numbers of record 7 are at most that, and so is the total, which
--- is the number that is confirmed.
+-- The language of the object layer, if the greatest size is `most`: the numbers of record 7 are at
+-- most that, and so is the total, which is the number that is confirmed.
 abbrev pub LanguageWithin : ℕ → List ObjectToken → Type 0
 LanguageWithin most tokens = ObjectLanguage tokens × TokensWithin most tokens
 

@@ -1,4 +1,4 @@
--- What is written of an object: how it is cut into subfiles, and records 7, 8 and 9.
+-- What is written of an object: how it is divided into subfiles, and records 7, 8 and 9.
 use Rattle.std.specs.Prelude.{◌≡◌, ℕ, ◌≤◌, List, [], ◌∷◌, ◌++◌, length, flat_map, Bool, map, Some, None, is_some, IfSome}
 use Rattle.std.specs.List.{AllByRecursion}
 use Rattle.iim_dataset.specs.Format.Datasets.{Dataset, canonical_stream, written_number}
@@ -12,7 +12,8 @@ joined_parts parts = flat_map (λ part. part) parts
 abbrev pub AreFull : ℕ → List (List ℕ) → Type 0
 AreFull size parts = AllByRecursion (λ part. length part ≡ size) parts
 
--- The object is cut into full parts of `size` octets, and a last one of 1 up to as many. An empty object is one empty part.
+-- The object is divided into full parts of `size` octets, and a last one of 1 to `size` octets. An
+-- empty object is one empty part.
 pub record IsCut (size : ℕ) (object : List ℕ) (parts : List (List ℕ)) : Type 0 where
   pub full : List (List ℕ)
   pub last : List ℕ
@@ -53,21 +54,21 @@ subfile_datasets parts = map subfile_dataset parts
 abbrev pub confirmed_datasets : List ℕ → List Dataset
 confirmed_datasets object = number_dataset 9 10 (length object) ∷ []
 
--- records 7, 8 and 9 of an object that is cut into these parts
+-- records 7, 8 and 9 of an object that is divided into these parts
 abbrev pub object_datasets : ℕ → Size → List ℕ → List (List ℕ) → List Dataset
 object_datasets subfile size object parts = plan_datasets subfile size ++ (subfile_datasets parts ++ confirmed_datasets object)
 
--- The octets are what is written of the object by the plan of this subfile size and this size.
+-- The octets are what is written of the object, with subfiles of this length and this size.
 pub record IsWritten (subfile : ℕ) (size : Size) (object octets : List ℕ) : Type 0 where
   pub parts : List (List ℕ)
   pub cut : IsCut subfile object parts
   pub octets_are : octets ≡ canonical_stream (object_datasets subfile size object parts)
 
--- The object is as long as a known size says.
+-- The object has as many octets as a known size states.
 abbrev pub IsAsKnown : Size → List ℕ → Type 0
 IsAsKnown size object = IfSome (announced_of size) (λ n. length object ≡ n)
 
--- The plan has room for the object, which is as long as a known size says.
+-- The object is within the bound of the plan, and has as many octets as a known size states.
 pub record Suits (subfile : ℕ) (size : Size) (object : List ℕ) : Type 0 where
   pub fits : length object ≤ bound_of subfile size
   pub exact : IsAsKnown size object

@@ -1,4 +1,5 @@
--- Where a reader of objects stands, what it keeps, how it changes, and how it is made again from what was saved.
+-- The states of a reader of objects, how they change, and how a state is restored from what was
+-- saved.
 use Rattle.std.specs.Prelude.{◌≡◌, ℕ, ◌<◌, ◌==◌, true, if◌then◌else◌, is_some, Option, Some, None, ◌*◌, ◌≤◌, List, [], ◌∷◌, IfSome, ◌⊎◌, Bool, ◌++◌, length, map, sum, take, slice_index, ◌+◌}
 use Rattle.iim_object.specs.Format.Objects.{max_subfiles, InRow, mode_number, AreStated, number_at, sizes_at, Sizes, ObjectToken, ObjectEnded, Confirmed, ObjectLanguage, Place, NotEnded, MayFollow, HasBoth, place_after, tokens_of, ObjectEvent, ObjectOctet, ObjectEnd, Stated}
 use Rattle.iim_object.specs.Format.Causes.{number_cause, subfile_cause, bound, cause_at}
@@ -9,11 +10,11 @@ pub use Rattle.iim_object.specs.declared.reading.{state.State.State, fault.SizeC
 abbrev pub state_start : State
 state_start = record { mode = None; subfile = None; announced = None; maximum = None; subfiles = 0; total = 0 }
 
--- the number, where the dataset is this one
+-- the number, if the dataset is the wanted one
 abbrev pub set_where : ℕ → ℕ → ℕ → Option ℕ → Option ℕ
 set_where wanted set number old = if set == wanted then Some number else old
 
--- with the number of a dataset of record 7
+-- the state with the number of a dataset of record 7
 abbrev pub state_with : State → ℕ → ℕ → State
 state_with s set number = record s {
   mode = set_where 10 set number s.mode;
@@ -22,28 +23,28 @@ state_with s set number = record s {
   maximum = set_where 95 set number s.maximum;
 }
 
--- A number of record 7 may come: no subfile has come, and its row allows the number.
+-- A number of record 7 may come next: no subfile has come, and its row allows the number.
 abbrev pub TakesNumber : State → ℕ → ℕ → Type 0
 TakesNumber s set number = (s.subfiles ≡ 0) × InRow (record { set = set; number = number })
 
--- A subfile may come: mode and largest subfile are given, and one more is not too many.
+-- A subfile may come next: mode and largest subfile are given, and one more is not too many.
 abbrev pub TakesSubfile : State → Type 0
 TakesSubfile s = (is_some s.mode ≡ true) × (is_some s.subfile ≡ true) × (s.subfiles < max_subfiles)
 
--- A number of record 7 may come, and no number clashes with it.
+-- A number of record 7 may come next, and no number clashes with it.
 abbrev pub FitsNumber : State → ℕ → ℕ → Type 0
 FitsNumber s set number = TakesNumber s set number
     × (number_cause (state_with s set number).mode (state_with s set number).announced (state_with s set number).maximum ≡ None)
 
--- A subfile may come, and nothing is wrong with one of `count` octets.
+-- A subfile of `count` octets may come next, and nothing is wrong with it.
 abbrev pub FitsSubfile : State → ℕ → Type 0
 FitsSubfile s count = TakesSubfile s × (subfile_cause s.mode s.subfile s.announced s.maximum s.total count ≡ None)
 
--- A reader that takes calls, seen as its state, accepts a number of dataset 7:`set`.
+-- A reader that has not failed, seen as its state, accepts a number of dataset 7:`set`.
 abbrev pub AcceptsNumber : Option State → ℕ → ℕ → Type 0
 AcceptsNumber reader set number = (s : State) → reader ≡ Some s → FitsNumber s set number
 
--- The same of the head of a subfile of `count` octets.
+-- A reader that has not failed, seen as its state, accepts the head of a subfile of `count` octets.
 abbrev pub AcceptsSubfile : Option State → ℕ → Type 0
 AcceptsSubfile reader count = (s : State) → reader ≡ Some s → FitsSubfile s count
 
@@ -51,7 +52,7 @@ AcceptsSubfile reader count = (s : State) → reader ≡ Some s → FitsSubfile 
 abbrev pub state_numbers : State → List (Option ℕ)
 state_numbers s = s.mode ∷ s.subfile ∷ s.announced ∷ s.maximum ∷ []
 
--- The numbers of record 7 that have come are ones that their rows allow. A size that isn't known is not announced, and the
+-- The rows allow the numbers of record 7. A size that is not known is not announced, and the
 -- announced size is at most the maximum.
 pub record HasNumbers (s : State) : Type 0 where
   pub mode : IfSome s.mode (λ n. n ≤ 1)
@@ -61,8 +62,8 @@ pub record HasNumbers (s : State) : Type 0 where
   pub not_known : s.mode ≡ Some 0 → s.announced ≡ None
   pub sizes : (a m : ℕ) → s.announced ≡ Some a → s.maximum ≡ Some m → a ≤ m
 
--- Subfiles have come, not too many. Mode and largest subfile are given, and the size is announced exactly where it is known. The
--- total is no more than these subfiles hold, and does not pass the bound.
+-- There are subfiles, not too many. Mode and largest subfile are given, and the size is announced
+-- exactly if it is known. The total is no more than these subfiles hold, and within the bound.
 pub record HasSubfiles (s : State) : Type 0 where
   pub subfile : ℕ
   pub mode : s.mode ≡ Some (mode_number (is_some s.announced))
@@ -71,15 +72,15 @@ pub record HasSubfiles (s : State) : Type 0 where
   pub held : s.total ≤ s.subfiles * subfile
   pub total : s.total ≤ bound s.announced s.maximum
 
--- The state is one to which tokens lead: numbers of record 7, and then subfiles.
+-- Tokens reach the state: numbers of record 7, and then subfiles.
 pub record IsState (s : State) : Type 0 where
   pub numbers : HasNumbers s
   pub no_subfile : s.subfiles ≡ 0 → s.total ≡ 0
   pub some_subfiles : 0 < s.subfiles → HasSubfiles s
 
--- ---- Where a reader of objects stands, and why it refuses a token.
+-- ---- The state of a reader at a place, and why it rejects a token.
 
--- The state has the numbers of the place, how many subfiles there are and their octets together.
+-- The state has the numbers of the place, the number of subfiles and the total of their octets.
 pub record IsStateAt (s : State) (p : Place) : Type 0 where
   pub mode : s.mode ≡ number_at 10 p.stated
   pub largest : s.subfile ≡ number_at 20 p.stated
@@ -88,8 +89,8 @@ pub record IsStateAt (s : State) (p : Place) : Type 0 where
   pub subfiles : s.subfiles ≡ length p.lengths
   pub total : s.total ≡ sum p.lengths
 
--- The reader, seen as its state, stands where these tokens, which the record layer admits, have led: the object layer can
--- continue from them.
+-- The reader, seen as its state, is in the state after the tokens of the place, which the record
+-- layer accepts: they are a viable prefix.
 pub record StandsAt (reader : Option State) (p : Place) : Type 0 where
   pub state : State
   pub is_state : reader ≡ Some state
@@ -99,61 +100,64 @@ pub record StandsAt (reader : Option State) (p : Place) : Type 0 where
   pub duties : 0 < length p.lengths → HasBoth p.stated
   pub alive : IsAlive ObjectLanguage (tokens_of p)
 
--- Wherever the reader stands, a token that the record layer admits there leads it on.
+-- A token that the record layer accepts takes the reader from each place to the place after it.
 abbrev pub LeadsOn : Option State → ObjectToken → Option State → Type 0
 LeadsOn old token new = (p : Place) → StandsAt old p → MayFollow p token → StandsAt new (place_after p token)
 
--- Wherever the reader stands, the object layer dies with the token, if the record layer admits it there, and this is the first cause.
+-- At each place of the reader where the record layer accepts the token, the tokens with it are no
+-- longer a viable prefix, and this is the first cause.
 abbrev pub Refuses : Option State → ObjectToken → SizeCause → Type 0
 Refuses old token cause = (p : Place) → StandsAt old p → MayFollow p token
     → DiesAt ObjectLanguage (tokens_of p) token × (cause_at p token ≡ Some cause)
 
--- Wherever the reader stands, the object layer can continue with the token.
+-- At each place of the reader, the tokens with the token are a viable prefix.
 abbrev pub LivesWith : Option State → ObjectToken → Type 0
 LivesWith old token = (p : Place) → StandsAt old p → MayFollow p token → IsAlive ObjectLanguage (tokens_of p ++ token ∷ [])
 
--- Wherever the reader stands, the end of the object leads it on, and then this number of 9:10.
+-- At each place of the reader, the end of the object may come, and then this number of 9:10.
 pub record EndsAs (old : Option State) (number : ℕ) (new : Option State) : Type 0 where
   pub ended : Option State
   pub at_end : LeadsOn old ObjectEnded ended
   pub at_number : LeadsOn ended (Confirmed number) new
 
--- The object layer dies with the end; or the end leads on, and it dies with the number.
+-- With the end the tokens are no longer a viable prefix; or with the end they are, and with the
+-- number they are not.
 abbrev pub RefusesToEnd : Option State → ℕ → Type 0
 RefusesToEnd old number = ((cause : SizeCause) × Refuses old ObjectEnded cause)
     ⊎ ((ended : Option State) × LeadsOn old ObjectEnded ended × ((cause : SizeCause) × Refuses ended (Confirmed number) cause))
 
--- A value is refused for its cause; no sink is asked.
+-- A value is rejected for its cause; no sink is called.
 abbrev pub RefusesValue : Option State → ObjectToken → ObjectFault → Type 0
 RefusesValue old token (Size cause) = Refuses old token cause
 RefusesValue old token (Stopped stop) = ⊥
 
--- what the sink is told at a head: the end of the object at record 9
+-- what the sink receives at a head: the end of the object at record 9
 abbrev pub events_at : ℕ → List ObjectEvent
 events_at rec = if rec == 9 then ObjectEnd ∷ [] else []
 
--- A head is refused for its cause, and the sink is told nothing; or the sink refused the end of the object, and its stop has
--- taken nothing.
+-- A head is rejected for its cause, and the sink receives nothing; or the sink rejected the end of
+-- the object, and the `taken` of its stop is 0.
 abbrev pub RefusesHead : {S : Type 0} → (S → List ObjectEvent → S → Type 0) → (S → List ObjectEvent → ObjectEvent → S → Type 0) → Option State → ObjectToken → S → S → ObjectFault → Type 0
 RefusesHead goes stops old token sink now (Size cause) = Refuses old token cause × goes sink [] now
 RefusesHead goes stops old token sink now (Stopped stop) = (token ≡ ObjectEnded) × (stop.taken ≡ 0) × LivesWith old token × stops sink [] ObjectEnd now
 
--- The sink refused an octet of the run.
+-- The sink rejected an octet of the slice.
 abbrev pub RefusesRun : {S : Type 0} → (S → List ObjectEvent → ObjectEvent → S → Type 0) → List ℕ → S → S → ObjectFault → Type 0
 RefusesRun stops run sink now (Size cause) = ⊥
 RefusesRun stops run sink now (Stopped stop) =
     (stop.taken < length run) × stops sink (map ObjectOctet (take stop.taken run)) (ObjectOctet (slice_index run stop.taken)) now
 
--- The sizes are what the place says.
+-- The sizes are those of the place.
 abbrev pub IsSizes : Place → Sizes → Type 0
 IsSizes p s = (known : Bool) × (subfile : ℕ) × (number_at 10 p.stated ≡ Some (mode_number known)) × (number_at 20 p.stated ≡ Some subfile)
     × (s ≡ sizes_at known subfile p.stated p.lengths)
 
--- the numbers of 7:10, 7:20, 7:90 and 7:95, each where it is stated
+-- the numbers of 7:10, 7:20, 7:90 and 7:95, each if it is stated
 abbrev pub stated_numbers : List Stated → List (Option ℕ)
 stated_numbers ps = number_at 10 ps ∷ number_at 20 ps ∷ number_at 90 ps ∷ number_at 95 ps ∷ []
 
--- Of the last subfile, which counts `count` octets, `left` octets are still to come, one at least. All others have come.
+-- Of the last subfile, which counts `count` octets, `left` octets remain, at least one. All others
+-- were received.
 pub record LastIsBegun (lengths : List ℕ) (taken count left : ℕ) : Type 0 where
   pub finished : List ℕ
   pub lengths_are : lengths ≡ finished ++ count ∷ []
@@ -161,19 +165,21 @@ pub record LastIsBegun (lengths : List ℕ) (taken count left : ℕ) : Type 0 wh
   pub fits : left ≤ count
   pub octets : sum lengths ≡ taken + left
 
--- Of the subfiles `taken` octets have come: all of them, or all but those to come of the begun one.
+-- Of the subfiles `taken` octets were received: all of them, or all but those that remain of the
+-- one in progress.
 abbrev pub OctetsAre : List ℕ → ℕ → Option (ℕ × ℕ) → Type 0
 OctetsAre lengths taken None = sum lengths ≡ taken
 OctetsAre lengths taken (Some begun) = LastIsBegun lengths taken begun.0 begun.1
 
--- The place has these numbers of record 7, `heads` heads of subfiles, and `taken` octets that have come. The object has not ended.
+-- The place has these numbers of record 7, `heads` heads of subfiles, and `taken` octets that were
+-- received. The object has not ended.
 pub record IsAt (numbers : List (Option ℕ)) (taken : ℕ) (begun : Option (ℕ × ℕ)) (heads : ℕ) (p : Place) : Type 0 where
   pub numbers_are : numbers ≡ stated_numbers p.stated
   pub octets : OctetsAre p.lengths taken begun
   pub subfiles : heads ≡ length p.lengths
   pub not_ended : p.ending ≡ NotEnded
 
--- Tokens that the record layer and the limits admit lead to the place, and the object layer can continue from them.
+-- Tokens that the record layer and the limits accept reach the place, and are a viable prefix.
 pub record IsPossible (p : Place) : Type 0 where
   pub stated : AreStated p.stated
   pub subfiles : p.lengths ≡ [] → p.ending ≡ NotEnded

@@ -1,4 +1,4 @@
--- A writer of subfiles: what it has taken, what is out, and how a call ends.
+-- A writer of subfiles: what it has received, what it has written, and how a call ends.
 use Rattle.std.specs.Prelude.{◌≡◌, ℕ, ◌+◌, ◌<◌, ◌≤◌, ◌⊎◌, min, nat_le, not, Bool, true, false, if◌then◌else◌, List, [], ◌++◌, length, Option, Some, None}
 use Rattle.iim_dataset.specs.States.Devices.{Device, Wrote, Broke, WithinInterruptionLimit}
 use Rattle.std.specs.Io.KnownBytes.{Appends}
@@ -8,8 +8,9 @@ use Rattle.iim_object.specs.Format.Packing.{AreFull, joined_parts, plan_datasets
 use Rattle.iim_object.specs.declared.{plan.Plan.Plan, writing.cause.PackCause.PackCause}
 use Rattle.iim_object.specs.declared.writing.cause.PackCause.TheVariants as causes
 
--- A writer of subfiles is seen as its plan, the octets of the object that it holds, how many it has room for, how many octets of
--- the object are out, how many octets are out in all, whether a write failed, and what it writes to.
+-- A writer of subfiles is seen as its plan, the buffered octets, its capacity, the number of octets
+-- of the object that were written, the number of all octets that were written, whether a write
+-- failed, and its target.
 pub record Writing (W : Type 0) : Type 0 where
   pub plan : Plan
   pub held : List ℕ
@@ -19,15 +20,15 @@ pub record Writing (W : Type 0) : Type 0 where
   pub failed : Bool
   pub writer : W
 
--- the most octets of the plan's object
+-- the greatest number of octets of the plan's object
 abbrev pub most_of : Plan → ℕ
 most_of plan = bound_of plan.subfile plan.size
 
--- how many octets the plan's writer may hold: the lesser of a subfile and the bound
+-- the capacity of the plan's writer: a subfile or the bound, whichever is less
 abbrev pub room_of : Plan → ℕ
 room_of plan = min plan.subfile (most_of plan)
 
--- how many octets of the object have come
+-- the number of octets of the object that were received
 abbrev pub total_of : {W : Type 0} → Writing W → ℕ
 total_of w = w.sent + length w.held
 
@@ -35,12 +36,12 @@ total_of w = w.sent + length w.held
 abbrev pub plan_octets : Plan → List ℕ
 plan_octets plan = canonical_stream (plan_datasets plan.subfile plan.size)
 
--- what is out after record 7 and these subfiles
+-- what was written after record 7 and these subfiles
 abbrev pub octets_out : Plan → List (List ℕ) → List ℕ
 octets_out plan parts = canonical_stream (plan_datasets plan.subfile plan.size ++ subfile_datasets parts)
 
--- The writer has taken this object, and `out` is out: record 7 and full subfiles. Their data and the octets that are held are the
--- object. None are held only of an empty one.
+-- The writer has received this object, and has written `out`: record 7 and full subfiles. Their
+-- data and the buffered octets are the object. Nothing is buffered only of an empty object.
 pub record HasWritten {W : Type 0} (w : Writing W) (object out : List ℕ) : Type 0 where
   pub unfailed : w.failed ≡ false
   pub parts : List (List ℕ)
@@ -52,7 +53,8 @@ pub record HasWritten {W : Type 0} (w : Writing W) (object out : List ℕ) : Typ
   pub out_is : out ≡ octets_out w.plan parts
   pub written : w.written ≡ length out
 
--- Octets led from one writer to the other, wherever it stood: some more octets are out. A million interruptions at most came for each.
+-- The writer received these octets, whatever it had received before: some more octets were written,
+-- with at most a million interruptions in a row for each.
 pub record Lengthens {W : Type 0} (state : W → Device) (old new : Writing W) (octets : List ℕ) : Type 0 where
   pub more : List ℕ
   pub wrote : Wrote (state old.writer) (state new.writer) more
@@ -63,12 +65,13 @@ pub record Lengthens {W : Type 0} (state : W → Device) (old new : Writing W) (
   pub total : total_of new ≡ total_of old + length octets
   pub stands : (object out : List ℕ) → HasWritten old object out → HasWritten new (object ++ octets) (out ++ more)
 
--- xs begins ys
+-- xs is a prefix of ys
 abbrev pub Begins : List ℕ → List ℕ → Type 0
 Begins xs ys = (rest : List ℕ) × (xs ++ rest ≡ ys)
 
--- A write failed: some more octets are out, and they were counted. A million interruptions at most came for each, and for the next.
--- Wherever the writer stood, what is out begins all that may be written: `May object whole` says what.
+-- A write failed: some more octets were written and counted, with at most a million interruptions
+-- in a row for each and for the next. Whatever the writer had received, what was written is a
+-- prefix of all that may be written: `May object whole` states what.
 pub record BreaksOff {W : Type 0} (state : W → Device) (May : List ℕ → List ℕ → Type 0) (old new : Writing W) : Type 0 where
   pub more : List ℕ
   pub appends : Appends (state old.writer).octets (state new.writer).octets more
@@ -79,40 +82,42 @@ pub record BreaksOff {W : Type 0} (state : W → Device) (May : List ℕ → Lis
   pub counted : new.written ≡ old.written + length more
   pub begins : (object out whole : List ℕ) → HasWritten old object out → May object whole → Begins (out ++ more) whole
 
--- what is written of an object that begins with these octets
+-- the octets are written of an object that begins with `front`
 abbrev pub IsWrittenFrom : Plan → List ℕ → List ℕ → Type 0
 IsWrittenFrom plan front whole = (rest : List ℕ) × IsWritten plan.subfile plan.size (front ++ rest) whole
 
--- what is written of an object that begins with this one and these octets
+-- the octets are written of an object that begins with `object ++ octets`
 abbrev pub ContinuesWith : Plan → List ℕ → List ℕ → List ℕ → Type 0
 ContinuesWith plan octets object whole = IsWrittenFrom plan (object ++ octets) whole
 
--- what is written of the object
+-- the octets are written of the object
 abbrev pub IsTheWhole : Plan → List ℕ → List ℕ → Type 0
 IsTheWhole plan object whole = IsWritten plan.subfile plan.size object whole
 
--- The object is out, as the plan says. A million interruptions at most came for each octet that was not out before.
+-- The object is written, as the plan requires, with at most a million interruptions in a row for
+-- each octet that was not written before.
 pub record Finishes {W : Type 0} (state : W → Device) (old : Writing W) (writer : W) : Type 0 where
   pub more : List ℕ
   pub wrote : Wrote (state old.writer) (state writer) more
   pub patience : WithinInterruptionLimit (length more) (state old.writer) (state writer)
   pub whole : (object out : List ℕ) → HasWritten old object out → IsWritten old.plan.subfile old.plan.size object (out ++ more)
 
--- ---- causes
+-- ---- Causes.
 
--- an object of so many octets passes the plan's bound
+-- an object of this many octets exceeds the bound of the plan
 abbrev pub passes_plan : Plan → ℕ → Bool
 passes_plan plan octets = not (nat_le octets (most_of plan))
 
--- An object of so many octets passes the plan's bound.
+-- An object of this many octets exceeds the bound of the plan.
 abbrev pub PassesPlan : Plan → ℕ → Type 0
 PassesPlan plan octets = most_of plan < octets
 
--- An object of so many octets is below a known size.
+-- An object of this many octets is below a known size.
 abbrev pub IsBelowKnown : Plan → ℕ → Type 0
 IsBelowKnown plan octets = (n : ℕ) × (plan.size ≡ Known n) × (octets < n)
 
--- The first cause against n octets more: a write failed before, or the object would pass the bound.
+-- The first cause against n more octets: a write failed before, or the object would exceed the
+-- bound.
 abbrev pub write_cause : {W : Type 0} → Writing W → ℕ → Option PackCause
 write_cause w n =
     if w.failed then Some causes.Failed
@@ -126,13 +131,14 @@ finish_cause w =
     else if is_short w.plan.size (total_of w) then Some causes.ShortOfAnnounced
     else None
 
--- Why n octets more are refused, in this order: a write failed before; the object would pass the plan's bound, of which the
--- end takes nothing.
+-- Why n more octets are rejected, in this order: a write failed before; the object would exceed the
+-- bound of the plan, of which the end needs nothing.
 abbrev pub RefusesOctets : {W : Type 0} → Writing W → ℕ → PackCause → Type 0
 RefusesOctets w n cause = ((w.failed ≡ true) × (cause ≡ causes.Failed))
     ⊎ ((w.failed ≡ false) × PassesPlan w.plan (total_of w + n) × (cause ≡ causes.PastAnnounced))
 
--- Why the end is refused, in this order: a write failed before; the object is below the known size.
+-- Why the end is rejected, in this order: a write failed before; the object is below the known
+-- size.
 abbrev pub RefusesEnd : {W : Type 0} → Writing W → PackCause → Type 0
 RefusesEnd w cause = ((w.failed ≡ true) × (cause ≡ causes.Failed))
     ⊎ ((w.failed ≡ false) × IsBelowKnown w.plan (total_of w) × (cause ≡ causes.ShortOfAnnounced))

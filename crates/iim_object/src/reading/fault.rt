@@ -1,4 +1,4 @@
-//! Why an object is refused.
+//! Why an object is rejected.
 
 ghost use Rattle.std.specs.Prelude.{◌≡◌, Some};
 ghost use Rattle.iim_object.specs.Format.Causes.{number_of, name_of, text_of, fault_number, fault_name, fault_text};
@@ -9,16 +9,18 @@ use std::error::Error;
 use std::fmt;
 use std::fmt::{Display, Formatter};
 
-/// What is wrong with the sizes of an object, each with its number. Of several the one of the lowest number is told.
+/// What is wrong with the sizes of an object, each with its number. If several causes hold, the one
+/// with the lowest number is reported.
 #[derive(Clone, Copy, Debug, PartialEq, Eq)]
 pub enum SizeCause {
-    /// The size is not known, and 7:90 announces one; or it is known, and at the first subfile none is announced.
+    /// The size is not known, and 7:90 announces one; or it is known, and at the first subfile none
+    /// has been announced.
     ModeClash = 20,
     /// The announced size, 7:90, is above the maximum, 7:95.
     SizeClash = 21,
     /// A subfile is longer than 7:20 allows.
     SubfileTooLong = 22,
-    /// The total passes what is announced, the maximum or the greatest size of an object.
+    /// The total exceeds the announced size, the maximum or the greatest size of an object.
     PastSize = 23,
     /// The object ends with fewer octets than were announced.
     Short = 24,
@@ -27,14 +29,14 @@ pub enum SizeCause {
 }
 
 impl SizeCause {
-    /// The number, as it is printed.
+    /// Returns the number of the cause, as it is printed.
     pub fn number(self) -> u8
         ensures { result ≡ number_of self }
     {
         self as u8
     }
 
-    /// The name, as it is printed.
+    /// Returns the name of the cause, as it is printed.
     pub fn name(self) -> &'static str
         ensures { result.now ≡ name_of self }
     {
@@ -49,7 +51,7 @@ impl SizeCause {
     }
 }
 
-/// The number and the name, as `20 ModeClash`.
+/// Writes the number and the name, as `20 ModeClash`.
 impl Display for SizeCause {
     ghost output = { λ cause. Some (text_of cause) };
 
@@ -62,7 +64,7 @@ impl Display for SizeCause {
 
 impl Error for SizeCause {}
 
-/// A reader of objects refused a token.
+/// Why a reader of objects rejected a token.
 #[derive(Clone, Copy, Debug, PartialEq, Eq)]
 pub enum ObjectFault {
     /// The sizes are wrong.
@@ -70,12 +72,13 @@ pub enum ObjectFault {
         /// What is wrong with them.
         cause: SizeCause,
     },
-    /// The sink stopped, after the octets of the run that it took, or, with none taken, at the end of the object.
+    /// The sink stopped, after the octets of the slice that it accepted; or, if it accepted none,
+    /// perhaps at the end of the object.
     Stopped(Stop),
 }
 
 impl ObjectFault {
-    /// The number, as it is printed: of a stop it is 60.
+    /// Returns the number, as it is printed. A stop of the sink is 60.
     pub fn number(self) -> u8
         ensures { result ≡ fault_number self }
     {
@@ -85,7 +88,7 @@ impl ObjectFault {
         }
     }
 
-    /// The name, as it is printed: of a stop it is `Sink`.
+    /// Returns the name, as it is printed. A stop of the sink is `Sink`.
     pub fn name(self) -> &'static str
         ensures { result.now ≡ fault_name self }
     {
@@ -96,7 +99,7 @@ impl ObjectFault {
     }
 }
 
-/// The number and the name, as `20 ModeClash` or `60 Sink`.
+/// Writes the number and the name, as `20 ModeClash` or `60 Sink`.
 impl Display for ObjectFault {
     ghost output = { λ fault. Some (fault_text fault) };
 

@@ -1,4 +1,4 @@
-//! The states of places that are given by numbers.
+//! States that are restored from numbers.
 
 ghost use Rattle.std.specs.Prelude.{◌≡◌, ◌↔◌, ◌≤◌, ◌+◌, IsTrue, IsSome, IfSome, Some, None};
 ghost use Rattle.iim_object.specs.States.Reading.{IsState, state_numbers, StandsAt, IsAt, IsPossible};
@@ -7,8 +7,8 @@ ghost use Rattle.iim_object.specs.Format.Objects.{Place};
 use crate::reading::state::State;
 use crate::reading::step::take_subfile;
 
-/// The state where these numbers of record 7 have come, and `subfiles` subfiles, of `total` octets together. None where no
-/// tokens lead there.
+/// Returns the state after these numbers of record 7 and `subfiles` complete subfiles, which have
+/// `total` octets together. Returns `None` if no tokens reach it.
 fn between(numbers: State, subfiles: u64, total: u64) -> Option<State>
     ensures exactly { IsSome result ↔ IsState (record numbers { subfiles = subfiles; total = total }) }
     ensures value { IfSome result (λ state. state ≡ record numbers { subfiles = subfiles; total = total }) }
@@ -21,16 +21,16 @@ fn between(numbers: State, subfiles: u64, total: u64) -> Option<State>
     if state.is_state() { Some(state) } else { None }
 }
 
-/// Whether a subfile may have begun: `left` of its `count` octets are to come, `taken` octets have come of all, and `heads`
-/// heads.
+/// Checks whether a subfile may be in progress: `left` of its `count` octets remain, `taken` octets
+/// of all subfiles were received, and `heads` heads.
 fn may_have_begun(taken: u64, count: u64, left: u64, heads: u64) -> bool
     ensures { IsTrue result ↔ ((1 ≤ left) × (left ≤ count) × (1 ≤ heads) × (count ≤ taken + left)) }
 {
     0 < left && left <= count && 0 < heads && count - left <= taken
 }
 
-/// The state with a begun subfile of `count` octets, of which `left` are to come: that of the subfiles before it, and then
-/// its head. None where no tokens lead there.
+/// Returns the state with a subfile of `count` octets in progress, of which `left` remain: the
+/// state of the subfiles before it, and then its head. Returns `None` if no tokens reach it.
 fn within(numbers: State, taken: u64, count: u64, left: u64, heads: u64) -> Option<State>
     ensures is_state { IfSome result IsState }
     ensures exactly { IsSome result ↔
@@ -48,8 +48,8 @@ fn within(numbers: State, taken: u64, count: u64, left: u64, heads: u64) -> Opti
     take_subfile(before, count).ok()
 }
 
-/// The state where these numbers have come, 7:10, 7:20, 7:90 and 7:95, then `heads` heads of subfiles, and `taken` octets.
-/// None where no tokens lead there.
+/// Returns the state after these numbers of 7:10, 7:20, 7:90 and 7:95, then `heads` heads of
+/// subfiles, and `taken` octets. Returns `None` if no tokens reach it.
 pub(crate) fn state_at(
     numbers: [Option<u64>; 4],
     taken: u64,

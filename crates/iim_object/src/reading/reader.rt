@@ -17,16 +17,17 @@ use crate::size::Sizes;
 use iim_tables::records::POST_OBJECT;
 use std::marker::Model;
 
-/// A reader of an object: the numbers of record 7, the heads of its subfiles, its octets, its end, and the size that
-/// record 9 confirms. It holds a few numbers, and no octet.
+/// A reader of an object: the numbers of record 7, the heads of its subfiles, its octets, its end,
+/// and the size that record 9 confirms. It stores a few numbers, and no octet.
 ///
-/// What its contracts say holds of tokens that the record layer and the limits have admitted: wherever the reader stands,
-/// a token leads it on, or the object layer dies with it and the fault is the first cause. After datasets that is the
-/// place of the law `tokens_follow`. Contracts see the reader as the numbers that it keeps, and as None after
-/// a refusal. Whatever a caller hands in, they are numbers to which some tokens lead (`places_are_reached`).
+/// Its contracts hold for tokens that the record layer and the limits accept. From each state that
+/// the reader may be in, a token reaches the next state; or with it the tokens are no longer a
+/// viable prefix, and the fault is the first cause. The lemma `tokens_follow` relates these states
+/// to datasets. Contracts see the reader as the numbers that it stores, and as `None` after an
+/// error. Some tokens reach each state that it may have (`places_are_reached`).
 #[derive(Debug, Drop)]
 pub struct ObjectReader {
-    /// None after a refusal.
+    /// The state; `None` after an error.
     state: Option<State>,
 }
 
@@ -39,7 +40,7 @@ impl Model for ObjectReader {
 }
 
 impl ObjectReader {
-    /// The reader of an object of which nothing has come.
+    /// Creates a reader at the start of an object.
     pub fn new() -> ObjectReader
         ensures takes_calls { IsSome result }
         ensures stands { StandsAt result place_start }
@@ -48,9 +49,10 @@ impl ObjectReader {
         ObjectReader { state }
     }
 
-    /// The reader that stands where these numbers of record 7 have come, 7:10, 7:20, 7:90 and 7:95, then `heads` heads of
-    /// subfiles, and `taken` octets of the object. `begun` is the count of a begun subfile, and how many octets of it are still
-    /// to come. The object has not ended. None exactly where no tokens lead there.
+    /// Creates a reader in the state after these numbers of 7:10, 7:20, 7:90 and 7:95, then `heads`
+    /// heads of subfiles, and `taken` octets of the object. `begun` is the count of the subfile in
+    /// progress, and the number of its octets that remain. The object has not ended. Returns `None`
+    /// exactly if no tokens reach that state.
     pub fn at(
         numbers: [Option<u64>; 4],
         taken: u64,
@@ -66,14 +68,14 @@ impl ObjectReader {
         Some(ObjectReader { state })
     }
 
-    /// Whether a call was refused.
+    /// Checks whether a call returned an error.
     pub fn is_failed(&self) -> bool
         ensures { result ≡ is_none self.now }
     {
         self.state.is_none()
     }
 
-    /// Takes the state out: until one is put in again, the reader has failed.
+    /// Takes the state out. The reader has failed until a state is stored again.
     fn take_state(&mut self) -> State
         requires { IsSome self.old }
         ensures seen { self.old ≡ Some result }
@@ -83,8 +85,11 @@ impl ObjectReader {
         self.state.take().unwrap()
     }
 
-    /// Takes the number of a complete value: of dataset 7:`set`, or of 9:10, the confirmed size. The reader has not
-    /// failed; after a refusal it has.
+    /// Accepts the number of a complete value: of dataset 7:`set`, or of 9:10, the confirmed size.
+    /// The reader must not have failed.
+    ///
+    /// **Errors:** the cause for which the tokens are no longer a viable prefix. The reader has
+    /// then failed.
     #[inline(always)]
     pub fn value(&mut self, rec: u8, set: u8, number: u64) -> Result<(), ObjectFault>
         requires { IsSome self.old }
@@ -103,7 +108,8 @@ impl ObjectReader {
         Ok(())
     }
 
-    /// Whether a number of dataset 7:`set` may come, and the object layer lives with it. The reader has not failed.
+    /// Checks whether a number of dataset 7:`set` may come next, and the tokens with it are a
+    /// viable prefix. The reader must not have failed.
     #[inline(always)]
     pub fn accepts_number(&self, set: u8, number: u64) -> bool
         requires { IsSome self.now }
@@ -116,7 +122,7 @@ impl ObjectReader {
         }
     }
 
-    /// Takes a number of dataset 7:`set` that the reader accepts.
+    /// Accepts a number of dataset 7:`set` for which `accepts_number` returns true.
     #[inline(always)]
     pub fn put_number(&mut self, set: u8, number: u64)
         requires takes_calls { IsSome self.old }
@@ -130,8 +136,8 @@ impl ObjectReader {
         }
     }
 
-    /// Whether the head of a subfile of `count` octets may come, not one too many, and the object layer lives with it. The reader has
-    /// not failed.
+    /// Checks whether the head of a subfile of `count` octets may come next, is not one too many,
+    /// and the tokens with it are a viable prefix. The reader must not have failed.
     #[inline(always)]
     pub fn accepts_subfile(&self, count: u64) -> bool
         requires { IsSome self.now }
@@ -145,7 +151,7 @@ impl ObjectReader {
         }
     }
 
-    /// Takes the head of a subfile of `count` octets that the reader accepts.
+    /// Accepts the head of a subfile of `count` octets for which `accepts_subfile` returns true.
     #[inline(always)]
     pub fn put_subfile(&mut self, count: u64)
         requires takes_calls { IsSome self.old }
@@ -159,8 +165,9 @@ impl ObjectReader {
         }
     }
 
-    /// Whether the object layer lives with the end of the object and this number of 9:10 after it, the confirmed size: then both lead
-    /// the reader to where it is. It has not failed.
+    /// Checks whether the object may end with this number of 9:10, the confirmed size: whether the
+    /// tokens with both are a viable prefix. Both leave the state of the reader as it is. The
+    /// reader must not have failed.
     #[inline(always)]
     pub fn may_end(&self, number: u64) -> bool
         requires { IsSome self.now }
@@ -173,8 +180,12 @@ impl ObjectReader {
         }
     }
 
-    /// Takes a complete head: of a subfile, 8:10, with `count` octets; or of 9:10, where the object ends and the sink is
-    /// told so. The reader has not failed, and the sink takes calls; after a refusal the reader has failed.
+    /// Accepts a complete head: of a subfile, 8:10, with `count` octets; or of 9:10, which ends the
+    /// object and notifies the sink. The number `_set` is not needed, since records 8 and 9 have
+    /// one dataset each. The reader must not have failed, and the sink must accept calls.
+    ///
+    /// **Errors:** the cause for which the tokens are no longer a viable prefix, or the sink
+    /// stopped. The reader has then failed.
     #[inline(always)]
     pub fn head<S: ObjectSink>(
         &mut self,
@@ -210,7 +221,7 @@ impl ObjectReader {
         }
     }
 
-    /// Takes the end of the object.
+    /// Accepts the end of the object.
     #[inline(always)]
     fn end<S: ObjectSink>(&mut self, sink: &mut S) -> Result<(), ObjectFault>
         requires takes_calls { IsSome self.old }
@@ -228,8 +239,11 @@ impl ObjectReader {
         Ok(())
     }
 
-    /// Hands octets of the object on to the sink. They are those after the heads of subfiles, in any cut.
-    /// The reader has not failed, and the sink takes calls, afterwards too; after a refusal the reader has failed.
+    /// Passes octets of the object to the sink: those after the heads of subfiles, in any split.
+    /// The reader must not have failed, and the sink must accept calls, which it does afterwards
+    /// too.
+    ///
+    /// **Errors:** the sink stopped. The reader has then failed.
     #[inline(always)]
     pub fn run<S: ObjectSink>(&mut self, run: &[u8], sink: &mut S) -> Result<(), ObjectFault>
         requires takes_calls { IsSome self.old }
@@ -249,7 +263,7 @@ impl ObjectReader {
         }
     }
 
-    /// How many octets the subfiles so far count together. The reader has not failed.
+    /// Returns the total of the counts of the subfiles so far. The reader must not have failed.
     pub fn total(&self) -> u64
         requires { IsSome self.now }
         ensures { (p : Place) → StandsAt self.now p → result ≡ sum p.lengths }
@@ -257,7 +271,7 @@ impl ObjectReader {
         self.state.unwrap().total
     }
 
-    /// How many subfiles came. The reader has not failed.
+    /// Returns the number of subfiles so far. The reader must not have failed.
     pub fn subfiles(&self) -> u64
         requires { IsSome self.now }
         ensures place { (p : Place) → StandsAt self.now p → result ≡ length p.lengths }
@@ -266,7 +280,8 @@ impl ObjectReader {
         self.state.unwrap().subfiles
     }
 
-    /// The numbers of record 7 that have come: of 7:10, 7:20, 7:90 and 7:95. The reader has not failed.
+    /// Returns the numbers of 7:10, 7:20, 7:90 and 7:95, each if it was received. The reader must
+    /// not have failed.
     pub fn numbers(&self) -> [Option<u64>; 4]
         requires { IsSome self.now }
         ensures place { (p : Place) → StandsAt self.now p → result ≡ stated_numbers p.stated }
@@ -275,7 +290,8 @@ impl ObjectReader {
         self.state.unwrap().numbers()
     }
 
-    /// What records 7 to 9 have said of the object, once its size is confirmed. The reader has not failed.
+    /// Returns the sizes that records 7 to 9 state, once 9:10 has confirmed the size. The reader
+    /// must not have failed.
     pub fn sizes(&self) -> Sizes
         requires { IsSome self.now }
         ensures place { (p : Place) (n : ℕ) → StandsAt self.now p → p.ending ≡ ConfirmedAs n → IsSizes p result }

@@ -1,4 +1,4 @@
-//! What records 7 to 9 have told of an object so far.
+//! What records 7 to 9 have stated of an object so far.
 
 ghost use Rattle.std.specs.Prelude.{◌≡◌, ◌↔◌, ◌+◌, ◌^◌, ◌<◌, ◌≤◌, IsTrue, IfSome, is_some};
 ghost use Rattle.iim_dataset.specs.Format.Octets.{greatest_u64};
@@ -17,7 +17,7 @@ const UNKNOWN: u64 = 0;
 /// The size mode of an object whose size is known at the start.
 pub(crate) const KNOWN: u64 = 1;
 
-/// The numbers of record 7, how many subfiles came, and how many octets they count together.
+/// The numbers of record 7, the number of subfiles, and the total of their counts.
 #[derive(Clone, Copy, Debug, PartialEq, Eq)]
 pub(crate) struct State {
     /// 7:10 Size Mode.
@@ -28,13 +28,13 @@ pub(crate) struct State {
     pub announced: Option<u64>,
     /// 7:95 Maximum ObjectData Size.
     pub maximum: Option<u64>,
-    /// How many subfiles came.
+    /// The number of subfiles so far.
     pub subfiles: u64,
-    /// How many octets they count together.
+    /// The total of their counts, in octets.
     pub total: u64,
 }
 
-/// Whether a number is given, and is this one.
+/// Checks whether a number is given and equals `wanted`.
 #[inline(always)]
 pub(crate) fn is_given(number: Option<u64>, wanted: u64) -> bool
     ensures { result ≡ is_given number wanted }
@@ -45,7 +45,7 @@ pub(crate) fn is_given(number: Option<u64>, wanted: u64) -> bool
     }
 }
 
-/// Whether a number, if it is given, lies in these bounds.
+/// Checks whether a number, if it is given, is within these bounds.
 fn is_within(number: Option<u64>, least: u64, most: u64) -> bool
     ensures { IsTrue result ↔ IfSome number (λ n. (least ≤ n) × (n ≤ most)) }
 {
@@ -65,7 +65,7 @@ fn is_above(announced: Option<u64>, maximum: Option<u64>) -> bool
     }
 }
 
-/// The most octets that the object may have.
+/// Returns the greatest number of octets that the object may have.
 #[inline(always)]
 fn bound(announced: Option<u64>, maximum: Option<u64>) -> u64
     ensures { result ≡ bound announced maximum }
@@ -76,7 +76,7 @@ fn bound(announced: Option<u64>, maximum: Option<u64>) -> u64
 }
 
 impl State {
-    /// Where nothing has been read.
+    /// Creates the state at the start of an object.
     pub(crate) fn new() -> State
         ensures { result ≡ state_start }
     {
@@ -90,7 +90,7 @@ impl State {
         }
     }
 
-    /// With these numbers of 7:10, 7:20, 7:90 and 7:95, and no subfile.
+    /// Creates the state after these numbers of 7:10, 7:20, 7:90 and 7:95, and no subfile.
     pub(crate) fn of_numbers(numbers: [Option<u64>; 4]) -> State
         ensures { state_numbers result ≡ numbers }
     {
@@ -104,14 +104,14 @@ impl State {
         }
     }
 
-    /// The numbers of 7:10, 7:20, 7:90 and 7:95.
+    /// Returns the numbers of 7:10, 7:20, 7:90 and 7:95.
     pub(crate) fn numbers(&self) -> [Option<u64>; 4]
         ensures { result ≡ state_numbers self.now }
     {
         [self.mode, self.subfile, self.announced, self.maximum]
     }
 
-    /// Whether the numbers of record 7 are ones that may have come together.
+    /// Checks whether the numbers of record 7 may occur together.
     fn has_numbers(&self) -> bool
         ensures { IsTrue result ↔ HasNumbers self.now }
     {
@@ -122,7 +122,8 @@ impl State {
             && self.number_cause().is_none()
     }
 
-    /// Whether the mode is given, and the size is announced exactly where it is known.
+    /// Checks whether the mode is given, and the size is announced exactly if the mode states that
+    /// it is known.
     fn is_announced_by_mode(&self) -> bool
         ensures { result ≡ is_given self.now.mode (mode_number (is_some self.now.announced)) }
     {
@@ -132,7 +133,7 @@ impl State {
         }
     }
 
-    /// Whether `subfiles` subfiles may have come, and hold `total` octets together.
+    /// Checks whether `subfiles` subfiles may have come, and have `total` octets together.
     fn has_subfiles(&self) -> bool
         requires { HasNumbers self.now }
         ensures { IsTrue result ↔ HasSubfiles self.now }
@@ -146,7 +147,7 @@ impl State {
             && self.total <= bound(self.announced, self.maximum)
     }
 
-    /// Whether some tokens lead to it.
+    /// Checks whether some tokens reach the state.
     pub(crate) fn is_state(&self) -> bool
         ensures { IsTrue result ↔ IsState self.now }
     {
@@ -173,7 +174,7 @@ impl State {
         }
     }
 
-    /// With the number of a dataset of record 7.
+    /// Returns the state with the number of a dataset of record 7.
     #[inline(always)]
     pub(crate) fn with_number(self, set: u8, number: u64) -> State
         ensures { result ≡ state_with self set number }
@@ -194,7 +195,7 @@ impl State {
         self.total += count;
     }
 
-    /// With a subfile of `count` octets.
+    /// Returns the state with one more subfile, of `count` octets.
     #[inline(always)]
     pub(crate) fn with_subfile(self, count: u64) -> State
         requires subfiles { self.subfiles < greatest_u64 }
@@ -206,7 +207,8 @@ impl State {
         new
     }
 
-    /// Whether a number of record 7 may come: no subfile has come, and its row allows the number.
+    /// Checks whether a number of record 7 may come next: no subfile has come, and its row allows
+    /// the number.
     #[inline(always)]
     pub(crate) fn takes_number(&self, set: u8, number: u64) -> bool
         ensures { IsTrue result ↔ TakesNumber self.now set number }
@@ -220,7 +222,8 @@ impl State {
         self.subfiles == 0 && in_row
     }
 
-    /// Whether a subfile may come: mode and largest subfile are given, and one more is not too many.
+    /// Checks whether a subfile may come next: mode and largest subfile are given, and one more is
+    /// not too many.
     #[inline(always)]
     pub(crate) fn takes_subfile(&self) -> bool
         ensures { IsTrue result ↔ TakesSubfile self.now }
@@ -228,7 +231,7 @@ impl State {
         self.mode.is_some() && self.subfile.is_some() && self.subfiles < MAX_SUBFILES
     }
 
-    /// What is wrong with the numbers of record 7.
+    /// Returns what is wrong with the numbers of record 7.
     #[inline(always)]
     pub(crate) fn number_cause(&self) -> Option<SizeCause>
         ensures { result ≡ number_cause self.now.mode self.now.announced self.now.maximum }
@@ -242,7 +245,7 @@ impl State {
         None
     }
 
-    /// Whether the object has more octets than it may, with `count` more.
+    /// Checks whether the object has more octets than it may, with `count` more.
     #[inline(always)]
     fn is_past(&self, count: u64) -> bool
         ensures { result ≡ is_past (bound self.now.announced self.now.maximum) self.now.total count }
@@ -254,7 +257,7 @@ impl State {
         }
     }
 
-    /// What is wrong with a subfile of `count` octets.
+    /// Returns what is wrong with a subfile of `count` octets.
     #[inline(always)]
     pub(crate) fn subfile_cause(&self, count: u64) -> Option<SizeCause>
         ensures { result ≡ subfile_cause self.now.mode self.now.subfile self.now.announced self.now.maximum
@@ -272,7 +275,7 @@ impl State {
         None
     }
 
-    /// What is wrong with the end of the object.
+    /// Returns what is wrong with the end of the object.
     #[inline(always)]
     pub(crate) fn end_cause(&self) -> Option<SizeCause>
         ensures { result ≡ end_cause self.now.announced self.now.total }
@@ -283,7 +286,7 @@ impl State {
         None
     }
 
-    /// What is wrong with the confirmed size.
+    /// Returns what is wrong with the confirmed size.
     #[inline(always)]
     pub(crate) fn confirmed_cause(&self, number: u64) -> Option<SizeCause>
         ensures { result ≡ confirmed_cause self.now.total number }
@@ -294,7 +297,7 @@ impl State {
         Some(SizeCause::ConfirmedWrong)
     }
 
-    /// Whether a number of record 7 may come, and no number clashes with it.
+    /// Checks whether a number of record 7 may come next, and no number clashes with it.
     #[inline(always)]
     pub(crate) fn accepts_number(&self, set: u8, number: u64) -> bool
         requires { HasNumbers self.now }
@@ -313,7 +316,7 @@ impl State {
         }
     }
 
-    /// Whether a subfile may come, and nothing is wrong with one of `count` octets.
+    /// Checks whether a subfile of `count` octets may come next, and nothing is wrong with it.
     #[inline(always)]
     pub(crate) fn accepts_subfile(&self, count: u64) -> bool
         ensures { IsTrue result ↔ FitsSubfile self.now count }

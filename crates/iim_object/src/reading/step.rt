@@ -1,4 +1,4 @@
-//! How each token leads on.
+//! The state after each token.
 
 ghost use Rattle.std.specs.Prelude.{Some, IfOk, IfErr, OnOk};
 ghost use Rattle.iim_object.specs.Format.Objects.{NumberRead, SubfileBegun, ObjectEnded, Confirmed};
@@ -7,7 +7,7 @@ ghost use Rattle.iim_object.specs.States.Reading.{LeadsOn, LivesWith, Refuses, I
 use crate::reading::fault::SizeCause;
 use crate::reading::state::State;
 
-/// Takes a number of record 7. Where it may not come, it changes nothing.
+/// Returns the state after a number of record 7. If none may come next, it is the same state.
 #[inline(always)]
 pub(crate) fn take_number(state: State, set: u8, number: u64) -> Result<State, SizeCause>
     requires { IsState state }
@@ -25,7 +25,8 @@ pub(crate) fn take_number(state: State, set: u8, number: u64) -> Result<State, S
     }
 }
 
-/// Takes the head of a subfile of `count` octets. Where none may come, it changes nothing.
+/// Returns the state after the head of a subfile of `count` octets. If none may come next, it is
+/// the same state.
 #[inline(always)]
 pub(crate) fn take_subfile(state: State, count: u64) -> Result<State, SizeCause>
     requires { IsState state }
@@ -42,7 +43,7 @@ pub(crate) fn take_subfile(state: State, count: u64) -> Result<State, SizeCause>
     }
 }
 
-/// Takes the end of the object.
+/// Returns the state after the end of the object.
 pub(crate) fn take_end(state: State) -> Result<State, SizeCause>
     requires { IsState state }
     ensures is_state { IfOk result IsState }
@@ -56,7 +57,7 @@ pub(crate) fn take_end(state: State) -> Result<State, SizeCause>
     }
 }
 
-/// Takes the confirmed size.
+/// Returns the state after the confirmed size.
 #[inline(always)]
 pub(crate) fn take_confirmed(state: State, number: u64) -> Result<State, SizeCause>
     requires { IsState state }

@@ -1,4 +1,4 @@
-//! Room for the octets of a subfile.
+//! A buffer for the octets of a subfile.
 
 ghost use Rattle.std.specs.Prelude.{◌≡◌, IfOk};
 ghost use Rattle.iim_object.specs.States.Writing.{room_of};
@@ -8,7 +8,7 @@ use iim_dataset::internals::ReservedOctets;
 use std::alloc::{AllocError, Global};
 use std::marker::Model;
 
-/// Room for the octets of one subfile of a plan. It is seen as the plan.
+/// A buffer for the octets of one subfile of a plan. Contracts see it as the plan.
 #[derive(Drop)]
 pub struct SubfileBuffer {
     pub(crate) plan: Plan,
@@ -24,12 +24,15 @@ impl Model for SubfileBuffer {
 
     ghost view = { λ b. b.plan };
 
-    // Nothing is in it, and it has just the room that the plan asks.
+    // The buffer is empty, and has exactly the capacity that the plan needs.
     ghost invariant = { λ b. (b.octets.items ≡ []) × (b.octets.room ≡ room_of b.plan) };
 }
 
 impl SubfileBuffer {
-    /// Room for the lesser of a subfile and the plan's bound, in octets. An error says that memory was refused.
+    /// Allocates a buffer with capacity for a subfile or for the bound of the plan, whichever is
+    /// less, in octets.
+    ///
+    /// **Errors:** the allocation fails.
     pub fn reserve(alloc: Global, plan: Plan) -> Result<SubfileBuffer, AllocError>
         ensures { IfOk result (λ buffer. buffer ≡ plan) }
     {
@@ -38,7 +41,7 @@ impl SubfileBuffer {
         Ok(SubfileBuffer { plan, octets })
     }
 
-    /// How many octets it has room for: the lesser of a subfile and the plan's bound.
+    /// Returns the capacity in octets: a subfile or the bound of the plan, whichever is less.
     pub fn room(&self) -> usize
         ensures { result ≡ room_of self.now }
     {

@@ -1,4 +1,4 @@
-//! Why a packer refuses a call.
+//! Why a packer rejects a call.
 
 ghost use Rattle.std.specs.Prelude.{◌≡◌, Some};
 ghost use Rattle.iim_object.specs.Format.Causes.{pack_number, pack_name, pack_text, start_text};
@@ -7,34 +7,35 @@ use std::error::Error;
 use std::fmt;
 use std::fmt::{Debug, Display, Formatter};
 
-/// Why a packer refuses a call, each with its number.
+/// Why a packer rejects a call, each with its number.
 #[derive(Clone, Copy, Debug, PartialEq, Eq)]
 pub enum PackCause {
-    /// Memory was refused.
+    /// The allocation failed.
     OutOfMemory = 70,
-    /// The object so far, these octets and the least ending pass the plan's bound.
+    /// The object so far, these octets and the shortest possible ending exceed the bound of the
+    /// plan.
     PastAnnounced = 80,
     /// The object would be below the known size.
     ShortOfAnnounced = 81,
-    /// An octet that may not stand in a line.
+    /// An octet that a line may not have.
     BadTextOctet = 82,
-    /// Octets that may be no trailer.
+    /// Octets that are not a valid trailer.
     BadTrailer = 83,
-    /// The writer failed, took nothing, or was interrupted a million times in a row.
+    /// The writer failed, accepted nothing, or was interrupted a million times in a row.
     Write = 84,
-    /// A call before was answered with `Write`.
+    /// An earlier call returned `Write`.
     Failed = 85,
 }
 
 impl PackCause {
-    /// The number, as it is printed.
+    /// Returns the number of the cause, as it is printed.
     pub fn number(self) -> u8
         ensures { result ≡ pack_number self }
     {
         self as u8
     }
 
-    /// The name, as it is printed.
+    /// Returns the name of the cause, as it is printed.
     pub fn name(self) -> &'static str
         ensures { result.now ≡ pack_name self }
     {
@@ -50,7 +51,7 @@ impl PackCause {
     }
 }
 
-/// The number and the name, as `80 PastAnnounced`.
+/// Writes the number and the name, as `80 PastAnnounced`.
 impl Display for PackCause {
     ghost output = { λ cause. Some (pack_text cause) };
 
@@ -63,14 +64,14 @@ impl Display for PackCause {
 
 impl Error for PackCause {}
 
-/// Nothing was begun, and the writer is handed back.
+/// The writing of an object or envelope did not start. The error returns the writer.
 #[derive(Debug, Drop)]
 pub struct StartFault<W> {
-    /// Why nothing was begun.
+    /// Why it did not start.
     pub cause: PackCause,
-    /// The writer, as it is now.
+    /// The writer, in its present state.
     pub writer: W,
-    /// How many octets are out.
+    /// The number of octets that were written.
     pub written: u64,
 }
 

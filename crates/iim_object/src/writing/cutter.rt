@@ -1,4 +1,4 @@
-//! An object, cut into subfiles as it comes.
+//! Divides an object into subfiles as octets arrive.
 
 ghost use Rattle.std.specs.Prelude.{◌≡◌, ◌+◌, ◌-◌, ◌^◌, ◌<◌, ◌≤◌, [], ◌++◌, length, take, true, false, IfOk, IfErr, OnOk, OnErr, IfSome, IfNone, Err};
 ghost use Rattle.iim_dataset.specs.Format.Datasets.{canonical_dataset};
@@ -16,23 +16,23 @@ use iim_dataset::device_laws::texts_join;
 use iim_dataset::internals::ReservedOctets;
 use iim_tables::records::{CONFIRMED_SIZE, OBJECT, POST_OBJECT, SUBFILE};
 
-/// The octets of an object that are not out, and how many are.
+/// The octets of an object that are not yet written, and the number of those that are.
 #[derive(Drop)]
 pub(crate) struct Cutter<W> {
-    /// How the object is cut.
+    /// How the object is divided.
     pub plan: Plan,
-    /// The octets that are not out.
+    /// The octets that are not yet written.
     pub held: ReservedOctets,
-    /// How many octets of the object are out.
+    /// The number of octets of the object that were written.
     pub sent: u64,
-    /// Where the object goes.
+    /// The target that the object goes to.
     pub output: Output<W>,
     /// Whether a write failed.
     pub failed: bool,
 }
 
 impl<W: Target> Cutter<W> {
-    /// How many octets of the object have come.
+    /// Returns the number of octets of the object that were received.
     pub(crate) fn total(&self) -> u64
         requires { HasRoom self.now }
         ensures { result ≡ total_of (writing_of self.now) }
@@ -40,7 +40,7 @@ impl<W: Target> Cutter<W> {
         self.sent + self.held.len() as u64
     }
 
-    /// Writes the octets that are held as a subfile.
+    /// Writes the buffered octets as a subfile.
     fn flush(&mut self) -> Result<(), PackCause>
         requires room { HasRoom self.old }
         requires unfailed { self.old.failed ≡ false }
@@ -72,7 +72,8 @@ impl<W: Target> Cutter<W> {
         }
     }
 
-    /// Holds octets from the front, as many as the subfile has room for, and answers how many.
+    /// Buffers octets from the start of the slice, as many as the subfile has capacity for, and
+    /// returns their number.
     fn fill(&mut self, rest: &[u8]) -> usize
         requires room { HasRoom self.old }
         requires fits { total_of (writing_of self.old) + length rest.now ≤ most_of self.old.plan }
@@ -88,7 +89,7 @@ impl<W: Target> Cutter<W> {
         taken
     }
 
-    /// Takes octets from the front, one at least, and answers how many.
+    /// Consumes octets from the start of the slice, at least one, and returns their number.
     fn take_front(&mut self, rest: &[u8]) -> Result<usize, PackCause>
         requires { MayTake self.old rest.now }
         ensures room { HasRoom self.new }
@@ -108,7 +109,7 @@ impl<W: Target> Cutter<W> {
         Ok(self.fill(rest))
     }
 
-    /// Why `octets` more octets are refused.
+    /// Returns why `octets` more octets are rejected.
     pub(crate) fn write_cause(&self, octets: usize) -> Option<PackCause>
         requires room { HasRoom self.now }
         requires small { octets < 2 ^ 63 }
@@ -123,7 +124,7 @@ impl<W: Target> Cutter<W> {
         None
     }
 
-    /// Why the object may not end.
+    /// Returns why the object may not end.
     pub(crate) fn finish_cause(&self) -> Option<PackCause>
         requires { HasRoom self.now }
         ensures { result ≡ finish_cause (writing_of self.now) }
@@ -137,7 +138,7 @@ impl<W: Target> Cutter<W> {
         None
     }
 
-    /// As [`crate::SubfileWriter::write`] says.
+    /// Implements [`crate::SubfileWriter::write`].
     pub(crate) fn write(&mut self, octets: &[u8]) -> Result<(), PackCause>
         requires { HasRoom self.old }
         ensures room { HasRoom self.new }
@@ -165,7 +166,7 @@ impl<W: Target> Cutter<W> {
         Ok(())
     }
 
-    /// As [`crate::SubfileWriter::finish`] says.
+    /// Implements [`crate::SubfileWriter::finish`].
     pub(crate) fn finish(&mut self) -> Result<(), PackCause>
         requires { HasRoom self.old }
         ensures room { OnErr result (HasRoom self.new) }

@@ -1,4 +1,4 @@
-//! A target whose octets are counted, and datasets written to it.
+//! A target that counts the octets written, and datasets written to it.
 
 ghost use Rattle.std.specs.Prelude.{◌≡◌, ◌+◌, ◌^◌, ◌<◌, ◌≤◌, length, IfErr, OnOk, OnErr};
 ghost use Rattle.iim_dataset.specs.Format.Datasets.{canonical_dataset, canonical_stream, count_octets, tag_octets};
@@ -15,17 +15,17 @@ use iim_dataset::device_laws::texts_join;
 use iim_dataset::{Target, number_bytes, put_dataset};
 use iim_tables::records::{ANNOUNCED_SIZE, MAX_SUBFILE_SIZE, MAXIMUM_SIZE, PRE_OBJECT, SIZE_MODE};
 
-/// A target, and how many octets are out.
+/// A target, and the number of octets written to it.
 #[derive(Drop)]
 pub(crate) struct Output<W> {
     /// The target.
     pub writer: W,
-    /// How many octets are out.
+    /// The number of octets that were written.
     pub written: u64,
 }
 
 impl<W: Target> Output<W> {
-    /// Writes a dataset in its canonical spelling.
+    /// Writes a dataset in its canonical encoding.
     pub(crate) fn put_dataset(&mut self, rec: u8, set: u8, octets: &[u8]) -> Result<(), PackCause>
         requires room { self.old.written + tag_octets + length octets.now < 2 ^ 64 }
         ensures ok { OnOk result (Puts W.state self.old self.new
@@ -58,7 +58,7 @@ impl<W: Target> Output<W> {
         self.put_dataset(rec, set, octets.as_slice())
     }
 
-    /// Writes 7:90 for a known size, 7:95 for a maximum.
+    /// Writes 7:90 for a known size, 7:95 for a maximum, and nothing otherwise.
     fn put_size(&mut self, size: Size) -> Result<(), PackCause>
         requires fits { limit_of size ≤ greatest_size }
         requires room { self.old.written + tag_octets + count_octets < 2 ^ 64 }
@@ -96,7 +96,7 @@ impl<W: Target> Output<W> {
     }
 }
 
-/// The size mode of a plan: 1 where its size is known.
+/// Returns the size mode of a plan: 1 if its size is known.
 fn mode_of(size: Size) -> u8
     ensures { result ≡ mode_number (is_known size) }
 {

@@ -16,11 +16,13 @@ use iim_dataset::Target;
 use iim_dataset::device_laws::texts_join;
 use std::marker::Model;
 
-/// Writes an object by a plan: record 7, subfiles and record 9. It has no store beside its buffer, and holds at most the
-/// lesser of a subfile and the plan's bound, in octets. No call takes memory: the room was made by [`SubfileBuffer::reserve`].
+/// Writes an object by a plan: record 7, subfiles and record 9. It stores nothing but its buffer,
+/// which holds at most a subfile or the bound of the plan, whichever is less. No call allocates:
+/// [`SubfileBuffer::reserve`] has allocated the buffer.
 ///
-/// What its contracts say holds of every object so far. Contracts see it as its plan, the octets that it holds, how many it has
-/// room for, how many octets of the object are out, how many octets are out in all, whether a write failed, and what it writes to.
+/// Its contracts hold for every object so far. Contracts see it as its plan, the buffered octets,
+/// its capacity, the number of octets of the object that were written, the number of all octets
+/// that were written, whether a write failed, and its target.
 #[derive(Drop)]
 pub struct SubfileWriter<W> {
     cutter: Cutter<W>,
@@ -38,8 +40,10 @@ impl<W> Model for SubfileWriter<W> {
 }
 
 impl<W: Target> SubfileWriter<W> {
-    /// Writes record 7 of the buffer's plan. The object is empty so far. Where the writer fails it is handed back, with as many
-    /// octets of record 7 out as the fault says.
+    /// Writes record 7 of the buffer's plan. The object is empty so far.
+    ///
+    /// **Errors:** the target failed. The fault returns the target, and the number of octets of
+    /// record 7 that were written.
     pub fn start(buffer: SubfileBuffer, writer: W) -> Result<SubfileWriter<W>, StartFault<W>>
         ensures plan { IfOk result (λ w. w.plan ≡ buffer) }
         ensures room { IfOk result (λ w. w.room ≡ room_of buffer) }
@@ -77,11 +81,13 @@ impl<W: Target> SubfileWriter<W> {
         }
     }
 
-    /// Takes octets of the object. A cause is answered where it stands, and then nothing changes: after a failed write, or where
-    /// the object would pass the plan's bound. Else the octets are taken, or a write failed: what is out then begins all that
-    /// the plan's form may be of an object that begins so.
+    /// Writes octets of the object: it buffers them, and writes each subfile that is full.
+    ///
+    /// **Errors:** `Failed` after a failed write, or `PastAnnounced` if the object would exceed the
+    /// bound of the plan; then nothing changes. `Write` if a write fails; what was written is then
+    /// a prefix of what the plan may write of an object that begins with these octets.
     pub fn write(&mut self, octets: &[u8]) -> Result<(), PackCause>
-        // A cause is answered exactly where it stands, and then nothing changes.
+        // An error is returned exactly if its condition holds, and then nothing changes.
         ensures causes { (cause : PackCauseValue) → RefusesOctets self.old (length octets.now) cause
             → (result ≡ Err cause) × (self.new ≡ self.old) }
         ensures only { IfErr result (λ cause. (cause ≡ causes.Write)
@@ -89,35 +95,37 @@ impl<W: Target> SubfileWriter<W> {
         ensures refused { IfSome (write_cause self.old (length octets.now))
             (λ cause. (result ≡ Err cause) × (self.new ≡ self.old)) }
 
-        // Else the octets are taken, or a write failed.
+        // Otherwise the octets are accepted, or a write failed.
         ensures ok { OnOk result (Lengthens W.state self.old self.new octets.now) }
         ensures cause { IfNone (write_cause self.old (length octets.now))
             (IfErr result (λ cause. cause ≡ causes.Write)) }
         ensures broke { IfNone (write_cause self.old (length octets.now))
             (OnErr result (BreaksOff W.state (ContinuesWith self.old.plan octets.now) self.old self.new)) }
 
-        // It asks for no memory.
+        // It does not allocate.
         ensures room { self.new.room ≡ self.old.room }
     {
         self.cutter.write(octets)
     }
 
-    /// Writes the last subfile and record 9, and hands back what was written to. A cause is answered where it stands, and then
-    /// the writer is handed back unchanged: after a failed write, or where the object is below a known size. Where a write
-    /// fails, what is out begins the plan's form of the object.
+    /// Writes the last subfile and record 9, and returns the target.
+    ///
+    /// **Errors:** `Failed` after a failed write, or `ShortOfAnnounced` if the object is below a
+    /// known size; the error returns the writer unchanged. `Write` if a write fails; what was
+    /// written is then a prefix of what the plan writes of the object.
     pub fn finish(self) -> Result<W, (SubfileWriter<W>, PackCause)>
-        // A cause is answered exactly where it stands, and then nothing changes.
+        // An error is returned exactly if its condition holds, and then nothing changes.
         ensures causes { (cause : PackCauseValue) → RefusesEnd self cause → result ≡ Err (self, cause) }
         ensures only { IfErr result (λ refused. (refused.1 ≡ causes.Write) ⊎ RefusesEnd self refused.1) }
         ensures refused { IfSome (finish_cause self) (λ cause. result ≡ Err (self, cause)) }
 
-        // Else the object is out, or a write failed.
+        // Otherwise the object is written, or a write failed.
         ensures ok { IfOk result (λ writer. Finishes W.state self writer) }
         ensures cause { IfNone (finish_cause self) (IfErr result (λ refused. refused.1 ≡ causes.Write)) }
         ensures broke { IfNone (finish_cause self)
             (IfErr result (λ refused. BreaksOff W.state (IsTheWhole self.plan) self refused.0)) }
 
-        // It asks for no memory.
+        // It does not allocate.
         ensures room { IfErr result (λ refused. refused.0.room ≡ self.room) }
     {
         let mut cutter = self.cutter;
@@ -127,8 +135,8 @@ impl<W: Target> SubfileWriter<W> {
         }
     }
 
-    /// How many octets of the object have come: never more than the plan's bound. Those that are held are at most the lesser of a
-    /// subfile and the bound.
+    /// Returns the number of octets of the object that were received, which is at most the bound of
+    /// the plan. At most a subfile or the bound, whichever is less, is buffered.
     pub fn total(&self) -> u64
         ensures total { result ≡ total_of self.now }
         ensures fits { result ≤ most_of self.now.plan }
@@ -137,21 +145,21 @@ impl<W: Target> SubfileWriter<W> {
         self.cutter.total()
     }
 
-    /// Whether a write failed.
+    /// Checks whether a write failed.
     pub fn is_failed(&self) -> bool
         ensures { result ≡ self.now.failed }
     {
         self.cutter.failed
     }
 
-    /// The plan.
+    /// Returns the plan.
     pub fn plan(&self) -> Plan
         ensures { result ≡ self.now.plan }
     {
         self.cutter.plan
     }
 
-    /// How many octets are out.
+    /// Returns the number of octets that were written.
     pub fn written(&self) -> u64
         ensures count { result ≡ self.now.written }
         ensures small { result < most_out }
@@ -159,7 +167,7 @@ impl<W: Target> SubfileWriter<W> {
         self.cutter.output.written
     }
 
-    /// What was written to, as it is.
+    /// Returns the target, in its present state.
     pub fn into_writer(self) -> W
         ensures { result ≡ self.writer }
     {

@@ -3,7 +3,7 @@ use Rattle.iim_object.specs.States.Writing.{plan_octets}
 use Rattle.iim_object.proofs.PlanParts.{plan_length}
 use Rattle.iim_object.proofs.writing.writer.SubfileWriter.start.Goals as goal
 
--- nothing but record 7 is out
+-- Nothing but record 7 was written.
 only_plan : (plan : Plan) → plan_octets plan ≡ octets_out plan []
 only_plan plan = ap canonical_stream (sym (append-nil (plan_datasets plan.subfile plan.size)))
 
