@@ -1,4 +1,4 @@
--- Words that begin in a block, by masks.
+-- Counting the words that begin in a block, by masks.
 use Rattle.std.proofs.Common.{replicate, pow_mono, bit_or, ◌≡◌, ℕ, zero, suc, ◌/◌, drop, ◌+◌, ◌-◌, ◌*◌, ◌^◌, ◌%◌, ◌<◌, ◌≤◌, ◌&&◌, ◌==◌, cond, Bool, true, false, not, List, [], ◌∷◌, ◌++◌, length, map, take, get_or, length-drop, refl, sym, ap, ◌∙◌, arith, bit_and}
 use Rattle.std.specs.List.{slice_range}
 use Rattle.std.specs.Simd.Lanes.{mask_l}
@@ -49,7 +49,7 @@ bits_begun inside (b ∷ xs) = first_bit (is_word_octet b) inside (mask_l (map i
 both_bits : (t : Bool) (w k p : ℕ) → w + k + 1 ≡ p → (cond t 1 0 + 2 * w) + (cond (not t) 1 0 + 2 * k) + 1 ≡ 2 * p
 both_bits t w k p e = grind arith
 
--- each octet is of a word or a blank
+-- Each octet belongs to a word or is a blank.
 whole_mask : (xs : List ℕ) → mask_l (map is_word_octet xs) + mask_l (map is_blank xs) + 1 ≡ 2 ^ length xs
 whole_mask [] = refl
 whole_mask (b ∷ xs) =
@@ -59,7 +59,7 @@ whole_mask (b ∷ xs) =
       two-pow-succ (length xs),
     )
 
--- ---- octets after others
+-- ---- Octets after others.
 
 begun_one : (inside : Bool) (b : ℕ) → begun_with inside b ≤ 1
 begun_one inside b = grind arith
@@ -79,7 +79,7 @@ outside_few inside xs = grind arith
 of_outside : (t : Bool) (n : ℕ) → n ≡ cond t 0 1 → (n == 0) ≡ t
 of_outside t n e = grind (arith, nat_tests)
 
--- what octets and those after them come to, by numbers
+-- The words of octets joined, by the words of each.
 begun_joined : (inside : Bool) (xs ys : List ℕ) → (words_begun inside (xs ++ ys) ≡ words_begun inside xs + words_begun (outside_after inside xs == 0) ys)
     × (outside_after inside (xs ++ ys) ≡ outside_after (outside_after inside xs == 0) ys)
 begun_joined inside xs ys =
@@ -88,7 +88,7 @@ begun_joined inside xs ys =
     let ends = (told-append inside (map LineOctet xs) (map LineOctet ys)).1 in
     rw same (begun_append inside xs ys, ap (λ t. cond t 0 1) (ap (inside_after inside) (map-append LineOctet xs ys) ∙ ends))
 
--- the octets so far and the next block
+-- The octets so far and the next block.
 pub next_begun : (inside : Bool) (run : List ℕ) (at : ℕ)
     → (words_begun inside (take (at + 32) run) ≡ words_begun inside (take at run) + words_begun (outside_after inside (take at run) == 0)
     (slice_range run at (at + 32)))
@@ -97,7 +97,7 @@ next_begun inside run at =
     let n : at + 32 - at ≡ 32 = omega arith in
     rw (take-add at 32 run, n) (begun_joined inside (take at run) (take 32 (drop at run)))
 
--- the octets so far and all others
+-- The octets so far and all others.
 pub rest_begun : (inside : Bool) (run : List ℕ) (at : ℕ)
     → (words_begun inside (take at run) + words_begun (outside_after inside (take at run) == 0) (slice_range run at (length run)) ≡ words_begun inside run)
     × (outside_after (outside_after inside (take at run) == 0) (slice_range run at (length run)) ≡ outside_after inside run)
@@ -106,7 +106,7 @@ rest_begun inside run at =
     let joined = begun_joined inside (take at run) (slice_range run at (length run)) in
     (sym joined.0 ∙ ap (words_begun inside) all, sym joined.1 ∙ ap (outside_after inside) all)
 
--- the count of words after them
+-- The counter of words after the octets.
 pub outside_count : (old : WordsSoFar) (xs : List ℕ) (begun after words : ℕ) → begun ≡ words_begun old.inside xs → after ≡ outside_after old.inside xs
     → words ≡ capped (old.words + begun)
     → CountsWords old (map LineOctet xs) (record { words = words; inside = after == 0 })
@@ -115,12 +115,12 @@ outside_count old xs begun after words are ends is = record {
   inside = of_outside (inside_after old.inside (map LineOctet xs)) after ends;
 }
 
--- ---- the mask of SP and TAB of a block
+-- ---- The mask of SP and TAB of a block.
 
 abbrev lane : ℕ → ℕ
 lane b = bit_or (cond (b == 32) 255 0) (cond (b == 9) 255 0)
 
--- the top bit of a lane
+-- The top bit of a lane.
 lane_blank : (b : ℕ) → top 7 (lane b) ≡ is_blank b
 lane_blank b = grind (arith, nat_tests)
 
@@ -134,12 +134,13 @@ blank_lanes xs n long few =
     ∙ (ap (λ l. mask_l l % 2 ^ 64) (map-map (top 7) lane xs ∙ λ i. map (λ b. lane_blank b i) xs)
     ∙ mask_l-mod (map is_blank xs) 64 (omega (arith, length-map xs is_blank, long, few)))
 
--- ---- the masks of the first octets and of the last
+-- ---- The masks of the first octets and of the last.
 
 last_block : (xs : List ℕ) (n : ℕ) → n ≤ length xs → take n (slice_range xs (length xs - n) (length xs)) ≡ drop (length xs - n) xs
 last_block xs n some = ap (take n) (take_rest xs (length xs - n)) ∙ take_all n (drop (length xs - n) xs) (omega (arith, length-drop (length xs - n) xs))
 
--- by the first n octets and by the last n, which may overlap them
+-- The mask of the first n octets and that of the last n, which may overlap them, are the mask of
+-- all.
 pub mask_overlap : (p : ℕ → Bool) (n : ℕ) (xs : List ℕ) → n ≤ length xs → length xs ≤ n + n → (first last : ℕ) → first ≡ mask_l (map p (take n xs))
     → last ≡ mask_l (map p (take n (slice_range xs (length xs - n) (length xs)))) → first + last / 2 ^ (n + n - length xs) * 2 ^ n ≡ mask_l (map p xs)
 mask_overlap p n xs some few first last is ends =
@@ -154,12 +155,12 @@ mask_overlap p n xs some few first last is ends =
     ap (λ (zs : List ℕ). mask_l (map p zs)) (sym (take-append-drop n xs)) ∙ mask_join p (take n xs) (drop n xs) in
     rw (high, all, length-take-le n xs some, is) refl
 
--- the last octet tells whether they end inside a word
+-- The last octet determines whether the octets end inside a word.
 outside_last : (inside : Bool) (xs : List ℕ) (b : ℕ) → outside_after inside (xs ++ b ∷ []) ≡ mask_l (map is_blank (b ∷ []))
 outside_last inside [] b = grind arith
 outside_last inside (x ∷ xs) b = outside_last (is_word_octet x) xs b
 
--- so does the highest digit of the mask of the last octets
+-- The highest bit of the mask of the last octets determines whether they end inside a word.
 pub top_outside : (inside : Bool) (m : ℕ) (xs : List ℕ) → m + 1 ≤ length xs → (last : ℕ)
     → last ≡ mask_l (map is_blank (take (m + 1) (slice_range xs (length xs - (m + 1)) (length xs)))) → last / 2 ^ m ≡ outside_after inside xs
 top_outside inside m xs some last ends =
@@ -173,7 +174,7 @@ top_outside inside m xs some last ends =
     ∙ sym (outside_last inside (take n xs) (get_or xs n 0))
     ∙ ap (outside_after inside) (ap (λ (zs : List ℕ). take n xs ++ zs) (sym one) ∙ take-append-drop n xs)
 
--- ---- the words that begin in fewer than 64 octets
+-- ---- The words that begin in fewer than 64 octets.
 
 -- octets of one word
 abbrev more_word : ℕ → List ℕ
@@ -190,7 +191,7 @@ none_begins (suc k) = omega (arith, none_begins k)
 one_begins : (t : Bool) (k : ℕ) → words_begun t (more_word (suc k)) ≡ cond t 0 1
 one_begins t k = grind (arith, none_begins k)
 
--- all 64 digits count one more, where the last octet is a blank
+-- The 64 bits count one word more if the last octet is a blank.
 begun_short : (inside : Bool) (xs : List ℕ) → length xs < 64
     → count_ones (bit_and (18446744073709551615 - mask_l (map is_blank xs)) (mask_l (map is_blank xs) * 2 + cond inside 0 1)) ≡ words_begun inside xs
     + outside_after inside xs
@@ -209,7 +210,7 @@ begun_short inside xs few =
 one_bit : (n : ℕ) → n ≤ 1 → n ≡ cond (n == 0) 0 1
 one_bit n le = grind (arith, nat_tests)
 
--- the same where a number says whether they end inside a word
+-- The 64 bits count one word more if a number states that the octets do not end inside a word.
 pub begun_by_mask : (before : ℕ) (xs : List ℕ) → before ≤ 1 → length xs < 64
     → outside_after (before == 0) xs + words_begun (before == 0) xs ≡ count_ones
     (bit_and (18446744073709551615 - mask_l (map is_blank xs)) (mask_l (map is_blank xs) * 2 + before))
@@ -224,7 +225,7 @@ blanks_small xs few =
     let long : length (map is_blank xs) ≡ length xs = length-map xs is_blank in
     omega (arith, mask_l-lt (map is_blank xs), ap (λ n. 2 ^ n) long, pow_mono short)
 
--- the first sixteen octets and the last sixteen
+-- The first sixteen octets and the last sixteen.
 pub few_overlap : (xs : List ℕ) (first last : ℕ) → 16 ≤ length xs → length xs ≤ 32 → first ≡ mask_l (map is_blank (take 16 xs))
     → last ≡ mask_l (map is_blank (take 16 (slice_range xs (length xs - 16) (length xs))))
     → first + last / 2 ^ (32 - length xs) * 65536 ≡ mask_l (map is_blank xs)
@@ -234,7 +235,7 @@ pub few_outside : (inside : Bool) (xs : List ℕ) → 16 ≤ length xs
     → mask_l (map is_blank (take 16 (slice_range xs (length xs - 16) (length xs)))) / 32768 ≡ outside_after inside xs
 few_outside inside xs some = top_outside inside 15 xs some _ refl
 
--- the first thirty-two octets and the last thirty-two
+-- The first thirty-two octets and the last thirty-two.
 pub more_overlap : (xs : List ℕ) (first last : ℕ) → 32 ≤ length xs → length xs ≤ 64 → first ≡ mask_l (map is_blank (take 32 xs))
     → last ≡ mask_l (map is_blank (take 32 (slice_range xs (length xs - 32) (length xs))))
     → first + last / 2 ^ (64 - length xs) * 4294967296 ≡ mask_l (map is_blank xs)

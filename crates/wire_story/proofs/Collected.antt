@@ -1,4 +1,4 @@
--- Lines that are kept joined by LF grow as they are told.
+-- Lines that are stored joined by LF grow with the events.
 use Rattle.std.proofs.Common.{◌≡◌, ℕ, ◌+◌, ◌<◌, ◌≤◌, true, false, ◌==◌, List, [], ◌∷◌, ◌++◌, length, take, drop, cond, map, count_by, IsTrue, inl, inr, refl, sym, ap, subst, ◌∙◌, arith, append-nil, append_assoc, length-append}
 use Rattle.std.proofs.lemmas.List.{take_rest, drop-drop}
 use Rattle.std.proofs.lemmas.List.Sums.{sum_by-take-drop, count_by-le-length}
@@ -13,7 +13,7 @@ use Rattle.wire_story.proofs.{Spans.Are-head, Spans.Are-tail, Spans.Are-append, 
 use Rattle.wire_story.proofs.Told.{delivered_lines, delivered_so_far}
 use Rattle.std.proofs.lemmas.Option.{same_Some}
 
--- ---- the lines that are kept
+-- ---- The lines that are stored.
 
 pub some_line : (octets : List ℕ) → 0 < length (lines_in octets)
 some_line octets = omega (arith, length-slice_split (λ b. b == 10) octets)
@@ -31,7 +31,7 @@ first_end : (x : ℕ) (parts : List (List ℕ)) → 0 < length parts → onto_fi
 first_end x [] some = absurd (omega (arith, some))
 first_end x (part ∷ parts) some = refl
 
--- what one more octet does to the lines, it does to those of longer octets
+-- What one more octet does to the lines does not depend on the octets before the last line.
 push_by : (f : List (List ℕ) → List (List ℕ)) (b : ℕ) → ((parts : List (List ℕ)) → 0 < length parts → [] ∷ f parts ≡ f ([] ∷ parts))
     → ((x : ℕ) (parts : List (List ℕ)) → 0 < length parts → onto_first x (f parts) ≡ f (onto_first x parts)) → lines_in (b ∷ []) ≡ f ([] ∷ [])
     → (xs : List ℕ) → lines_in (xs ++ b ∷ []) ≡ f (lines_in xs)
@@ -47,11 +47,11 @@ push_by f b empty first one (x ∷ xs) =
           ∙ first x (lines_in xs) (some_line xs) ∙ ap f (sym (slice_split-cons_no (λ b. b == 10) x xs e))
     ]
 
--- an octet of a line goes to the end of the last line
+-- An octet of a line is appended to the last line.
 push_octet : (xs : List ℕ) (b : ℕ) → (b == 10) ≡ false → lines_in (xs ++ b ∷ []) ≡ add_octet (lines_in xs) b
 push_octet xs b n = push_by (λ lines. add_octet lines b) b (empty_more b) (λ x. first_more x b) (slice_split-cons_no (λ b. b == 10) b [] n) xs
 
--- an LF begins an empty line
+-- An LF begins an empty line.
 pub push_end : (xs : List ℕ) → lines_in (xs ++ 10 ∷ []) ≡ lines_in xs ++ [] ∷ []
 push_end xs = push_by (λ lines. lines ++ [] ∷ []) 10 (λ parts some. refl) first_end refl xs
 
@@ -63,7 +63,7 @@ push_run octets (b ∷ bs) l =
     ∙ (push_run (octets ++ b ∷ []) bs (Are-tail is_line_octet b bs l)
     ∙ ap (λ (lines : List (List ℕ)). collect lines (map LineOctet bs)) (push_octet octets b octet))
 
--- ---- that they make a text
+-- ---- The lines make a text.
 
 abbrev pub EachLine : List (List ℕ) → Type 0
 EachLine lines = IsTrue (list_all (list_all is_line_octet) lines)
@@ -82,7 +82,7 @@ octet_some [] b = omega arith
 octet_some (line ∷ []) b = omega arith
 octet_some (line ∷ next ∷ lines) b = omega arith
 
--- what is collected of events
+-- Lines collected from events make a text.
 pub collected_made : (lines : List (List ℕ)) (events : List StoryEvent) → AreEvents events → MakeText lines → MakeText (collect lines events)
 collected_made lines [] h made = made
 collected_made lines (LineOctet b ∷ events) h made = collected_made (add_octet lines b) events h.1 (octet_some lines b, octet_made lines b h.0 made.1)
@@ -102,7 +102,7 @@ text_made octets run l h = subst MakeText (sym (push_run octets run l)) (collect
 pub end_made : (octets : List ℕ) → MakeText (lines_in octets) → MakeText (lines_in (octets ++ 10 ∷ []))
 end_made octets h = subst MakeText (sym (push_end octets)) (collected_made (lines_in octets) (LineEnd ∷ []) (tt, tt) h)
 
--- ---- what is collected of a text
+-- ---- The lines collected from a text.
 
 pub add_last : (front : List (List ℕ)) (line : List ℕ) (b : ℕ) → add_octet (front ++ line ∷ []) b ≡ front ++ (line ++ b ∷ []) ∷ []
 add_last [] line b = refl
@@ -127,18 +127,18 @@ pub text_collected : (x : List ℕ) (lines : List (List ℕ)) → IsText x lines
 text_collected x [] h = absurd h
 text_collected x (line ∷ lines) h = ap (collect ([] ∷ [])) (delivered_lines x (line ∷ lines) h) ∙ lines_collected [] line lines
 
--- the same of a text so far
+-- The lines collected from a text so far.
 pub so_far_collected : (x : List ℕ) (lines : List (List ℕ)) (line : List ℕ) (held : ℕ) → IsTextSoFar x lines line held
     → collect ([] ∷ []) (delivered x) ≡ lines ++ line ∷ []
 so_far_collected x [] line held h = ap (collect ([] ∷ [])) (delivered_so_far x [] line held h) ∙ lines_collected [] line []
 so_far_collected x (f ∷ fs) line held h = ap (collect ([] ∷ [])) (delivered_so_far x (f ∷ fs) line held h) ∙ lines_collected [] f (fs ++ line ∷ [])
 
--- ---- that octets are lines in one way at most: as they are collected
+-- ---- Octets are lines in at most one way: as they are collected.
 
 pub one_text : TextsHaveOneReading
 one_text x lines others h k = sym (text_collected x lines h) ∙ text_collected x others k
 
--- a last line is determined, and those before it
+-- The last line is determined, and so are those before it.
 last_is : (xs ys : List (List ℕ)) (a b : List ℕ) → xs ++ a ∷ [] ≡ ys ++ b ∷ [] → (xs ≡ ys) × (a ≡ b)
 last_is [] [] a b e = (refl, cc)
 last_is [] (y ∷ ys) a b e = absurd (omega (arith, ap length e, length-append ys (b ∷ [])))
@@ -154,7 +154,7 @@ one_text_so_far x lines others line other held returns h k =
     let s = last_is lines others line other (sym (so_far_collected x lines line held h) ∙ so_far_collected x others other returns k) in
     (s.0, s.1, same_Some held returns (sym (held_is x lines line held h) ∙ held_is x others other returns k))
 
--- ---- how long they are where they are packed
+-- ---- The length of packed lines.
 
 packed_more : (lines : List (List ℕ)) → 0 < length lines → length (packed_text lines) + 1 ≡ length (join_with_byte 10 lines) + length lines
 packed_more [] some = absurd (omega (arith, some))
@@ -168,9 +168,9 @@ pub packed_len : (octets : List ℕ) → length (packed_text (lines_in octets)) 
 packed_len octets =
     omega (arith, packed_more (lines_in octets) (some_line octets), ap length (join_with_byte-slice_split 10 octets), length-slice_split (λ b. b == 10) octets)
 
--- ---- how many of them are LF
+-- ---- The number of LF.
 
--- of the next block, and of what follows it
+-- The LF of the next block, and of what follows it.
 pub next_feeds : (xs : List ℕ) (at : ℕ)
     → count_by (λ b. b == 10) (take 16 (slice_range xs at (length xs))) + count_by (λ b. b == 10) (drop (at + 16) xs) ≡ count_by (λ b. b == 10) (drop at xs)
 next_feeds xs at =
@@ -178,7 +178,7 @@ next_feeds xs at =
     ∙ ap (λ (ys : List ℕ). count_by (λ b. b == 10) (take 16 (drop at xs)) + count_by (λ b. b == 10) ys) (sym (drop-drop 16 at xs))
     ∙ sum_by-take-drop (λ b. cond (b == 10) 1 0) (drop at xs) 16
 
--- of all that is left
+-- The LF of all that remains.
 pub rest_feeds : (xs : List ℕ) (at : ℕ) → count_by (λ b. b == 10) (slice_range xs at (length xs)) ≡ count_by (λ b. b == 10) (drop at xs)
 rest_feeds xs at = ap (count_by (λ b. b == 10)) (take_rest xs at)
 

@@ -1,4 +1,4 @@
--- What is taken of a piece, front after front, and what is refused of it.
+-- What is consumed of a chunk, prefix after prefix, and what is rejected of it.
 use Rattle.std.proofs.Common.{◌≡◌, ◌≢◌, ℕ, false, zero, suc, ◌+◌, ◌-◌, ◌<◌, ◌≤◌, List, [], ◌∷◌, ◌++◌, length, take, drop, slice_index, Option, Some, refl, subst, sym, ap, ◌∙◌, arith, length-drop}
 use Rattle.std.proofs.lemmas.List.{take_rest, drop-drop, take-append-drop}
 use Rattle.std.specs.List.{slice_range}
@@ -12,15 +12,15 @@ use Rattle.wire_story.specs.declared.fault.TextFault.{TextFault}
 use Rattle.wire_story.proofs.{HeldReturns.held_returns, Told.delivered_front, Told.delivered_end}
 use Rattle.wire_story.proofs.Pieces.{leads_on, leads_on_front, refuses_front, refuses_told, refuses_lone, refuses_control}
 
--- events and then others lead where all of them joined lead
+-- Events after other events are the same as all of them joined.
 abbrev pub Joins : {S : Type 0} → (S → List StoryEvent → S → Type 0) → Type 0
 Joins {S} goes = (a b c : S) (xs ys : List StoryEvent) → goes a xs b → goes b ys c → goes a (xs ++ ys) c
 
--- a line end stands before what follows it
+-- A line end precedes what follows it.
 end_first : (rest : List ℕ) (end : ℕ) → StartsLineEnd rest end → line_end (end - 1) ++ drop end rest ≡ rest
 end_first rest end h = ap (λ (xs : List ℕ). xs ++ drop end rest) (sym h.is) ∙ take-append-drop end rest
 
--- an LF, and CR LF
+-- An LF, and CR LF, come first.
 pub feed_first : {rest : List ℕ} → 0 < length rest → slice_index rest 0 ≡ 10 → StartsLineEnd rest 1
 feed_first {rest = []} some first = absurd (omega (arith, some))
 feed_first {rest = x ∷ more} some first = record { some = omega arith; few = omega arith; within = omega arith; is = rw first refl }
@@ -31,9 +31,9 @@ both_first {rest = x ∷ []} two first second = absurd (omega (arith, two))
 both_first {rest = x ∷ y ∷ more} two first second = record { some = omega arith; few = omega arith; within = omega arith; is = rw (first, second) refl }
 
 module _ {S : Type 0} {goes : S → List StoryEvent → S → Type 0} {failures : S → ℕ} where
-  -- ---- a front, and then more
+  -- ---- A prefix, and then more.
 
-  -- a front was taken, and then one of what is left
+  -- A prefix was consumed, and then one of what remains.
   pub takes_both : Joins goes → (piece : List ℕ) (i k : ℕ) {old mid new : Option ℕ} {a b c : S} → TakesPiece goes failures old (take i piece) mid a b
       → TakesPiece goes failures mid (take k (slice_range piece i (length piece))) new b c → TakesPiece goes failures old (take (i + k) piece) new a c
   takes_both joined piece i k {old = old} {mid = mid} {new = new} {a = a} {b = b} {c = c} first then = record {
@@ -42,7 +42,7 @@ module _ {S : Type 0} {goes : S → List StoryEvent → S → Type 0} {failures 
     calm = then.calm ∙ first.calm;
   }
 
-  -- a front was taken, and then an octet of what is left was refused
+  -- A prefix was consumed, and then an octet of what remains was rejected.
   pub refuses_later : Joins goes → (piece : List ℕ) (i : ℕ) {old mid : Option ℕ} {fault : TextFault} {a b c : S}
       → TakesPiece goes failures old (take i piece) mid a b
       → RefusesOne goes failures mid (slice_range piece i (length piece)) fault b c → RefusesOne goes failures old piece (record {
@@ -56,9 +56,9 @@ module _ {S : Type 0} {goes : S → List StoryEvent → S → Type 0} {failures 
     counted = subst (λ (n : ℕ). CountsCause n (failures c) fault.cause) first.calm then.counted;
   }
 
-  -- ---- a line end
+  -- ---- A line end.
 
-  -- the sink was told it
+  -- The sink received a line end.
   pub end_taken : {held : ℕ} {rest : List ℕ} {end : ℕ} {a b : S} → StartsLineEnd rest end → held + end ≤ 3 → goes a (LineEnd ∷ []) b → failures b ≡ failures a
       → TakesPiece goes failures (Some held) (take end rest) (Some 0) a b
   end_taken {held = held} {end = end} h few told calm = rw h.is (record {
@@ -67,7 +67,7 @@ module _ {S : Type 0} {goes : S → List StoryEvent → S → Type 0} {failures 
     calm = calm;
   })
 
-  -- the sink refused it
+  -- The sink rejected a line end.
   pub end_refused : {held : ℕ} {rest : List ℕ} {end : ℕ} {a b : S} → StartsLineEnd rest end → held + end ≤ 3 → goes a [] b → Rose (failures a) (failures b)
       → RefusesOne goes failures (Some held) rest (record { taken = end - 1; cause = Sink }) a b
   end_refused {end = zero} h few told counted = absurd (omega (arith, h.some))
@@ -89,16 +89,16 @@ module _ {S : Type 0} {goes : S → List StoryEvent → S → Type 0} {failures 
       })
   end_refused {end = suc (suc (suc n))} h few told counted = absurd (omega (arith, h.few))
 
-  -- ---- an octet that the sink is not told
+  -- ---- An octet that gives no event.
 
-  -- one more CR
+  -- One more CR is pending.
   pub return_taken : (rest : List ℕ) {held : ℕ} {a : S} → 0 < length rest → slice_index rest 0 ≡ 13 → held < 2 → goes a [] a
       → TakesPiece goes failures (Some held) (take 1 rest) (Some (held + 1)) a a
   return_taken [] some first few none = absurd (omega (arith, some))
   return_taken (x ∷ rest) {held = held} some first few none =
       rw first (record { leads_on = leads_on held (13 ∷ []) (held + 1) (held_returns held 1 [] (omega (arith, few))); told = none; calm = refl })
 
-  -- after CR, and no LF
+  -- After CR, an octet other than LF is rejected.
   pub lone_refused : {held : ℕ} {rest : List ℕ} {a : S} → 0 < length rest → 0 < held → slice_index rest 0 ≢ 10 → (slice_index rest 0 ≡ 13 → held ≡ 2)
       → goes a [] a
       → RefusesOne goes failures (Some held) rest (record { taken = 0; cause = LoneReturn }) a a
@@ -109,7 +109,7 @@ module _ {S : Type 0} {goes : S → List StoryEvent → S → Type 0} {failures 
     counted = refl;
   }
 
-  -- a control octet
+  -- A control octet is rejected.
   pub control_refused : {rest : List ℕ} {a : S} → 0 < length rest → slice_index rest 0 < 256 → slice_index rest 0 ≢ 10 → slice_index rest 0 ≢ 13
       → is_line_octet (slice_index rest 0) ≡ false → goes a [] a → RefusesOne goes failures (Some 0) rest (record { taken = 0; cause = ControlOctet }) a a
   control_refused {rest = rest} some fits feed return other none = record {

@@ -1,11 +1,13 @@
--- A text so far is read octet by octet: what it leaves is the number of CR held, or nothing where no text begins so.
+-- A text so far is read octet by octet: its state is the number of pending CR, or `None` if no text
+-- begins with the octets.
 use Rattle.std.proofs.Common.{◌≡◌, ℕ, zero, suc, ◌+◌, ◌<◌, ◌≤◌, Bool, true, false, ◌&&◌, ◌==◌, nat_lt, List, [], ◌∷◌, ◌++◌, replicate, Option, Some, None, ◌⊎◌, inl, inr, refl, sym, ap, subst, ◌∙◌, arith, append-nil, append_assoc, eqb, option_and_then}
 use Rattle.std.proofs.lemmas.Bool.Decides.{nat_tests}
 use Rattle.std.proofs.lemmas.Bool.{lt-ltb, both_ways, ne_eqb}
 use Rattle.wire_story.specs.Format.Texts.{is_line_octet, IsLine, line_end, IsTextSoFar, Holds}
 use Rattle.wire_story.proofs.Spans.{Are-head, Are-tail, Are-cons}
 
--- an LF holds none; a CR is held, up to two; another octet of a line may stand where none is held
+-- after an LF none is pending; a CR is pending, up to two; another octet of a line may come if none
+-- is pending
 abbrev pub chosen : Bool → Bool → Bool → Bool → ℕ → Option ℕ
 chosen true cr more line held = Some 0
 chosen false true true line held = Some (suc held)
@@ -13,7 +15,7 @@ chosen false true false line held = None
 chosen false false more true held = Some 0
 chosen false false more false held = None
 
--- how many CR are held after the octet
+-- how many CR are pending after the octet
 abbrev pub after_octet : ℕ → ℕ → Option ℕ
 after_octet held b = chosen (b == 10) (b == 13) (nat_lt held 2) (is_line_octet b && (held == 0)) held
 
@@ -25,12 +27,12 @@ later : (f g p : ℕ → Option ℕ) (o : Option ℕ) → ((j : ℕ) → f j ≡
 later f g p None e = refl
 later f g p (Some j) e = e j
 
--- octets are read after those before them
+-- The state after octets, by the state after those before them.
 pub held_append : (h : ℕ) (xs ys : List ℕ) → held_after h (xs ++ ys) ≡ option_and_then (λ j. held_after j ys) (held_after h xs)
 held_append h [] ys = refl
 held_append h (b ∷ bs) ys = later _ _ (λ j. held_after j ys) (after_octet h b) (λ j. held_append j bs ys)
 
--- the octet was LF, or one more CR, or an octet of a line with none held
+-- The octet was LF, or one more CR, or an octet of a line with no CR pending.
 abbrev pub Step : ℕ → ℕ → ℕ → Type 0
 Step held b k = ((b ≡ 10) × (k ≡ 0)) ⊎ (((b ≡ 13) × (held < 2) × (k ≡ suc held)) ⊎ ((is_line_octet b ≡ true) × (held ≡ 0) × (k ≡ 0)))
 
@@ -43,7 +45,7 @@ not_at b c t f = ne_eqb b c (λ e. both_ways (is_line_octet c) f (ap is_line_oct
 pub line_octet_step : (b : ℕ) → is_line_octet b ≡ true → after_octet 0 b ≡ Some 0
 line_octet_step b t = grind (arith, nat_tests)
 
--- ---- from a text so far to what it holds
+-- ---- From a text so far to its pending CR.
 
 pub held_line : (line rest : List ℕ) → IsLine line → held_after 0 (line ++ rest) ≡ held_after 0 rest
 held_line [] rest h = refl
@@ -51,7 +53,7 @@ held_line (b ∷ bs) rest h =
     ap (option_and_then (λ k. held_after k (bs ++ rest))) (line_octet_step b (Are-head is_line_octet b bs h))
     ∙ held_line bs rest (Are-tail is_line_octet b bs h)
 
--- CR that stand after others
+-- CR that follow others.
 pub held_returns : (h k : ℕ) (rest : List ℕ) → h + k ≤ 2 → held_after h (replicate k 13 ++ rest) ≡ held_after (h + k) rest
 held_returns h zero rest few = ap (λ n. held_after n rest) (omega arith)
 held_returns h (suc k) rest few =
@@ -67,7 +69,7 @@ held_is x (first ∷ lines) line k h =
     ap (held_after 0) (h.4 ∙ ap (λ (t : List ℕ). first ++ t) (append_assoc (replicate h.1 13) (10 ∷ []) h.3))
     ∙ held_line first (replicate h.1 13 ++ (10 ∷ h.3)) h.0 ∙ held_returns 0 h.1 (10 ∷ h.3) (omega (arith, h.2)) ∙ held_is h.3 lines line k h.5
 
--- ---- from what is held to a text so far
+-- ---- From pending CR to a text so far.
 
 replicate-more : (h : ℕ) (bs : List ℕ) → replicate h 13 ++ (13 ∷ bs) ≡ 13 ∷ (replicate h 13 ++ bs)
 replicate-more zero bs = refl
@@ -78,7 +80,7 @@ so_far-cons b bs [] line k t h = ([], b ∷ line, (Are-cons is_line_octet b line
 so_far-cons b bs (first ∷ lines) line k t h =
     ((b ∷ first) ∷ lines, line, (Are-cons is_line_octet b first t h.0, h.1, h.2, h.3, ap (λ (x : List ℕ). b ∷ x) h.4, h.5))
 
--- the next octet is read after what is held
+-- The next octet is read in the state after those before it.
 pub and_then_is : (o : Option ℕ) (f : ℕ → Option ℕ) (k : ℕ) → option_and_then f o ≡ Some k → (j : ℕ) × (o ≡ Some j) × (f j ≡ Some k)
 and_then_is None f k e = absurd cc
 and_then_is (Some j) f k e = (j, refl, e)

@@ -1,4 +1,4 @@
--- The story layer is alive exactly where the octets are a text so far.
+-- Octets are a viable prefix of a story exactly if they are a text so far.
 use Rattle.std.proofs.Common.{◌≡◌, ℕ, ◌<◌, ◌≤◌, List, [], ◌∷◌, ◌++◌, map, Some, None, sym, ap, subst, ◌∙◌, arith, append-nil, option_and_then}
 use Rattle.std.proofs.lemmas.Option.{same_Some}
 use Rattle.wire_story.specs.Laws.{OctetsLeadToOnePlace, OctetsLeadOnAlike}
@@ -7,9 +7,9 @@ use Rattle.iim_dataset.specs.Format.Octets.{IsAlive}
 use Rattle.wire_story.proofs.HeldReturns.{held_after, after_octet, held_is, so_far, and_then_is, held_append}
 use Rattle.wire_story.proofs.SoFar.{with_end-append, map_snoc, front_of, end_of}
 
--- ---- texts and texts so far
+-- ---- Texts and texts so far.
 
--- a text is a text so far that holds no CR
+-- A text is a text so far with no pending CR.
 pub so_far_of : (x : List ℕ) (lines : List (List ℕ)) → IsText x lines → Holds x 0
 so_far_of x [] h = absurd h
 so_far_of x (line ∷ []) h = ([], line, (h.0, omega arith, h.1 ∙ sym (append-nil line)))
@@ -22,7 +22,7 @@ text_cons : (x first : List ℕ) (k : ℕ) (rest : List ℕ) (lines : List (List
 text_cons x first k rest [] p le e h = absurd h
 text_cons x first k rest (next ∷ lines) p le e h = (p, k, le, rest, e, h)
 
--- a text so far that holds no CR is a text
+-- A text so far with no pending CR is a text.
 text_of : (x : List ℕ) (lines : List (List ℕ)) (line : List ℕ) → IsTextSoFar x lines line 0 → AreLines x
 text_of x [] line h = (line ∷ [], (h.0, h.2 ∙ append-nil line))
 text_of x (first ∷ lines) line h =
@@ -32,9 +32,9 @@ text_of x (first ∷ lines) line h =
 pub lines_of : (x : List ℕ) → Holds x 0 → AreLines x
 lines_of x h = text_of x h.0 h.1 h.2
 
--- ---- alive and dead
+-- ---- Viable prefixes, and the octets that end them.
 
--- a text so far holds k CR exactly where its octets leave k
+-- A text so far has k pending CR exactly if reading its octets ends with k.
 pub held_of : (x : List ℕ) (k : ℕ) → Holds x k → held_after 0 x ≡ Some k
 held_of x k h = held_is x h.0 h.1 k h.2
 
@@ -44,7 +44,7 @@ holds x k e = so_far 0 x k (omega arith) e
 text_to : (x : List ℕ) (lines : List (List ℕ)) → IsText x lines → held_after 0 x ≡ Some 0
 text_to x lines h = held_of x 0 (so_far_of x lines h)
 
--- what is alive holds some number of CR
+-- A viable prefix has some number of pending CR.
 pub live_held : (x : List ℕ) → LivesWith x → (k : ℕ) × (held_after 0 x ≡ Some k)
 live_held x h =
     let l = h.1 in
@@ -52,13 +52,13 @@ live_held x h =
     let p = and_then_is (held_after 0 x) (λ j. held_after j f.0) 0 (sym (held_append 0 x f.0) ∙ ap (held_after 0) (sym f.1) ∙ text_to l.text l.lines l.lined) in
     (p.0, p.1)
 
--- with an LF it is a text
+-- With an LF a text so far is a text.
 pub live_of : (x : List ℕ) (k : ℕ) → Holds x k → LivesWith x
 live_of x k h =
     let c = lines_of (x ++ 10 ∷ []) (holds (x ++ 10 ∷ []) 0 (held_append 0 x (10 ∷ []) ∙ ap (option_and_then (λ j. held_after j (10 ∷ []))) (held_of x k h))) in
     (with_end (10 ∷ []), record { text = x ++ 10 ∷ []; lines = c.0; lined = c.1; tokens_are = sym (with_end-append x (10 ∷ [])) })
 
--- dead with an octet after which no number is held
+-- With an octet that reading rejects, the octets are no longer a viable prefix.
 pub dies : (x : List ℕ) (k b : ℕ) → Holds x k → after_octet k b ≡ None → StoryDiesAt x (Octet b)
 dies x k b h none = (
   live_of x k h,
@@ -78,7 +78,7 @@ ended_lines x h =
 pub lines_end : (x : List ℕ) → AreLines x → IsAlive StoryLanguage (map Octet x ++ End ∷ [])
 lines_end x h = ([], record { text = x; lines = h.0; lined = h.1; tokens_are = append-nil (with_end x) })
 
--- dead with the end where a CR is held
+-- With the end, octets with a pending CR are not a story.
 pub dies_at_end : (x : List ℕ) (k : ℕ) → Holds x k → 0 < k → StoryDiesAt x End
 dies_at_end x k h some = (
   live_of x k h,
@@ -88,9 +88,9 @@ dies_at_end x k h some = (
       omega (arith, some, none),
 )
 
--- ---- the places of a reader
+-- ---- The states of a reader.
 
--- octets lead to one place, and from one place on alike
+-- Octets determine the state, and the state determines what they reach with more octets.
 pub one_place : OctetsLeadToOnePlace
 one_place octets a b s t = s.1 ∙ sym (held_of octets s.0 s.2) ∙ held_of octets t.0 t.2 ∙ sym t.1
 

@@ -1,4 +1,4 @@
--- Masks of octets, and the octets that they tell of.
+-- Masks of octets, and the octets that they cover.
 use Rattle.std.proofs.Common.{pow_pos, pow_mono, ◌≡◌, ℕ, zero, suc, ◌+◌, ◌-◌, ◌*◌, ◌/◌, ◌^◌, ◌<◌, ◌≤◌, Bool, true, false, not, cond, List, [], ◌∷◌, ◌++◌, ◌≢◌, ◌==◌, inl, inr, refl, length, length-drop, take, drop, map, get_or, get_or-drop, ◌∙◌, ap, sym, subst, arith}
 use Rattle.std.specs.Int.Count.{count_trailing_zeros}
 use Rattle.std.specs.Simd.Lanes.{mask_l}
@@ -13,13 +13,13 @@ use Rattle.std.proofs.lemmas.List.Folds.{list_all_more, prefix_len-append}
 use Rattle.wire_story.specs.{Format.Texts.is_line_octet, Format.Texts.IsLine, Steps.is_low, Steps.AreMarks}
 use Rattle.wire_story.specs.declared.marks.Marks.{Marks}
 
--- ---- masks
+-- ---- Masks.
 
 half : (t : Bool) (n : ℕ) → (cond t 1 0 + 2 * n) / 2 ≡ n
 half true n = omega arith
 half false n = omega arith
 
--- a mask without its lowest digits
+-- A mask without its lowest bits.
 pub mask_drop : (p : ℕ → Bool) (n : ℕ) (xs : List ℕ) → n ≤ length xs → mask_l (map p xs) / 2 ^ n ≡ mask_l (map p (drop n xs))
 mask_drop p zero xs le = div-one (mask_l (map p xs))
 mask_drop p (suc n) [] le = absurd (omega (arith, le))
@@ -28,7 +28,7 @@ mask_drop p (suc n) (x ∷ xs) le =
     ap (λ k. whole / k) (pow-suc 2 n ∙ mul_comm (2 ^ n) 2)
     ∙ (sym (div-div-eq-div-mul whole 2 (2 ^ n)) ∙ (ap (λ k. k / 2 ^ n) (half (p x) (mask_l (map p xs))) ∙ mask_drop p n xs (omega (arith, le))))
 
--- a mask of octets one after another
+-- A mask of octets one after another.
 pub mask_join : (p : ℕ → Bool) (xs ys : List ℕ) → mask_l (map p (xs ++ ys)) ≡ mask_l (map p xs) + mask_l (map p ys) * 2 ^ length xs
 mask_join p [] ys = omega arith
 mask_join p (x ∷ xs) ys =
@@ -36,28 +36,28 @@ mask_join p (x ∷ xs) ys =
     let more : m * 2 ^ length (x ∷ xs) ≡ m * 2 ^ length xs * 2 = ap (λ k. m * k) (pow-suc 2 (length xs)) ∙ sym (mul_assoc m (2 ^ length xs) 2) in
     omega (arith, mask_join p xs ys, more)
 
--- a mask has no digit after those of its octets
+-- A mask has no bit after those of its octets.
 mask_lt : (many : ℕ) (xs : List ℕ) → many ≤ length xs → mask_l (map is_low (take many xs)) < 2 ^ many
 mask_lt many xs le = simp (length-map, length-take-le many xs le) at (mask_l-lt (map is_low (take many xs)))
 
--- the mask of a block of what is left
+-- The mask of a block of what remains.
 pub mask_small : (xs : List ℕ) (at : ℕ) → at + 16 ≤ length xs → mask_l (map is_low (take 16 (slice_range xs at (length xs)))) < 65536
 mask_small xs at room = rw (take_rest xs at) (mask_lt 16 (drop at xs) (omega (arith, length-drop at xs)))
 
--- the octets that a mask tells of, and a low one after them
+-- the octets that a mask covers, and a low one after them
 abbrev ended : ℕ → List ℕ → List ℕ
 ended many xs = take many xs ++ 0 ∷ []
 
 is_ended : (xs : List ℕ) (many : ℕ) → many ≤ length xs → mask_l (map is_low (ended many xs)) ≡ mask_l (map is_low (take many xs)) + 2 ^ many
 is_ended xs many within = omega (arith, mask_join is_low (take many xs) (0 ∷ []), ap (λ n. 2 ^ n) (length-take-le many xs within))
 
--- ---- marks
+-- ---- Marks.
 
--- marks that tell of no octet
+-- A mask that covers no octet.
 pub no_marks : (xs : List ℕ) → AreMarks xs (record { left = 1 })
 no_marks xs = record { many = 0; within = omega arith; few = omega arith; is = refl }
 
--- the marks of the next sixteen octets
+-- the mask of the next sixteen octets
 abbrev pub marks_block : (xs : List ℕ) (at mask : ℕ) → at + 16 ≤ length xs → mask ≡ mask_l (map is_low (take 16 (slice_range xs at (length xs))))
     → AreMarks (drop at xs) (record { left = mask + 65536 })
 marks_block xs at mask room is = record {
@@ -67,11 +67,11 @@ marks_block xs at mask room is = record {
   is = ap (λ n. n + 65536) (is ∙ ap (λ (ys : List ℕ). mask_l (map is_low (take 16 ys))) (take_rest xs at));
 }
 
--- some digit is set
+-- Some bit is set.
 pub some_left : (xs : List ℕ) (m : Marks) (h : AreMarks xs m) → 0 < m.left
 some_left xs m h = omega (arith, h.is, pow_pos h.many)
 
--- where a digit is left they tell of what is before it
+-- If a bit remains, the mask covers what is before it.
 pub tells_used : (xs : List ℕ) (m : Marks) (h : AreMarks xs m) (used : ℕ) → m.left / 2 ^ used ≢ 0 → used ≤ h.many
 tells_used xs m h used more = elim (cases_lt h.many used) [
   | inl less ↦ absurd (more (div-eq_of_lt (omega
@@ -79,7 +79,7 @@ tells_used xs m h used more = elim (cases_lt h.many used) [
   | inr le ↦ le
 ]
 
--- the marks after some of the octets
+-- The mask after some of the octets.
 pub marks_after : (xs : List ℕ) (m : Marks) (h : AreMarks xs m) (s : ℕ) → s ≤ h.many → AreMarks (drop s xs) (record { left = m.left / 2 ^ s })
 marks_after xs m h s le =
     let more = h.many - s in
@@ -103,7 +103,7 @@ marks_after xs m h s le =
 either_way : (n l : ℕ) → cond (n == l) (l + 0) n ≡ n
 either_way n l = grind (arith, nat_tests)
 
--- the lowest digit that is set stands for the first low octet
+-- The lowest bit that is set is that of the first low octet.
 lowest_low : (xs : List ℕ) (m : Marks) (h : AreMarks xs m) → count_trailing_zeros 64 m.left ≡ prefix_len (λ b. not (is_low b)) (take h.many xs)
 lowest_low xs m h =
     let front = take h.many xs in
@@ -114,13 +114,13 @@ lowest_low xs m h =
     ∙ prefix_len-append (λ b. not (is_low b)) front (0 ∷ [])
     ∙ either_way (prefix_len (λ b. not (is_low b)) front) (length front)
 
--- it stands no later than they tell
+-- The lowest bit that is set is no later than the sentinel.
 pub lowest_few : (xs : List ℕ) (m : Marks) (h : AreMarks xs m) → count_trailing_zeros 64 m.left ≤ h.many
 lowest_few xs m h = omega (arith, lowest_low xs m h, prefix_len-le-length (λ b. not (is_low b)) (take h.many xs), length-take-le h.many xs h.within)
 
--- ---- fronts that lie in one line
+-- ---- Prefixes that lie in one line.
 
--- The first `at` octets lie in one line, and the marks tell of what follows.
+-- The first `at` octets lie in one line, and the mask covers what follows.
 pub record CalmTo (xs : List ℕ) (at left : ℕ) : Type 0 where
   pub within : at ≤ length xs
   pub line : IsLine (take at xs)
@@ -129,12 +129,12 @@ pub record CalmTo (xs : List ℕ) (at left : ℕ) : Type 0 where
 calm_octet : (b : ℕ) → b < 256 → not (is_low b) ≡ true → is_line_octet b ≡ true
 calm_octet b fits high = grind (arith, nat_tests)
 
--- an octet that may stand in it continues the line
+-- An octet that a line may have continues the line.
 pub line_more : (xs : List ℕ) (at : ℕ) → at < length xs → IsLine (take at xs) → is_line_octet (get_or xs at 0) ≡ true → IsLine (take (at + 1) xs)
 line_more xs at within front stands = list_all_more is_line_octet xs at 0 within
     ∙ and_from (list_all is_line_octet (take at xs)) (is_line_octet (get_or xs at 0)) front stands
 
--- octets before the first low one continue the line
+-- Octets before the first low one continue the line.
 calm_front : (xs : List ℕ) → ((k : ℕ) → get_or xs k 0 < 256) → (at many n : ℕ) → at + n ≤ length xs → n ≤ many → IsLine (take at xs)
     → n ≤ prefix_len (λ b. not (is_low b)) (take many (drop at xs)) → IsLine (take (at + n) xs)
 calm_front xs fits at many zero le few front pre = subst (λ (m : ℕ). IsLine (take m xs)) (omega arith) front
@@ -144,7 +144,7 @@ calm_front xs fits at many (suc n) le few front pre =
     let before = calm_front xs fits at many n (omega arith) (omega arith) front (omega arith) in
     subst (λ (m : ℕ). IsLine (take m xs)) (omega arith) (line_more xs (at + n) (omega arith) before (calm_octet (get_or xs (at + n) 0) (fits (at + n)) high))
 
--- a mask of no octet
+-- A block with an empty mask continues the line.
 pub calm_block : (xs : List ℕ) → ((k : ℕ) → get_or xs k 0 < 256) → (at : ℕ) → at + 16 ≤ length xs
     → mask_l (map is_low (take 16 (slice_range xs at (length xs)))) ≡ 0
     → IsLine (take at xs) → IsLine (take (at + 16) xs)
@@ -152,7 +152,7 @@ calm_block xs fits at within none front =
     let all = leading_from_mask_l is_low (take 16 (drop at xs)) (ap (λ (ys : List ℕ). mask_l (map is_low (take 16 ys))) (sym (take_rest xs at)) ∙ none) in
     calm_front xs fits at 16 16 within (omega arith) front (omega (arith, all, length-take-le 16 (drop at xs) (omega (arith, within, length-drop at xs))))
 
--- the octets before the lowest digit that is set continue the line
+-- The octets before the lowest bit that is set continue the line.
 pub calm_to : {xs : List ℕ} {at left to s next : ℕ} → ((k : ℕ) → get_or xs k 0 < 256) → CalmTo xs at left → s ≡ count_trailing_zeros 64 left
     → next ≡ left / 2 ^ count_trailing_zeros 64 left → to ≡ at + s → CalmTo xs to next
 calm_to {xs = xs} {at = at} {left = left} {s = s} fits front is digits there =
@@ -167,7 +167,7 @@ calm_to {xs = xs} {at = at} {left = left} {s = s} fits front is digits there =
     } in
     rw (there, digits, ← is) whole
 
--- the same after one octet that continues the line
+-- The octets before the next lowest bit continue the line, after one octet that does.
 pub calm_after : {xs : List ℕ} {at left to s next : ℕ} → ((k : ℕ) → get_or xs k 0 < 256) → CalmTo xs at left → left ≢ 1 → is_line_octet (get_or xs at 0) ≡ true
     → s ≡ count_trailing_zeros 64 (left / 2 ^ 1) → next ≡ left / 2 ^ 1 / 2 ^ count_trailing_zeros 64 (left / 2 ^ 1) → to ≡ at + (1 + s) → CalmTo xs to next
 calm_after {xs = xs} {at = at} {left = left} fits front more stands is digits there =
@@ -181,7 +181,7 @@ calm_after {xs = xs} {at = at} {left = left} fits front more stands is digits th
     } in
     calm_to fits after is digits (omega arith)
 
--- the marks of the last sixteen octets, after those before `at`
+-- The mask of the last sixteen octets, after those before `at`.
 pub marks_last : (xs : List ℕ) (at mask : ℕ) → 16 ≤ length xs → at ≤ length xs → length xs ≤ at + 16
     → mask ≡ mask_l (map is_low (take 16 (slice_range xs (length xs - 16) (length xs))))
     → AreMarks (drop at xs) (record { left = (mask + 65536) / 2 ^ (at - (length xs - 16)) })

@@ -1,4 +1,4 @@
--- Lines are packed as their events, and events as the lines that they are; which lines make a text.
+-- Lines are packed as their events, and events as their lines; which lines make a text.
 use Rattle.std.proofs.Common.{◌≡◌, ℕ, ◌<◌, true, List, [], ◌∷◌, ◌++◌, length, map, refl, sym, ap, ◌∙◌, arith, append-nil, append_assoc, length-append}
 use Rattle.std.specs.List.{list_all, join_with_byte}
 use Rattle.std.proofs.lemmas.Bool.{and_parts, and_from}
@@ -23,7 +23,7 @@ lines_packed (line ∷ next ∷ lines) =
     sym (events_append (map LineOctet line) (LineEnd ∷ events_of_lines (next ∷ lines))
     ∙ (λ i. line_packed line i ++ (line_end 1 ++ sym (lines_packed (next ∷ lines)) i)))
 
--- ---- events
+-- ---- Events.
 
 octet_packed : (lines : List (List ℕ)) (b : ℕ) → 0 < length lines → packed_text (add_octet lines b) ≡ packed_text lines ++ b ∷ []
 octet_packed [] b some = absurd (omega (arith, some))
@@ -53,7 +53,7 @@ collected_packed lines (LineEnd ∷ events) some =
 pub events_packed : EventsArePackedAsLines
 events_packed events h = record { text = collected_packed ([] ∷ []) events (omega arith); make = collected_made ([] ∷ []) events h (omega arith, refl) }
 
--- ---- lines that make a text
+-- ---- Lines that make a text.
 
 pub packed : (lines : List (List ℕ)) → MakeText lines → IsText (packed_text lines) lines
 packed [] h = absurd (omega (arith, h.0))

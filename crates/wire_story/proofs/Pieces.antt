@@ -1,4 +1,4 @@
--- How a piece leads a reader on, and how it is refused.
+-- The state that a chunk reaches, and how an octet of it is rejected.
 use Rattle.std.specs.List.{slice_range}
 use Rattle.std.proofs.lemmas.List.{take_rest, take_more, get_or-take, length-take-le}
 use Rattle.std.proofs.Common.{◌≡◌, ◌≢◌, ℕ, ◌+◌, ◌<◌, true, false, List, [], ◌∷◌, ◌++◌, take, slice_index, Option, Some, refl, sym, ap, subst, ◌∙◌, append-nil, append_assoc, get_or-drop, length, option_and_then, arith}
@@ -12,7 +12,7 @@ use Rattle.wire_story.specs.declared.fault.TextCause.TheVariants.{LoneReturn, Co
 use Rattle.wire_story.proofs.{HeldReturns.held_after, HeldReturns.held_append, HeldReturns.held_line, Living.held_of, Living.holds, Living.live_of, Living.dies}
 use Rattle.wire_story.proofs.{Told.take_front, Spans.Are-at}
 
--- ---- pieces
+-- ---- Chunks.
 
 pub leads_on : (h : ℕ) (piece : List ℕ) (k : ℕ) → held_after h piece ≡ Some k → LeadsOn (Some h) piece (Some k)
 leads_on h piece k e octets w =
@@ -28,7 +28,7 @@ held_in_line run l = ap (held_after 0) (sym (append-nil run)) ∙ held_line run 
 pub leads_on_none : (reader : Option ℕ) → LeadsOn reader [] reader
 leads_on_none reader octets w = subst (StandsAt reader) (sym (append-nil octets)) w
 
--- octets, then a front of a piece, and then one of what is left
+-- Octets, then a prefix of a chunk, and then a prefix of what remains, joined.
 fronts_joined : (octets piece : List ℕ) (i k : ℕ) → (octets ++ take i piece) ++ take k (slice_range piece i (length piece)) ≡ octets ++ take (i + k) piece
 fronts_joined octets piece i k = append_assoc octets (take i piece) (take k (slice_range piece i (length piece)))
     ∙ ap (λ t. octets ++ t) (sym (take_front piece i k))
@@ -37,7 +37,7 @@ pub leads_on_front : (old mid new : Option ℕ) (piece : List ℕ) (i k : ℕ) �
     → LeadsOn mid (take k (slice_range piece i (length piece))) new → LeadsOn old (take (i + k) piece) new
 leads_on_front old mid new piece i k f g octets w = subst (StandsAt new) (fronts_joined octets piece i k) (g (octets ++ take i piece) (f octets w))
 
--- an octet of what is left is refused in the whole
+-- An octet that is rejected in what remains is rejected in the whole chunk.
 pub refuses_front : (old mid : Option ℕ) (piece : List ℕ) (i k : ℕ) (cause : TextCause) → LeadsOn old (take i piece) mid
     → Refuses mid (slice_range piece i (length piece)) (record { taken = k; cause = cause }) → Refuses old piece (record { taken = i + k; cause = cause })
 refuses_front old mid piece i k cause f g octets w =
@@ -45,12 +45,12 @@ refuses_front old mid piece i k cause f g octets w =
     ∙ get_or-drop i piece k 0 in
     rw (← fronts_joined octets piece i k, ← octet) (g (octets ++ take i piece) (f octets w))
 
--- ---- an octet that is refused
+-- ---- A rejected octet.
 
 held_by : (held : ℕ) (octets : List ℕ) → StandsAt (Some held) octets → Holds (octets ++ []) held
 held_by held octets w = subst (λ (t : List ℕ). Holds t held) (sym (append-nil octets)) (subst (Holds octets) (sym (same_Some held w.0 w.1)) w.2)
 
--- after CR, and no LF
+-- After CR, an octet other than LF is rejected.
 pub refuses_lone : (held : ℕ) (rest : List ℕ) → 0 < held → slice_index rest 0 ≢ 10 → (slice_index rest 0 ≡ 13 → held ≡ 2) → Refuses (Some held) rest (record {
   taken = 0;
   cause = LoneReturn;
@@ -59,7 +59,7 @@ refuses_lone held rest some feed returns octets w =
     let h = held_by held octets w in
     (dies (octets ++ []) held (slice_index rest 0) h (grind (arith, nat_tests)), (held, h, (some, feed, returns)))
 
--- a control octet
+-- A control octet is rejected.
 pub refuses_control : (rest : List ℕ) → slice_index rest 0 < 256 → slice_index rest 0 ≢ 10 → slice_index rest 0 ≢ 13
     → is_line_octet (slice_index rest 0) ≡ false
     → Refuses (Some 0) rest (record { taken = 0; cause = ControlOctet })
@@ -67,7 +67,7 @@ refuses_control rest fits feed return other octets w =
     let h = held_by 0 octets w in
     (dies (octets ++ []) 0 (slice_index rest 0) h (grind (arith, nat_tests)), h, (grind (arith, nat_tests), grind (arith, nat_tests)))
 
--- an octet that may follow, and the sink refuses it
+-- An octet that may follow is rejected because the sink rejects its event.
 pub refuses_told : (held : ℕ) (piece : List ℕ) (t k : ℕ) → t < length piece → held_after held (take (t + 1) piece) ≡ Some k → slice_index piece t ≢ 13
     → Refuses (Some held) piece (record { taken = t; cause = Sink })
 refuses_told held piece t k within next other octets w =
@@ -76,7 +76,7 @@ refuses_told held piece t k within next other octets w =
     ap (λ r. octets ++ r) (take_more piece t 0 within) ∙ sym (append_assoc octets (take t piece) (slice_index piece t ∷ [])) in
     (subst LivesWith parts (live_of (octets ++ take (t + 1) piece) more.0 more.2), other)
 
--- an octet of a line
+-- An octet of a line is rejected because the sink rejects it.
 pub refuses_in_line : (piece : List ℕ) (t : ℕ) → t < length piece → IsLine (take (t + 1) piece) → Refuses (Some 0) piece (record { taken = t; cause = Sink })
 refuses_in_line piece t within line =
     let stands : is_line_octet (slice_index piece t) ≡ true =
@@ -84,8 +84,8 @@ refuses_in_line piece t within line =
     ∙ Are-at is_line_octet (take (t + 1) piece) t line (omega (arith, length-take-le (t + 1) piece (omega arith))) in
     refuses_told 0 piece t 0 within (held_in_line (take (t + 1) piece) line) (λ return. true≢false (sym stands ∙ ap is_line_octet return))
 
--- ---- a reader
+-- ---- A reader.
 
--- what a reader that stands somewhere holds
+-- The pending CR of a reader are those of its octets.
 pub stood : (reader : Option ℕ) (held : ℕ) (octets : List ℕ) → reader ≡ Some held → StandsAt reader octets → Holds octets held
 stood reader held octets e w = subst (Holds octets) (sym (same_Some held w.0 (sym e ∙ w.1))) w.2

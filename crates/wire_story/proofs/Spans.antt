@@ -1,4 +1,4 @@
--- What of a list passes a test, up to the first element that doesn't.
+-- The longest prefix of a list whose elements pass a test.
 use Rattle.std.proofs.Common.{◌≡◌, ℕ, ◌<◌, length, take, slice_index, Bool, true, false, List, [], ◌∷◌, ◌++◌, refl, ap, ◌∙◌}
 use Rattle.std.proofs.lemmas.Bool.{and_parts, and_from, both_ways}
 use Rattle.std.specs.List.{list_all}
@@ -6,7 +6,7 @@ use Rattle.std.proofs.lemmas.List.Sums.{AllPass-from_list_all, list_all-from_All
 use Rattle.std.proofs.lemmas.List.Elements.{All-take}
 use Rattle.std.specs.Prelude.{IsTrue}
 
--- every octet passes the test
+-- Every octet passes the test.
 abbrev pub Are : (ℕ → Bool) → List ℕ → Type 0
 Are test xs = IsTrue (list_all test xs)
 
@@ -23,7 +23,7 @@ pub Are-append : (p : ℕ → Bool) (xs ys : List ℕ) → Are p xs → Are p ys
 Are-append p [] ys a b = b
 Are-append p (x ∷ xs) ys a b = Are-cons p x (xs ++ ys) (Are-head p x xs a) (Are-append p xs ys (Are-tail p x xs a) b)
 
--- what passes and is followed by what doesn't is determined
+-- The elements that pass before one that does not are determined.
 pub span : (p : ℕ → Bool) (a b : List ℕ) (c d : ℕ) (x y : List ℕ) → Are p a → Are p b → p c ≡ false → p d ≡ false
     → a ++ (c ∷ x) ≡ b ++ (d ∷ y) → (a ≡ b) × (c ∷ x ≡ d ∷ y)
 span p [] [] c d x y pa pb pc pd e = (refl, e)
@@ -36,7 +36,7 @@ span p (a ∷ as') (b ∷ bs) c d x y pa pb pc pd e =
     let rests : as' ≡ bs = more.0 in
     (cc, more.1)
 
--- what passes as a whole has no element that doesn't
+-- A list of which all elements pass has none that does not.
 pub no_stop : (p : ℕ → Bool) (b : List ℕ) (d : ℕ) (y : List ℕ) → Are p (b ++ (d ∷ y)) → p d ≡ false → ⊥
 no_stop p [] d y h pd = both_ways (p d) pd (Are-head p d y h)
 no_stop p (b ∷ bs) d y h pd = no_stop p bs d y (Are-tail p b (bs ++ (d ∷ y)) h) pd

@@ -1,4 +1,5 @@
--- What is delivered of a text are its lines, and a longer text delivers more at the end.
+-- The events delivered of a text are those of its lines, and a longer text delivers more at the
+-- end.
 use Rattle.std.proofs.lemmas.List.{take_rest}
 use Rattle.std.proofs.Math.Seq.{take-add}
 use Rattle.std.specs.List.{slice_range}
@@ -10,7 +11,7 @@ use Rattle.wire_story.proofs.{Spans.Are-head, Spans.Are-tail, HeldReturns.not_at
 delivered-append : (x y : List ℕ) → delivered (x ++ y) ≡ delivered x ++ delivered y
 delivered-append x y = flat_map-append events_of x y
 
--- a front, and then one of what is left
+-- A prefix, and then one of what remains.
 pub take_front : (piece : List ℕ) (i k : ℕ) → take (i + k) piece ≡ take i piece ++ take k (slice_range piece i (length piece))
 take_front piece i k = take-add i k piece ∙ ap (λ r. take i piece ++ take k r) (sym (take_rest piece i))
 
@@ -31,7 +32,7 @@ pub delivered_end : (k : ℕ) → delivered (line_end k) ≡ LineEnd ∷ []
 delivered_end zero = refl
 delivered_end (suc k) = delivered_end k
 
--- a line and its end are delivered before what follows them
+-- The events of a line and its end come before those of what follows.
 delivered_next : (x first : List ℕ) (returns : ℕ) (rest : List ℕ) → IsLine first → x ≡ first ++ (line_end returns ++ rest)
     → delivered x ≡ map LineOctet first ++ (LineEnd ∷ delivered rest)
 delivered_next x first returns rest h e =

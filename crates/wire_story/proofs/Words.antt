@@ -7,13 +7,13 @@ use Rattle.wire_story.specs.{Laws.WordsAreLongestRuns, Laws.TextsAreCountedAsLin
 use Rattle.wire_story.proofs.{Spans.Are, Spans.Are-head, Spans.Are-tail, Spans.Are-cons, Spans.span, Spans.no_stop, Told.delivered_lines}
 use Rattle.std.proofs.lemmas.Bool.Decides.{nat_tests}
 
--- ---- the count of longest runs
+-- ---- The number of longest slices.
 
--- with a blank octet no word begins
+-- No word begins with a blank.
 blank_first : (b : ℕ) (inside : Bool) (xs : List ℕ) → is_blank b ≡ true → words_begun inside (b ∷ xs) ≡ words_begun false xs
 blank_first b inside xs e = grind (arith, nat_tests)
 
--- with an octet of a word one begins where none has begun
+-- With an octet of a word one begins if none is in progress.
 word_first : (b : ℕ) (inside : Bool) (xs : List ℕ) → is_word_octet b ≡ true → words_begun inside (b ∷ xs) ≡ cond inside 0 1 + words_begun true xs
 word_first b inside xs e = grind (arith, nat_tests)
 
@@ -37,9 +37,9 @@ count_is line ((b ∷ ws) ∷ others) h =
     let begun = word_first b false (ws ++ h.3) (Are-head is_word_octet b ws h.2.1) in
     omega (arith, first, begun, count_word ws h.3 (Are-tail is_word_octet b ws h.2.1), count_after h.3 h.5, count_is h.3 others h.6)
 
--- ---- each line has words
+-- ---- Each line has words.
 
--- the octets of a word at the beginning, maybe none, and the words of what follows them
+-- The octets of a word at the beginning, perhaps none, and the words of what follows them.
 record Split (line : List ℕ) : Type 0 where
   word : List ℕ
   rest : List ℕ
@@ -54,7 +54,7 @@ blank_before b rest [] e h = Are-cons is_blank b rest (ap not e) h
 blank_before b rest (word ∷ others) e h =
     (b ∷ h.0, Are-cons is_blank b h.0 (ap not e) h.1, h.2, h.3, ap (λ (u : List ℕ). b ∷ u) h.4, h.5, h.6)
 
--- the words of a word, maybe empty, and of what follows it
+-- The words of a word, perhaps empty, and of what follows it.
 with_word : (word rest line : List ℕ) (found : List (List ℕ)) → Are is_word_octet word → line ≡ word ++ rest → EndsWord rest → HasWords rest found
     → (all : List (List ℕ)) × HasWords line all
 with_word [] rest line found is parts ends has = (found, subst (λ (u : List ℕ). HasWords u found) (sym parts) has)
@@ -81,14 +81,14 @@ split (b ∷ xs) =
       | inr e ↦ record { word = []; rest = b ∷ xs; found = all.0; is_word = refl; parts = refl; ends = e; has = blank_before b xs all.0 e all.1 }
     ]
 
--- ---- in one way
+-- ---- In one way.
 
--- what ends a word begins none
+-- What ends a word begins no word.
 no_word : (b : ℕ) (w x y : List ℕ) → Are is_word_octet (b ∷ w) → EndsWord x → x ≡ b ∷ (w ++ y) → ⊥
 no_word b w [] y is ends e = cc
 no_word b w (c ∷ x) y is ends e = let same : c ≡ b = cc in both_ways (is_word_octet c) ends (ap is_word_octet same ∙ Are-head is_word_octet b w is)
 
--- a word is determined, and what follows it
+-- A word is determined, and so is what follows it.
 same_word : (v w x y : List ℕ) → Are is_word_octet v → Are is_word_octet w → EndsWord x → EndsWord y → v ++ x ≡ w ++ y → (v ≡ w) × (x ≡ y)
 same_word [] [] x y iv iw ex ey e = (refl, e)
 same_word [] (b ∷ w) x y iv iw ex ey e = absurd (no_word b w x y iw ex e)
@@ -100,7 +100,7 @@ same_word (b ∷ v) (c ∷ w) x y iv iw ex ey e =
     let others : v ≡ w = more.0 in
     (cc, more.1)
 
--- a word's first octet is no blank
+-- The first octet of a word is not a blank.
 word_is : (b : ℕ) (ws : List ℕ) → Are is_word_octet (b ∷ ws) → is_blank b ≡ false
 word_is b ws h = ap not (Are-head is_word_octet b ws h)
 
@@ -121,7 +121,7 @@ one_way line ((b ∷ ws) ∷ found) ((c ∷ vs) ∷ others) h k =
 pub longest_runs : WordsAreLongestRuns
 longest_runs line = record { some = all_words (split line); one = one_way line; count = count_is line }
 
--- ---- what is told
+-- ---- Words of events.
 
 pub told_last : (inside : Bool) (line : List ℕ) → words_told inside (map LineOctet line) ≡ words_begun inside line
 told_last inside [] = refl

@@ -1,4 +1,4 @@
--- What holds of all texts and stories; the record at the end has a field for each law.
+-- Lemmas on all texts and stories. The record at the end has a field for each.
 use Rattle.std.specs.Prelude.{◌≡◌, ℕ, List, ◌↔◌, [], ◌∷◌, ◌++◌, map, Option}
 use Rattle.wire_story.specs.Format.Texts.{packed_text, IsText, IsTextSoFar, Holds, AreLines, MakeText, StoryEvent, events_of_lines, delivered, octet_for, StoryLanguage, Octet, End, LivesWith, words_in, words, HasWords, WordsSoFar, capped, CountsWords}
 use Rattle.wire_story.specs.Format.Packing.{packed_events, AreEvents, IsPackedAsLines}
@@ -7,53 +7,54 @@ use Rattle.iim_dataset.specs.Format.Octets.{lf, IsAlive}
 use Rattle.wire_story.specs.States.Reading.{collect, StandsAt, IsPlace}
 use Rattle.std.proofs.Common.{false, length}
 
--- ---- How events are packed, and the lines that they are.
+-- ---- How events are packed, and their lines.
 
 -- Lines are packed as their events.
 abbrev pub LinesArePackedAsTheirEvents : Type 0
 LinesArePackedAsTheirEvents = (lines : List (List ℕ)) → packed_text lines ≡ packed_events (events_of_lines lines)
 
--- Events are packed as the lines that they are.
+-- Events are packed as their lines.
 abbrev pub EventsArePackedAsLines : Type 0
 EventsArePackedAsLines = (events : List StoryEvent) → AreEvents events → IsPackedAsLines events
 
--- ---- What holds of all texts.
+-- ---- All texts.
 
--- Octets are the lines of a text in one way at most.
+-- Octets are the lines of a text in at most one way.
 abbrev pub TextsHaveOneReading : Type 0
 TextsHaveOneReading = (x : List ℕ) (lines others : List (List ℕ)) → IsText x lines → IsText x others → lines ≡ others
 
--- Octets are a text so far in one way at most.
+-- Octets are a text so far in at most one way.
 abbrev pub TextsSoFarHaveOneReading : Type 0
 TextsSoFarHaveOneReading = (x : List ℕ) (lines others : List (List ℕ)) (line other : List ℕ) (held returns : ℕ)
     → IsTextSoFar x lines line held → IsTextSoFar x others other returns → (lines ≡ others) × (line ≡ other) × (held ≡ returns)
 
--- What is delivered of a text is its lines.
+-- The events delivered of a text are those of its lines.
 abbrev pub TextsAreDeliveredAsLines : Type 0
 TextsAreDeliveredAsLines = (x : List ℕ) (lines : List (List ℕ)) → IsText x lines → delivered x ≡ events_of_lines lines
 
--- What is delivered of a text so far is its whole lines and the begun one. Of CR that no LF has followed nothing is.
+-- The events delivered of a text so far are those of its complete lines and the current one. A CR
+-- that no LF has followed gives none.
 abbrev pub TextsSoFarAreDeliveredAsLines : Type 0
 TextsSoFarAreDeliveredAsLines = (x : List ℕ) (lines : List (List ℕ)) (line : List ℕ) (held : ℕ)
     → IsTextSoFar x lines line held → delivered x ≡ events_of_lines (lines ++ line ∷ [])
 
--- What is delivered of a piece and then of another is what is delivered of the two joined.
+-- The events delivered of a chunk and then of another are those of the two joined.
 abbrev pub DeliveryMayBeCut : Type 0
 DeliveryMayBeCut = (x y : List ℕ) → delivered (x ++ y) ≡ delivered x ++ delivered y
 
--- A story can continue from octets exactly where they are a text so far.
+-- Octets are a viable prefix of a story exactly if they are a text so far.
 abbrev pub StoriesLiveAsTextsSoFar : Type 0
 StoriesLiveAsTextsSoFar = (x : List ℕ) → LivesWith x ↔ ((held : ℕ) × Holds x held)
 
--- A story may end after octets exactly where they are a text.
+-- A story may end after octets exactly if they are a text.
 abbrev pub StoriesEndAsTexts : Type 0
 StoriesEndAsTexts = (x : List ℕ) → IsAlive StoryLanguage (map Octet x ++ End ∷ []) ↔ AreLines x
 
--- A text so far is a text exactly where it ends in no CR.
+-- A text so far is a text exactly if it does not end in CR.
 abbrev pub TextsEndInNoReturn : Type 0
 TextsEndInNoReturn = (x : List ℕ) → AreLines x ↔ Holds x 0
 
--- What is packed of lines that make a text is a text of these lines.
+-- The packed octets of lines that make a text are a text of these lines.
 abbrev pub PackedLinesAreAText : Type 0
 PackedLinesAreAText = (lines : List (List ℕ)) → MakeText lines → IsText (packed_text lines) lines
 
@@ -61,52 +62,54 @@ PackedLinesAreAText = (lines : List (List ℕ)) → MakeText lines → IsText (p
 abbrev pub LinesOfATextMakeOne : Type 0
 LinesOfATextMakeOne = (x : List ℕ) (lines : List (List ℕ)) → IsText x lines → MakeText lines
 
--- The octets for lines, as they are delivered, are the lines joined by LF.
+-- The octets for the events of lines are the lines joined by LF.
 abbrev pub LinesAreJoinedByLineFeeds : Type 0
 LinesAreJoinedByLineFeeds = (lines : List (List ℕ)) → map octet_for (events_of_lines lines) ≡ join_with_byte lf lines
 
--- Collected from one empty line on, what is delivered of a text are its lines.
+-- The lines collected from the events of a text, starting with one empty line, are its lines.
 abbrev pub TextsAreCollectedAsLines : Type 0
 TextsAreCollectedAsLines = (x : List ℕ) (lines : List (List ℕ)) → IsText x lines → collect ([] ∷ []) (delivered x) ≡ lines
 
--- A reader's invariant holds exactly of the places at which a reader stands after some octets.
+-- The invariant of a reader holds for exactly the states that some octets reach.
 abbrev pub PlacesAreReached : Type 0
 PlacesAreReached = (reader : Option ℕ) → IsPlace reader ↔ ((octets : List ℕ) × StandsAt reader octets)
 
--- After the same octets a reader stands at one place, whatever the cut.
+-- The octets determine the state of a reader, however they are split.
 abbrev pub OctetsLeadToOnePlace : Type 0
 OctetsLeadToOnePlace = (octets : List ℕ) (a b : Option ℕ) → StandsAt a octets → StandsAt b octets → a ≡ b
 
--- From the same place the same octets lead on alike.
+-- If two lists of octets reach the same state, they reach the same state with the same further
+-- octets.
 abbrev pub OctetsLeadOnAlike : Type 0
 OctetsLeadOnAlike = (old new : Option ℕ) (a b x : List ℕ) → StandsAt old a → StandsAt old b → StandsAt new (a ++ x) → StandsAt new (b ++ x)
 
--- ---- What holds of the words of lines.
+-- ---- The words of lines.
 
--- A line has words in one way: there are such words, and no others, and the count is theirs.
+-- A line has words in one way: there are such words, and no others, and the counter has their
+-- number.
 pub record WordsAreCounted (line : List ℕ) : Type 0 where
   pub some : (found : List (List ℕ)) × HasWords line found
   pub one : (found others : List (List ℕ)) → HasWords line found → HasWords line others → found ≡ others
   pub count : (found : List (List ℕ)) → HasWords line found → words_in line ≡ length found
 
--- The words of a line are the longest runs in it of octets other than SP and TAB.
+-- The words of a line are the longest slices in it of octets other than SP and TAB.
 abbrev pub WordsAreLongestRuns : Type 0
 WordsAreLongestRuns = (line : List ℕ) → WordsAreCounted line
 
--- Counted from nothing on, the words of what is delivered of a text are those of its lines.
+-- The words counted from the events of a text, starting from 0, are those of its lines.
 abbrev pub TextsAreCountedAsLines : Type 0
 TextsAreCountedAsLines = (x : List ℕ) (lines : List (List ℕ)) (old new : WordsSoFar) → IsText x lines
     → old.words ≡ 0 → old.inside ≡ false → CountsWords old (delivered x) new → new.words ≡ capped (words lines)
 
--- The laws of stories: a field for each.
+-- The lemmas on stories: a field for each.
 pub record StoryLaws : Type 0 where
-  -- what octets are as texts:
+  -- which octets are texts:
   pub texts_have_one_reading : TextsHaveOneReading
   pub texts_so_far_have_one_reading : TextsSoFarHaveOneReading
   pub stories_live_as_texts_so_far : StoriesLiveAsTextsSoFar
   pub stories_end_as_texts : StoriesEndAsTexts
   pub texts_end_in_no_return : TextsEndInNoReturn
-  -- what is delivered of a text, collected and counted:
+  -- the events of a text, collected and counted:
   pub texts_so_far_are_delivered_as_lines : TextsSoFarAreDeliveredAsLines
   pub lines_are_joined_by_line_feeds : LinesAreJoinedByLineFeeds
   pub texts_are_collected_as_lines : TextsAreCollectedAsLines
@@ -116,6 +119,6 @@ pub record StoryLaws : Type 0 where
   pub packed_lines_are_a_text : PackedLinesAreAText
   pub lines_of_a_text_make_one : LinesOfATextMakeOne
   pub events_are_packed_as_lines : EventsArePackedAsLines
-  -- where readers stand:
+  -- the states of readers:
   pub octets_lead_to_one_place : OctetsLeadToOnePlace
   pub octets_lead_on_alike : OctetsLeadOnAlike

@@ -1,4 +1,4 @@
--- Lines joined by LF, masks of octets, and the laws of collected lines.
+-- Lines joined by LF, masks of octets, and the lemmas on collected lines.
 use Rattle.std.specs.Prelude.{ℕ, ◌==◌, List, if◌then◌else◌, ◌≡◌, ◌+◌, ◌-◌, ◌^◌, ◌<◌, ◌≤◌, Bool, nat_lt, length, take, drop, map}
 use Rattle.std.specs.{List.slice_split, Simd.Lanes.mask_l}
 use Rattle.std.proofs.Common.{rules, [], ◌∷◌, ◌++◌, refl, ap, ◌∙◌, false, arith}
@@ -8,40 +8,41 @@ use Rattle.wire_story.specs.Format.Texts.{max_returns, line_end, LineOctet, insi
 use Rattle.wire_story.specs.States.Reading.{add_octet, collect, WritesOn}
 use Rattle.wire_story.specs.declared.marks.Marks.{Marks}
 
--- the lines that are kept joined by LF
+-- the lines that are stored joined by LF
 abbrev pub lines_in : List ℕ → List (List ℕ)
 lines_in octets = slice_split (λ b. b == lf) octets
 
--- It is below the octets that are surely no marks.
+-- The octet is low: below all octets that certainly belong to a line.
 abbrev pub is_low : ℕ → Bool
 is_low b = nat_lt b 14
 
--- 0 where octets of a line end inside a word, after others that do or don't, else 1
+-- 0 if octets of a line end inside a word, after others that do or do not, and otherwise 1
 abbrev pub outside_after : Bool → List ℕ → ℕ
 outside_after inside xs = if inside_after inside (map LineOctet xs) then 0 else 1
 
--- The marks tell of the next octets, `many` of them: a digit for each, and one that is set after those.
+-- The mask covers the next `many` octets: it has a bit for each, and the sentinel bit after those.
 pub record AreMarks (xs : List ℕ) (m : Marks) : Type 0 where
   pub many : ℕ
   pub within : many ≤ length xs
   pub few : many ≤ 16
   pub is : m.left ≡ mask_l (map is_low (take many xs)) + 2 ^ many
 
--- The first `used` octets are a front, one at least: `held` CR are held after it, and these are the marks of what is left.
+-- The first `used` octets, at least one, were consumed: `held` CR are pending after them, and this
+-- is the mask of what remains.
 pub record IsTextFront (rest : List ℕ) (held used : ℕ) (marks : Marks) : Type 0 where
   pub few : held ≤ max_returns
   pub some : 0 < used
   pub within : used ≤ length rest
   pub next : AreMarks (drop used rest) marks
 
--- A line end of so many octets stands first: LF alone, or with one CR before it.
+-- A line end of `end` octets comes first: LF alone, or with one CR before it.
 pub record StartsLineEnd (rest : List ℕ) (end : ℕ) : Type 0 where
   pub some : 0 < end
   pub few : end ≤ 2
   pub within : end ≤ length rest
   pub is : take end rest ≡ line_end (end - 1)
 
--- ---- The laws of collected lines, handed in by their impl.
+-- ---- The lemmas on collected lines that their impl provides.
 
 pub collect-append : (lines : List (List ℕ)) (xs ys : List StoryEvent) → collect lines (xs ++ ys) ≡ collect (collect lines xs) ys
 collect-append lines [] ys = refl
@@ -51,7 +52,7 @@ collect-append lines (LineEnd ∷ xs) ys = collect-append (lines ++ [] ∷ []) x
 pub collect_joined : (a b c : List (List ℕ)) (xs ys : List StoryEvent) → b ≡ collect a xs → c ≡ collect b ys → c ≡ collect a (xs ++ ys)
 collect_joined a b c xs ys first later = later ∙ (ap (λ (lines : List (List ℕ)). collect lines ys) first ∙ rw collect-append refl)
 
--- ---- The laws of a count of words, handed in by its impl.
+-- ---- The lemmas on a counter of words that its impl provides.
 
 pub told-append : (inside : Bool) (xs ys : List StoryEvent)
     → (words_told inside (xs ++ ys) ≡ words_told inside xs + words_told (inside_after inside xs) ys)
@@ -69,7 +70,7 @@ counts_joined a b c xs ys first later = record {
   inside = rw (later.inside, first.inside, (told-append a.inside xs ys).1) refl;
 }
 
--- ---- The laws of writers of lines, handed in by their impl.
+-- ---- The lemmas on writers of lines that their impl provides.
 
 pub writes_nothing : (device : Device) (stops : ℕ) → WritesOn device device stops stops []
 writes_nothing device stops = search (rules, arith, appends_nothing)

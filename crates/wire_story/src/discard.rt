@@ -1,4 +1,4 @@
-//! A sink that keeps nothing.
+//! A sink that stores nothing.
 
 ghost use Rattle.std.specs.Prelude.{◌≡◌, IsOk, refl};
 ghost use Rattle.std.proofs.Common.{◌∙◌};
@@ -6,7 +6,7 @@ ghost use Rattle.std.proofs.Common.{◌∙◌};
 use crate::sink::StorySink;
 use iim_dataset::Stop;
 
-/// A sink that takes everything and keeps nothing.
+/// A sink that accepts everything and stores nothing.
 #[derive(Clone, Copy, Debug, PartialEq, Eq)]
 pub struct Discard;
 

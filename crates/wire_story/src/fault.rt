@@ -1,4 +1,4 @@
-//! Why a text is refused.
+//! Why a text is rejected.
 
 ghost use Rattle.std.specs.Prelude.{◌≡◌, ◌<◌, ◌+◌, ◌^◌, Some};
 ghost use Rattle.wire_story.specs.Format.Texts.{number_of_text, name_of_text, print_of_text, print_of_fault};
@@ -7,26 +7,26 @@ use std::error::Error;
 use std::fmt;
 use std::fmt::{Display, Formatter};
 
-/// Why a reader of a text refused an octet, or the end, each with its number.
+/// Why a reader of a text rejected an octet, or the end, each with its number.
 #[derive(Clone, Copy, Debug, PartialEq, Eq)]
 pub enum TextCause {
-    /// CR came before it that no LF has followed.
+    /// A CR was received before it, and no LF followed that CR.
     LoneReturn = 40,
-    /// SOH, STX, ETX or EOT stands in the text.
+    /// SOH, STX, ETX or EOT occurs in the text.
     ControlOctet = 41,
     /// The sink stopped.
     Sink = 60,
 }
 
 impl TextCause {
-    /// The number, as it is printed.
+    /// Returns the number of the cause, as it is printed.
     pub fn number(self) -> u8
         ensures { result ≡ number_of_text self }
     {
         self as u8
     }
 
-    /// The name, as it is printed.
+    /// Returns the name of the cause, as it is printed.
     pub fn name(self) -> &'static str
         ensures { result.now ≡ name_of_text self }
     {
@@ -38,7 +38,7 @@ impl TextCause {
     }
 }
 
-/// The number and the name, as `40 LoneReturn`.
+/// Writes the number and the name, as `40 LoneReturn`.
 impl Display for TextCause {
     ghost output = { λ cause. Some (print_of_text cause) };
 
@@ -51,16 +51,17 @@ impl Display for TextCause {
 
 impl Error for TextCause {}
 
-/// A reader of a text refused an octet, or the end.
+/// A reader of a text rejected an octet, or the end.
 #[derive(Clone, Copy, Debug, PartialEq, Eq)]
 pub struct TextFault {
-    /// How many octets of the run stand before the refused one.
+    /// The number of octets of the slice before the rejected one.
     pub taken: usize,
-    /// Why it was refused.
+    /// Why it was rejected.
     pub cause: TextCause,
 }
 
-/// Writes the number of octets before the refused one, and the cause, as `refused after 5 octets, cause 40 LoneReturn`.
+/// Writes the number of octets before the rejected one, and the cause, as `refused after 5 octets,
+/// cause 40 LoneReturn`.
 impl Display for TextFault {
     ghost output = { λ fault. Some (print_of_fault fault) };
 
@@ -74,7 +75,7 @@ impl Display for TextFault {
 impl Error for TextFault {}
 
 impl TextFault {
-    /// The fault as it is told of a run that begins `octets` octets earlier.
+    /// Returns the same fault for a slice that begins `octets` octets earlier.
     pub(crate) fn after(self, octets: usize) -> TextFault
         requires { octets + self.taken < 2 ^ 64 }
         ensures { result ≡ record { taken = octets + self.taken; cause = self.cause } }

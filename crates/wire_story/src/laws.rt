@@ -1,4 +1,4 @@
-//! What holds of all texts. The functions do nothing: their contracts are the laws.
+//! Lemmas on all texts. The functions do nothing: their contracts are the lemmas.
 
 ghost use Rattle.std.specs.Prelude.{◌≡◌};
 ghost use Rattle.wire_story.specs.Format.Texts.{line_end};
@@ -6,34 +6,35 @@ ghost use Rattle.wire_story.specs.Laws.{LinesArePackedAsTheirEvents, TextsAreDel
 
 use crate::line::LINE_END;
 
-/// What holds of all texts and their lines: a field for each law.
+/// Proves the lemmas on texts and their lines; the record has a field for each.
 pub fn story_laws()
     ensures { StoryLaws }
 {}
 
-/// What is delivered of a text is its lines.
+/// Proves that the events delivered of a text are those of its lines.
 #[tactic(auto, using(crate::proofs::Told::delivered_lines))]
 pub fn texts_are_delivered_as_lines()
     ensures { TextsAreDeliveredAsLines }
 {}
 
-/// What is delivered of two pieces is what is delivered of the two joined.
+/// Proves that the events delivered of two chunks are those of the two joined.
 pub fn delivery_may_be_cut()
     ensures { DeliveryMayBeCut }
 {}
 
-/// A packer's line end is CR LF.
+/// Proves that the line end of a packer is CR LF.
 pub fn line_ends_are_packed_as_return_and_feed()
     ensures { LINE_END ≡ line_end 1 }
 {}
 
-/// Lines are packed as their events are.
+/// Proves that lines are packed as their events are.
 #[tactic(auto, using(crate::proofs::PackedEvents::lines_packed))]
 pub fn lines_are_packed_as_their_events()
     ensures { LinesArePackedAsTheirEvents }
 {}
 
-/// A reader's invariant holds exactly of the places at which a reader stands after some octets.
+/// Proves that some octets reach each state that satisfies the invariant of the reader, and that
+/// octets reach no other state.
 pub fn places_are_reached()
     ensures { PlacesAreReached }
 {}

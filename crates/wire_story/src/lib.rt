@@ -1,7 +1,9 @@
-//! The text of a story, by the rules of our own profile: its lines, its line ends, and the sinks that they go to.
+//! The text of a story, by the rules of our own profile: its lines, its line ends, and the sinks
+//! that they go to.
 //!
-//! Stands on `iim_dataset`. The crates above read a text by [`TextReader`], for any cut into runs: the sink is told exactly
-//! what is delivered of the octets so far, and a fault stands exactly where no text can continue from them, or the sink stopped.
+//! Depends on `iim_dataset`. The crates above read a text by [`TextReader`], for any split into
+//! slices. The sink receives exactly what is delivered of the octets so far. A fault is reported at
+//! the first octet with which they are not a viable prefix of a text, or at which the sink stopped.
 #![tactic(auto)]
 
 mod discard;

@@ -9,7 +9,7 @@ use iim_dataset::octets::{CR, EOT, ETX, LF, SOH, STX};
 /// The line end that a packer writes.
 pub const LINE_END: [u8; 2] = [CR, LF];
 
-/// Whether the octet may stand in a line.
+/// Checks whether a line may have the octet.
 #[inline(always)]
 pub(crate) fn may_stand(octet: u8) -> bool
     ensures { result ≡ is_line_octet octet }
@@ -17,7 +17,7 @@ pub(crate) fn may_stand(octet: u8) -> bool
     !(octet == SOH || octet == STX || octet == ETX || octet == EOT || octet == LF || octet == CR)
 }
 
-/// Whether each octet may stand in a line: any but SOH, STX, ETX, EOT, LF and CR.
+/// Checks whether a line may have each of the octets: any but SOH, STX, ETX, EOT, LF and CR.
 pub fn is_text(octets: &[u8]) -> bool
     ensures { IsTrue result ↔ IsLine octets.now }
 {

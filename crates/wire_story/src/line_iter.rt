@@ -1,4 +1,4 @@
-//! The lines of a text one after the other, where they lie joined by LF.
+//! An iterator over the lines of a text that is stored with its lines joined by LF.
 
 ghost use Rattle.std.specs.Prelude.{◌≡◌, ◌==◌, ℕ, List, []};
 ghost use Rattle.std.specs.Iterator.{YieldsFirstRef, item_count};
@@ -11,10 +11,11 @@ use crate::marks::Marks;
 use iim_dataset::octets::LF;
 use std::marker::Model;
 
-/// The lines of a text, in order. Contracts see it as the list of those that are left.
+/// An iterator over the lines of a text, in order. Contracts see it as the list of lines that
+/// remain.
 #[derive(Debug, Drop)]
 pub struct LineIter<'a> {
-    // What is left, joined by LF, or None after the last line.
+    // The octets that remain, or `None` after the last line.
     rest: Option<&'a [u8]>,
 }
 
@@ -25,7 +26,7 @@ impl<'a> Model for LineIter<'a> {
 }
 
 impl<'a> LineIter<'a> {
-    /// The lines that these octets are, joined by LF.
+    /// Creates an iterator over the lines of these octets, which are joined by LF.
     pub(crate) fn new(octets: &'a [u8]) -> LineIter<'a>
         ensures { result ≡ lines_in octets.entry.now }
     {
@@ -33,7 +34,7 @@ impl<'a> LineIter<'a> {
     }
 }
 
-/// The length of the first line.
+/// Returns the length of the first line.
 fn first_len(octets: &[u8]) -> usize
     ensures { result ≡ position_or_len (λ b. b == lf) octets.now }
 {

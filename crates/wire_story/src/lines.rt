@@ -13,12 +13,13 @@ use iim_dataset::octets::LF;
 use std::alloc::Global;
 use std::marker::Model;
 
-/// Lines that grow as they are told. A refused growth leaves them unchanged.
+/// A sink that stores lines as it receives them. If an allocation fails, the lines are unchanged.
 ///
-/// Contracts see them as the list of lines, one at least, the number of refusals, and for how many octets there is memory.
+/// Contracts see it as the list of lines, at least one, the number of failed allocations, and the
+/// capacity in octets.
 #[derive(Drop)]
 pub struct Lines {
-    // The lines joined by LF, which stands in none of them.
+    // The lines joined by LF. No line has an LF.
     octets: Vec<u8>,
     failures: u64,
 }
@@ -33,7 +34,7 @@ impl Model for Lines {
 }
 
 impl Lines {
-    /// One empty line. Takes no memory.
+    /// Creates a sink with one empty line. Does not allocate.
     pub fn new(alloc: Global) -> Lines
         ensures lines { result.lines ≡ [] ∷ [] }
         ensures failures { result.failures ≡ 0 }
@@ -45,7 +46,7 @@ impl Lines {
         }
     }
 
-    /// The lines, in order.
+    /// Iterates over the lines, in order.
     pub fn iter(&self) -> LineIter<'_>
         ensures lines { result ≡ self.now.lines }
         ensures text { MakeText self.now.lines }
@@ -53,14 +54,14 @@ impl Lines {
         LineIter::new(&self.octets)
     }
 
-    /// The lines joined by LF.
+    /// Returns the lines joined by LF.
     pub(crate) fn octets(&self) -> &[u8]
         ensures { lines_in result.now ≡ self.now.lines }
     {
         &self.octets
     }
 
-    /// Counts a refused growth.
+    /// Counts a failed allocation, and returns the stop for it.
     fn refused(&mut self) -> Stop
         ensures taken { result.taken ≡ 0 }
         ensures lines { self.new.lines ≡ self.old.lines }
@@ -91,7 +92,7 @@ impl StorySink for Lines {
             self.new.lines ≡ collect self.old.lines (map LineOctet (take stop.taken run.now))) }
         ensures counted { OnErr result (Rose self.old.failures self.new.failures) }
 
-        // No growth is done by halves.
+        // Octets are stored all or none.
         ensures unchanged { OnErr result (self.new.lines ≡ self.old.lines) }
     {
         if run.is_empty() {

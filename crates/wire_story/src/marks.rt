@@ -1,4 +1,5 @@
-//! Where the next mark of a text stands: sixteen octets give one mask, and each mark of it is taken before the next is made.
+//! Finds the next octet that may end a line. Sixteen octets give one mask, and each bit of it is
+//! used before the next mask is made.
 
 ghost use Rattle.std.specs.Prelude.{◌≡◌, ◌<◌, ◌≤◌, ◌+◌, ◌/◌, ◌^◌, nat_lt, count_ones, false, length, drop, map, slice_index, take};
 ghost use Rattle.std.specs.Int.Count.{count_trailing_zeros};
@@ -9,23 +10,24 @@ ghost use Rattle.wire_story.specs.Steps.{is_low, AreMarks};
 use crate::line::may_stand;
 use std::simd::prelude::*;
 
-/// How many octets are tested at once.
+/// The number of octets that are tested at once.
 pub(crate) const BLOCK: usize = 16;
 
-/// The marks are below this octet, and so are few other octets.
+/// The octets that a line may not have are all below this one, and so are few others.
 const LEAST_CALM: u8 = 14;
 
-/// A digit after those of a mask.
+/// The sentinel bit after the bits of a mask.
 const END: u64 = 1 << 16;
 
-/// Which of the octets that come next are below the least calm one.
+/// A mask of the next octets: which of them are low, that is, below `LEAST_CALM`.
 #[derive(Clone, Copy)]
 pub(crate) struct Marks {
-    // The lowest digit stands for the next octet; the highest one that is set for the octet after those that it tells of.
+    // The lowest bit is that of the next octet. The highest bit that is set is the sentinel, after
+    // the bits of the octets.
     left: u64,
 }
 
-/// The mask of the octets below the least calm one.
+/// Returns the mask of the low octets of a block.
 #[inline(always)]
 fn mask_of(block: &[u8]) -> u64
     requires { 16 ≤ length block.now }
@@ -35,7 +37,7 @@ fn mask_of(block: &[u8]) -> u64
     octets.simd_lt(u8x16::splat(LEAST_CALM)).to_bitmask()
 }
 
-/// How many octets stand before the lowest digit that is set, and the digits from that one on.
+/// Returns the number of octets before the lowest bit that is set, and the mask from that bit on.
 #[inline(always)]
 fn calm_before(left: u64) -> (usize, u64)
     requires { 0 < left }
@@ -46,7 +48,8 @@ fn calm_before(left: u64) -> (usize, u64)
     (calm, left >> calm)
 }
 
-/// Where the first mark stands after the first `from` octets, by the last block, which overlaps them, or where the octets end.
+/// Returns the position of the first low octet after the first `from` octets, by the last block,
+/// which overlaps them; or the number of octets if there is none.
 #[inline(always)]
 fn tail_calm(from: usize, octets: &[u8]) -> usize
     requires room { 16 ≤ length octets.now }
@@ -62,7 +65,7 @@ fn tail_calm(from: usize, octets: &[u8]) -> usize
     from + calm
 }
 
-/// The length of the longest front that lies in one line, where the first `from` octets do.
+/// Returns the length of the longest prefix that lies in one line, if the first `from` octets do.
 #[inline(always)]
 pub(crate) fn tail_len(from: usize, octets: &[u8]) -> usize
     requires within { from ≤ length octets.now }
@@ -84,7 +87,8 @@ pub(crate) fn tail_len(from: usize, octets: &[u8]) -> usize
     at
 }
 
-/// Where the first mark stands after the first `from` octets, and the digits from it on, or where the last whole block ends.
+/// Returns the position of the first low octet after the first `from` octets, with the mask from it
+/// on; or the end of the last complete block.
 #[inline(always)]
 fn next_marks(from: usize, octets: &[u8]) -> (usize, u64)
     requires room { from + 16 ≤ length octets.now }
@@ -106,7 +110,7 @@ fn next_marks(from: usize, octets: &[u8]) -> (usize, u64)
 }
 
 impl Marks {
-    /// Nothing is known of the octets that come next.
+    /// Creates a mask of no octets.
     #[inline(always)]
     pub(crate) fn new() -> Marks
         ensures { result ≡ record { left = 1 } }
@@ -114,7 +118,7 @@ impl Marks {
         Marks { left: 1 }
     }
 
-    /// The marks after the next octets, `used` of them.
+    /// Returns the mask after the next `used` octets.
     #[inline(always)]
     pub(crate) fn after(self, used: usize, octets: &[u8]) -> Marks
         requires marks { AreMarks octets.now self }
@@ -130,7 +134,7 @@ impl Marks {
         Marks { left }
     }
 
-    /// Whether an octet that they tell of is below the least calm one.
+    /// Checks whether the mask has a low octet.
     #[inline(always)]
     pub(crate) fn has_some(self) -> bool
         ensures { result ≡ nat_lt 1 (count_ones self.left) }
@@ -138,7 +142,8 @@ impl Marks {
         self.left.count_ones() > 1
     }
 
-    /// How many octets that lie in one line stand before the first that is below the least calm one, or that they don't tell of.
+    /// Returns the number of octets before the first one that is low or that the mask does not
+    /// cover. They lie in one line.
     #[inline(always)]
     pub(crate) fn calm_len(self, octets: &[u8]) -> usize
         requires { AreMarks octets.now self }
@@ -150,7 +155,7 @@ impl Marks {
         calm_before(self.left).0
     }
 
-    /// The length of the longest front that lies in one line, and the marks after it.
+    /// Returns the length of the longest prefix that lies in one line, and the mask after it.
     #[inline(always)]
     pub(crate) fn run_len(self, octets: &[u8]) -> (usize, Marks)
         requires { AreMarks octets.now self }

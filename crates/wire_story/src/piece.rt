@@ -1,4 +1,5 @@
-//! How a piece of a text is read after some held CR or none: by the longest runs that lie in one line, and else octet by octet.
+//! Reads a chunk of a text, after pending CR or none: by the longest slices that lie in one line,
+//! and otherwise octet by octet.
 
 ghost use Rattle.std.specs.Prelude.{◌≡◌, ◌<◌, ◌≤◌, false, length, drop, slice_index, take, Some, IfErr, IfOk, IsTrue, OnOk};
 ghost use Rattle.iim_dataset.specs.Format.Octets.{lf, cr};
@@ -11,10 +12,11 @@ use crate::marks::{BLOCK, Marks, tail_len};
 use crate::sink::StorySink;
 use iim_dataset::octets::{CR, LF};
 
-/// The most CR that may stand before an LF.
+/// The greatest number of CR before an LF.
 const MAX_RETURNS: u8 = 2;
 
-/// The length of the longest front that lies in one line, after `held` CR, and the marks after it.
+/// Returns the length of the longest prefix that lies in one line after `held` pending CR, and the
+/// mask after it.
 #[inline(always)]
 fn run_len(held: u8, marks: Marks, octets: &[u8]) -> (usize, Marks)
     requires { AreMarks octets.now marks }
@@ -31,7 +33,7 @@ fn run_len(held: u8, marks: Marks, octets: &[u8]) -> (usize, Marks)
     marks.run_len(octets)
 }
 
-/// Whether CR LF stands first, and no CR is held.
+/// Checks whether CR LF comes first and no CR is pending.
 #[inline(always)]
 fn has_line_end(held: u8, octets: &[u8]) -> bool
     ensures none { IsTrue result → held ≡ 0 }
@@ -42,8 +44,8 @@ fn has_line_end(held: u8, octets: &[u8]) -> bool
     held == 0 && octets.len() >= 2 && octets[0] == CR && octets[1] == LF
 }
 
-/// Takes the CR that stands first, or CR LF at once where no CR is held, and answers how many are held then and how many
-/// octets it took.
+/// Consumes the CR that comes first, or CR LF at once if no CR is pending. Returns the number of CR
+/// that are pending then, and the number of octets consumed.
 #[inline(always)]
 fn take_return<S: StorySink>(held: u8, rest: &[u8], sink: &mut S) -> Result<(u8, usize), TextFault>
     requires few { held ≤ max_returns }
@@ -74,8 +76,8 @@ fn take_return<S: StorySink>(held: u8, rest: &[u8], sink: &mut S) -> Result<(u8,
     })
 }
 
-/// Takes what stands first, which is none of a line or stands after held CR, and answers how many are held then and how
-/// many octets it took.
+/// Consumes what comes first, which a line may not have or which follows pending CR. Returns the
+/// number of CR that are pending then, and the number of octets consumed.
 #[inline(always)]
 fn take_mark<S: StorySink>(held: u8, rest: &[u8], sink: &mut S) -> Result<(u8, usize), TextFault>
     requires few { held ≤ max_returns }
@@ -113,7 +115,7 @@ fn take_mark<S: StorySink>(held: u8, rest: &[u8], sink: &mut S) -> Result<(u8, u
     })
 }
 
-/// Tells a run of a line at the front of the octets that are left, where there is one.
+/// Passes the first `run` octets, which lie in a line, to the sink, if there are any.
 #[inline(always)]
 fn take_run<S: StorySink>(held: u8, run: usize, rest: &[u8], sink: &mut S) -> Result<(), TextFault>
     requires within { run ≤ length rest.now }
@@ -136,8 +138,9 @@ fn take_run<S: StorySink>(held: u8, run: usize, rest: &[u8], sink: &mut S) -> Re
     }
 }
 
-/// Takes a front of the octets that are left, the longest that lies in one line, and answers how many CR are held then
-/// and how many octets it took.
+/// Consumes a prefix of the remaining octets: the longest one that lies in one line, and what
+/// follows it. Returns the number of CR that are pending then, the number of octets consumed, and
+/// the mask after them.
 #[inline(always)]
 fn take_front<S: StorySink>(
     held: u8,
@@ -169,7 +172,8 @@ fn take_front<S: StorySink>(
     }
 }
 
-/// How many octets the line end has that stands after so many octets, where no CR is held: 0 where none stands there.
+/// Returns the length of the line end after the first `run` octets if no CR is pending, or 0 if
+/// there is none.
 #[inline(always)]
 fn end_len(run: usize, octets: &[u8]) -> usize
     requires { run ≤ length octets.now }
@@ -187,7 +191,7 @@ fn end_len(run: usize, octets: &[u8]) -> usize
     0
 }
 
-/// Tells the line end of so many octets that stands first, where no CR is held.
+/// Passes the line end of `end` octets that comes first to the sink. No CR is pending.
 #[inline(always)]
 fn take_end<S: StorySink>(end: usize, rest: &[u8], sink: &mut S) -> Result<(), TextFault>
     requires { StartsLineEnd rest.now end }
@@ -206,8 +210,9 @@ fn take_end<S: StorySink>(end: usize, rest: &[u8], sink: &mut S) -> Result<(), T
     }
 }
 
-/// Takes the line at the front where no CR is held, with its end, if that stands at the first mark or right after what the marks tell
-/// of; and answers how many octets it took: none where it stands elsewhere.
+/// Consumes the first line with its end if no CR is pending, and if the end comes at the first low
+/// octet or right after the octets of the mask. Returns the number of octets consumed, or 0 if the
+/// end does not come there.
 #[inline(always)]
 fn take_line<S: StorySink>(rest: &[u8], marks: Marks, sink: &mut S) -> Result<usize, TextFault>
     requires marks { AreMarks rest.now marks }
@@ -232,8 +237,8 @@ fn take_line<S: StorySink>(rest: &[u8], marks: Marks, sink: &mut S) -> Result<us
     }
 }
 
-/// Takes lines at the front where no CR is held, as long as a mark stands among the octets that the marks tell of; and answers how
-/// many octets, and the marks after them.
+/// Consumes lines from the start if no CR is pending, as long as the mask has a low octet. Returns
+/// the number of octets consumed, and the mask after them.
 #[inline(always)]
 fn take_lines<S: StorySink>(
     rest: &[u8],
@@ -265,7 +270,7 @@ fn take_lines<S: StorySink>(
     Ok((at, here))
 }
 
-/// Takes a front of the octets that are left, and after a short one the lines that the marks tell of.
+/// Consumes a prefix of the remaining octets, and after a short one the lines that the mask covers.
 #[inline(always)]
 fn take_fronts<S: StorySink>(
     held: u8,
@@ -292,7 +297,7 @@ fn take_fronts<S: StorySink>(
     }
 }
 
-/// Takes a piece after `held` CR, and answers how many are held then.
+/// Consumes a chunk after `held` pending CR, and returns the number of CR that are pending then.
 pub(crate) fn take_piece<S: StorySink>(
     held: u8,
     piece: &[u8],

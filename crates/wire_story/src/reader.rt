@@ -1,4 +1,4 @@
-//! The reader of a text, for any cut into runs.
+//! The push parser of a text, for any split into slices.
 
 ghost use Rattle.std.specs.Prelude.{◌≡◌, ◌≤◌, [], List, ℕ, Option, is_none, Some, None, ◌↔◌, IsSome, IfSome, IfErr, OnOk, OnErr};
 ghost use Rattle.std.specs.Option.{ForSome};
@@ -11,12 +11,12 @@ use crate::piece::take_piece;
 use crate::sink::StorySink;
 use std::marker::Model;
 
-/// The most CR that a reader holds: a third one is refused.
+/// The greatest number of CR that may be pending: a third one is rejected.
 const MOST_HELD: u8 = 2;
 
-/// A reader of a text. It holds nothing of the text but how many CR stand at its end.
+/// A push parser of a text. It stores nothing of the text but the number of CR at its end.
 ///
-/// Contracts see it as that number, and as None after a refusal.
+/// Contracts see it as that number, and as `None` after an error.
 #[derive(Debug, Drop)]
 pub struct TextReader {
     held: Option<u8>,
@@ -31,7 +31,7 @@ impl Model for TextReader {
 }
 
 impl TextReader {
-    /// The reader of a text of which no octet has come.
+    /// Creates a reader at the start of a text.
     pub fn new() -> TextReader
         ensures takes_calls { IsSome result }
         ensures stands { StandsAt result [] }
@@ -39,14 +39,15 @@ impl TextReader {
         TextReader { held: Some(0) }
     }
 
-    /// Whether a call was refused.
+    /// Checks whether a call returned an error.
     pub fn is_failed(&self) -> bool
         ensures { result ≡ is_none self.now }
     {
         self.held.is_none()
     }
 
-    /// How many CR stand at the end of the octets so far, of which nothing is delivered yet: 2 at most. The reader has not failed.
+    /// Returns the number of CR at the end of the octets so far, of which nothing is delivered yet:
+    /// at most 2. The reader must not have failed.
     pub fn held(&self) -> u8
         requires { IsSome self.now }
         ensures { self.now ≡ Some result }
@@ -54,7 +55,8 @@ impl TextReader {
         self.held.unwrap()
     }
 
-    /// The reader that holds `held` CR, where some octets lead there: where they are 2 at most.
+    /// Creates a reader with `held` pending CR. Returns `None` if no octets reach that state: if
+    /// there are more than 2.
     pub fn at(held: u8) -> Option<TextReader>
         ensures place { IfSome result (λ reader. reader ≡ Some held) }
         ensures exactly { IsSome result ↔ ((octets : List ℕ) × StandsAt (Some held) octets) }
@@ -66,16 +68,21 @@ impl TextReader {
         Some(TextReader { held: Some(held) })
     }
 
-    /// Takes the next octets of the text, and tells the sink what is delivered of them, or of those before the refused one.
-    /// After a refusal the reader has failed ([`TextReader::is_failed`]), and takes no further call.
+    /// Feeds the next octets of the text, and passes to the sink what is delivered of them, or of
+    /// those before the rejected one.
+    ///
+    /// **Errors:** the first octet with which the octets so far are not a viable prefix of a text,
+    /// or at which the sink stopped. The reader has then failed ([`TextReader::is_failed`]), and
+    /// accepts no further call.
     pub fn run<S: StorySink>(&mut self, run: &[u8], sink: &mut S) -> Result<(), TextFault>
         requires { IsSome self.old }
 
-        // The octets so far, with the run, are a text so far, and the sink was told what is delivered of the run.
+        // The octets so far, with the slice, are a viable prefix of a text, and the sink received
+        // what is delivered of the slice.
         ensures takes_calls { OnOk result (IsSome self.new) }
         ensures taken { OnOk result (TakesPiece S.goes S.failures self.old run.now self.new sink.old sink.new) }
 
-        // With the refused octet no text can continue from them, or the sink stopped.
+        // With the rejected octet they are not a viable prefix, or the sink stopped.
         ensures failed { OnErr result (self.new ≡ None) }
         ensures refused { IfErr result (λ fault.
             RefusesOne S.goes S.failures self.old run.now fault sink.old sink.new) }
@@ -92,7 +99,9 @@ impl TextReader {
         }
     }
 
-    /// Takes the end of the text. Refused as LoneReturn, with `taken` 0, where CR are held. The reader has failed then.
+    /// Ends the text.
+    ///
+    /// **Errors:** `LoneReturn`, with `taken` 0, if CR are pending. The reader has then failed.
     pub fn close(&mut self) -> Result<(), TextFault>
         requires { IsSome self.old }
 
@@ -100,7 +109,7 @@ impl TextReader {
         ensures unchanged { OnOk result (self.new ≡ self.old) }
         ensures text { OnOk result ((octets : List ℕ) → StandsAt self.old octets → AreLines octets) }
 
-        // A CR is held, so no text ends here.
+        // A CR is pending, so the text may not end here.
         ensures failed { OnErr result (self.new ≡ None) }
         ensures fault { IfErr result (λ fault. (fault.taken ≡ 0) × (fault.cause ≡ TextCause.LoneReturn)) }
         ensures refused { OnErr result ((octets : List ℕ) → StandsAt self.old octets → StoryDiesAt octets End) }

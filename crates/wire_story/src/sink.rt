@@ -1,4 +1,4 @@
-//! Where the text of a story goes.
+//! The sink that the text of a story goes to.
 
 ghost use Rattle.std.specs.Prelude.{◌≡◌, ◌<◌, ◌++◌, [], ◌∷◌, List, ℕ, length, map, take, IfErr, OnOk, OnErr};
 ghost use Rattle.iim_dataset.specs.Format.Octets.{Rose};
@@ -6,15 +6,17 @@ ghost use Rattle.wire_story.specs.Format.Texts.{IsLine, StoryEvent, LineOctet, L
 
 use iim_dataset::Stop;
 
-/// Where the text of a story goes: octets of lines, and ends of lines. A sink may refuse any of them.
+/// A receiver of the text of a story: octets of lines, and ends of lines. A sink may reject any of
+/// them.
 pub trait StorySink {
-    /// From one value to another by these events, told in this order.
+    /// Relates the values of a sink before and after it received these events, in this order.
     ghost goes: { Self → List StoryEvent → Self → Type 0 };
 
-    /// How often a call was refused. A stored count that stands at the greatest number of 64 bits may stay there.
+    /// The number of calls that the sink rejected. A stored counter may saturate at the greatest
+    /// number of 64 bits.
     ghost failures: { Self → ℕ };
 
-    /// Takes octets of the present line, or only those before the one that it refuses.
+    /// Receives octets of the current line, or only those before the one that it rejects.
     fn text(&mut self, run: &[u8]) -> Result<(), Stop>
         requires { IsLine run.now }
         ensures ok { OnOk result (goes self.old (map LineOctet run.now) self.new) }
@@ -23,7 +25,7 @@ pub trait StorySink {
         ensures front { IfErr result (λ stop. goes self.old (map LineOctet (take stop.taken run.now)) self.new) }
         ensures counted { OnErr result (Rose (failures self.old) (failures self.new)) };
 
-    /// Takes the end of the present line, or nothing.
+    /// Receives the end of the current line, or rejects it.
     fn line_end(&mut self) -> Result<(), Stop>
         ensures ok { OnOk result (goes self.old (LineEnd ∷ []) self.new) }
         ensures calm { OnOk result (failures self.new ≡ failures self.old) }
@@ -31,9 +33,9 @@ pub trait StorySink {
         ensures front { OnErr result (goes self.old [] self.new) }
         ensures counted { OnErr result (Rose (failures self.old) (failures self.new)) };
 
-    /// No events lead from each value to itself: so an empty run may change nothing.
+    /// The empty list of events relates each value to itself, so an empty slice may change nothing.
     ghost nothing: { (sink : Self) → goes sink [] sink };
 
-    /// Events and then others lead where all of them joined lead.
+    /// Events after other events are the same as all of them joined.
     ghost joined: { (a b c : Self) (xs ys : List StoryEvent) → goes a xs b → goes b ys c → goes a (xs ++ ys) c };
 }

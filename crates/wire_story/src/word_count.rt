@@ -12,16 +12,16 @@ use iim_dataset::octets::{SP, TAB};
 use std::marker::Model;
 use std::simd::prelude::*;
 
-/// How many octets of a longer run are tested at once.
+/// The number of octets of a longer slice that are tested at once.
 const WIDE: usize = 2 * BLOCK;
 
-/// The mask of 64 octets of which each passes.
+/// The mask of 64 octets that all pass.
 const ALL: u64 = u64::MAX;
 
-/// A count of the words that are told. A word is a longest run, inside one line, of octets other than SP and TAB.
-/// The count stays at the greatest number of 64 bits once there. It takes everything and keeps nothing.
+/// A sink that counts words. A word is a longest slice, inside one line, of octets other than SP
+/// and TAB. The counter saturates at `u64::MAX`. The sink accepts everything and stores nothing.
 ///
-/// Contracts see it as the number, and whether the present line ends inside a word so far.
+/// Contracts see it as the number, and whether the current line ends inside a word so far.
 #[derive(Debug, Drop)]
 pub struct WordCount {
     words: u64,
@@ -34,7 +34,7 @@ impl Model for WordCount {
     ghost view = { λ count. record { words = count.words; inside = count.inside } };
 }
 
-/// Whether an octet of a line is of a word.
+/// Checks whether an octet of a line belongs to a word.
 #[inline(always)]
 fn is_of_word(octet: u8) -> bool
     ensures { result ≡ is_word_octet octet }
@@ -42,7 +42,7 @@ fn is_of_word(octet: u8) -> bool
     !(octet == SP || octet == TAB)
 }
 
-/// The mask of SP and TAB in a block.
+/// Returns the mask of SP and TAB in a block.
 #[inline(always)]
 fn block_blanks(block: &[u8]) -> u64
     requires { 16 ≤ length block.now }
@@ -52,7 +52,7 @@ fn block_blanks(block: &[u8]) -> u64
     (octets.simd_eq(u8x16::splat(SP)) | octets.simd_eq(u8x16::splat(TAB))).to_bitmask()
 }
 
-/// The mask of SP and TAB in a block of a longer run.
+/// Returns the mask of SP and TAB in a wide block.
 #[inline(always)]
 fn wide_blanks(block: &[u8]) -> u64
     requires { 32 ≤ length block.now }
@@ -62,8 +62,9 @@ fn wide_blanks(block: &[u8]) -> u64
     (octets.simd_eq(u8x32::splat(SP)) | octets.simd_eq(u8x32::splat(TAB))).to_bitmask()
 }
 
-/// How many words begin in octets of a line, by the mask of their blanks. `before` is 1 where what stands before them is a blank, else 0,
-/// and `after` says the same of the last of them. A word begins with an octet of one after a blank, or at the beginning of a line.
+/// Counts the words that begin in octets of a line, by the mask of their blanks. `before` is 1 if
+/// no word is in progress before them, and otherwise 0; `after` is the same for the end of the
+/// octets. A word begins with an octet of a word after a blank, or at the beginning of a line.
 #[inline(always)]
 fn begun_in(before: u64, octets: &[u8], blanks: u64, after: u64) -> u64
     requires short { length octets.now < 64 }
@@ -73,12 +74,13 @@ fn begun_in(before: u64, octets: &[u8], blanks: u64, after: u64) -> u64
     ensures { result ≡ words_begun (before == 0) octets.now }
 {
     let _ = octets;
-    // After a last blank one begins that is not there.
+    // A last blank adds a bit for a word that is not there; `after` subtracts it.
     let begun = (ALL - blanks) & (blanks * 2 + before);
     u64::from(begun.count_ones()) - after
 }
 
-/// How many words begin in octets of a line, and 1 where the last one is a blank, else 0: by two blocks, which may overlap.
+/// Counts the words that begin in octets of a line, by two blocks, which may overlap. Returns also
+/// 1 if the last octet is a blank, and otherwise 0.
 #[inline(always)]
 fn few_begun(before: u64, octets: &[u8]) -> (u64, u64)
     requires one { before ≤ 1 }
@@ -94,7 +96,8 @@ fn few_begun(before: u64, octets: &[u8]) -> (u64, u64)
     (begun_in(before, octets, blanks, after), after)
 }
 
-/// The same by two wide blocks, which may overlap.
+/// Counts the words that begin in octets of a line, by two wide blocks, which may overlap. Returns
+/// also 1 if the last octet is a blank, and otherwise 0.
 #[inline(always)]
 fn more_begun(before: u64, octets: &[u8]) -> (u64, u64)
     requires one { before ≤ 1 }
@@ -110,7 +113,8 @@ fn more_begun(before: u64, octets: &[u8]) -> (u64, u64)
     (begun_in(before, octets, blanks, after), after)
 }
 
-/// The same by wide blocks, the last of which may overlap the one before.
+/// Counts the words that begin in octets of a line, by wide blocks, of which the last may overlap
+/// the one before. Returns also 1 if the last octet is a blank, and otherwise 0.
 #[inline(always)]
 fn many_begun(before: u64, octets: &[u8]) -> (u64, u64)
     requires one { before ≤ 1 }
@@ -131,7 +135,8 @@ fn many_begun(before: u64, octets: &[u8]) -> (u64, u64)
     (begun + more, last)
 }
 
-/// The same by blocks as wide as the octets allow.
+/// Counts the words that begin in octets of a line, by blocks as wide as the octets allow. Returns
+/// also 1 if the last octet is a blank, and otherwise 0.
 #[inline(always)]
 fn blocks_begun(before: u64, octets: &[u8]) -> (u64, u64)
     requires one { before ≤ 1 }
@@ -149,7 +154,7 @@ fn blocks_begun(before: u64, octets: &[u8]) -> (u64, u64)
 }
 
 impl WordCount {
-    /// A count of no words, at the beginning of a line.
+    /// Creates a counter of no words, at the beginning of a line.
     pub fn new() -> WordCount
         ensures words { result.words ≡ 0 }
         ensures inside { result.inside ≡ false }
@@ -160,7 +165,8 @@ impl WordCount {
         }
     }
 
-    /// A count that continues from so many words, inside a word of the present line or not.
+    /// Creates a counter that continues from `words` words, inside a word of the current line or
+    /// not.
     pub fn resume(words: u64, inside: bool) -> WordCount
         ensures words { result.words ≡ words }
         ensures inside { result.inside ≡ inside }
@@ -168,7 +174,8 @@ impl WordCount {
         WordCount { words, inside }
     }
 
-    /// The number of words so far, and whether the present line ends inside a word: from there a count can be resumed.
+    /// Returns the number of words so far, and whether the current line ends inside a word.
+    /// [`WordCount::resume`] continues from these.
     pub fn so_far(&self) -> (u64, bool)
         ensures words { result.0 ≡ self.now.words }
         ensures inside { result.1 ≡ self.now.inside }
@@ -176,14 +183,15 @@ impl WordCount {
         (self.words, self.inside)
     }
 
-    /// The number of words so far.
+    /// Returns the number of words so far.
     pub fn words(&self) -> u64
         ensures { result ≡ self.now.words }
     {
         self.words
     }
 
-    /// Counts the words that begin in octets of the present line. `after` is 1 where the last octet is a blank, else 0.
+    /// Adds the words that begin in octets of the current line. `after` is 1 if the last octet is a
+    /// blank, and otherwise 0.
     #[inline(always)]
     fn add(&mut self, begun: u64, after: u64)
         ensures { (xs : List ℕ) → begun ≡ words_begun self.old.inside xs → after ≡ outside_after self.old.inside xs
@@ -193,7 +201,7 @@ impl WordCount {
         self.inside = after == 0;
     }
 
-    /// Takes octets of the present line by blocks.
+    /// Receives octets of the current line, by blocks.
     #[inline(never)]
     fn take_blocks(&mut self, octets: &[u8])
         requires { 16 ≤ length octets.now }
@@ -203,7 +211,7 @@ impl WordCount {
         self.add(begun, after);
     }
 
-    /// Takes an octet of the present line.
+    /// Receives an octet of the current line.
     #[inline(always)]
     fn take(&mut self, octet: u8)
         ensures { CountsWords self.old (LineOctet octet ∷ []) self.new }
@@ -218,7 +226,7 @@ impl WordCount {
         }
     }
 
-    /// Takes octets of the present line, each by itself.
+    /// Receives octets of the current line, one by one.
     #[inline(always)]
     fn take_each(&mut self, octets: &[u8])
         ensures { CountsWords self.old (map LineOctet octets.now) self.new }

@@ -9,7 +9,8 @@ use crate::sink::StorySink;
 use iim_dataset::octets::LF;
 use iim_dataset::{Stop, Target, put};
 
-/// A sink that writes the lines joined by LF to a target. It counts its stops up to the greatest number of 64 bits.
+/// A sink that writes the lines joined by LF to a target. Its counter of stops saturates at
+/// `u64::MAX`.
 #[derive(Drop)]
 pub struct LineWriter<W> {
     writer: W,
@@ -19,7 +20,7 @@ pub struct LineWriter<W> {
 impl<W: Target> LineWriter<W> {
     ghost use Rattle.wire_story.specs.States.Reading.{writer_of, device_of, stops_of, WritesOctets};
 
-    /// A sink that writes lines to this target.
+    /// Creates a sink that writes lines to this target.
     pub fn new(writer: W) -> LineWriter<W>
         ensures writer { writer_of result ≡ writer }
         ensures stops { stops_of result ≡ 0 }
@@ -27,7 +28,7 @@ impl<W: Target> LineWriter<W> {
         LineWriter { writer, stops: 0 }
     }
 
-    /// The target, with what was written.
+    /// Returns the target, with what was written.
     pub fn into_writer(self) -> W
         ensures { result ≡ writer_of self }
     {
@@ -82,7 +83,8 @@ impl<W: Target> StorySink for LineWriter<W> {
             WritesLines W.state self.old (map LineOctet (take stop.taken run.now)) self.new) }
         ensures counted { OnErr result (Rose (stops_of self.old) (stops_of self.new)) }
 
-        // It stops only where the target failed in this call, or was interrupted at least a million times in it.
+        // It stops only if the target failed in this call, or was interrupted at least a million
+        // times in it.
         ensures wrote { OnOk result (Wrote (device_of W.state self.old) (device_of W.state self.new) run.now) }
         ensures stopped { IfErr result (λ stop.
             Stopped (device_of W.state self.old) (device_of W.state self.new) run.now stop.taken) }
@@ -99,7 +101,8 @@ impl<W: Target> StorySink for LineWriter<W> {
         ensures front { OnErr result (WritesLines W.state self.old [] self.new) }
         ensures counted { OnErr result (Rose (stops_of self.old) (stops_of self.new)) }
 
-        // The same of the LF.
+        // For the LF, it stops only if the target failed in this call, or was interrupted at least
+        // a million times in it.
         ensures wrote { OnOk result (Wrote (device_of W.state self.old) (device_of W.state self.new) (lf ∷ [])) }
         ensures stopped { OnErr result (Stopped (device_of W.state self.old) (device_of W.state self.new) (lf ∷ []) 0) }
         ensures patience { WithinInterruptionLimit 1 (device_of W.state self.old) (device_of W.state self.new) }

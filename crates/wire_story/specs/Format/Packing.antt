@@ -1,4 +1,4 @@
--- How events are packed, and the lines that they are.
+-- How events are packed, and the lines of events.
 use Rattle.std.specs.Prelude.{◌≡◌, ℕ, List, [], ◌∷◌, flat_map, IsTrue}
 use Rattle.std.specs.List.{AllByRecursion}
 use Rattle.wire_story.specs.Format.Texts.{is_line_octet, line_end, packed_text, MakeText, StoryEvent, LineOctet, LineEnd}
@@ -9,11 +9,11 @@ abbrev pub packed_event : StoryEvent → List ℕ
 packed_event (LineOctet b) = b ∷ []
 packed_event LineEnd = line_end 1
 
--- the octets that a packer writes of a text that comes in these events
+-- the octets that a packer writes of a text that arrives as these events
 abbrev pub packed_events : List StoryEvent → List ℕ
 packed_events events = flat_map packed_event events
 
--- the octet may stand in a line
+-- a line may have the octet
 abbrev pub IsEvent : StoryEvent → Type 0
 IsEvent (LineOctet b) = IsTrue (is_line_octet b)
 IsEvent LineEnd = Unit {0}
@@ -21,11 +21,11 @@ IsEvent LineEnd = Unit {0}
 abbrev pub AreEvents : List StoryEvent → Type 0
 AreEvents events = AllByRecursion IsEvent events
 
--- the lines that events are
+-- the lines of events
 abbrev pub lines_of : List StoryEvent → List (List ℕ)
 lines_of events = collect ([] ∷ []) events
 
--- Events are packed as the lines that they are, and these make a text.
+-- Events are packed as their lines, and these make a text.
 pub record IsPackedAsLines (events : List StoryEvent) : Type 0 where
   pub text : packed_text (lines_of events) ≡ packed_events events
   pub make : MakeText (lines_of events)

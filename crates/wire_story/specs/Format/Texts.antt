@@ -1,4 +1,5 @@
--- The text of a story: its lines, its tokens, what a sink is told of it, its words, and why an octet is refused.
+-- The text of a story: its lines, its tokens, the events that a sink receives, its words, and why
+-- an octet is rejected.
 use Rattle.std.specs.Prelude.{◌≡◌, ℕ, ◌<◌, ◌≤◌, Bool, not, ◌&&◌, ◌||◌, nat_lt, ◌==◌, IsTrue, List, [], ◌∷◌, ◌++◌, length, replicate, map, if◌then◌else◌, flat_map, ◌+◌, ◌^◌, min, false, codes, decimal}
 use Rattle.std.specs.List.{list_all, sum_by}
 use Rattle.iim_dataset.specs.Format.Octets.{soh, stx, etx, eot, lf, cr, IsAlive, DiesAt, greatest_u64, tab, sp}
@@ -10,11 +11,11 @@ use Rattle.wire_story.specs.declared.fault.TextCause.TheVariants.{LoneReturn, Co
 abbrev pub is_line_octet : ℕ → Bool
 is_line_octet b = nat_lt b 256 && not (b == soh || b == stx || b == etx || b == eot || b == lf || b == cr)
 
--- Each of the octets may stand in a line.
+-- A line may have each of the octets.
 abbrev pub IsLine : List ℕ → Type 0
 IsLine xs = IsTrue (list_all is_line_octet xs)
 
--- the most CR of a line end
+-- the greatest number of CR of a line end
 abbrev pub max_returns : ℕ
 max_returns = 2
 
@@ -22,7 +23,7 @@ max_returns = 2
 abbrev pub line_end : ℕ → List ℕ
 line_end returns = replicate returns cr ++ lf ∷ []
 
--- A text is its lines, one at least, with a line end of up to two CR between each two.
+-- A text is its lines, at least one, with a line end of at most two CR between each two.
 abbrev pub IsText : List ℕ → List (List ℕ) → Type 0
 IsText x [] = ⊥
 IsText x (line ∷ []) = IsLine line × (x ≡ line)
@@ -31,11 +32,12 @@ IsText x (line ∷ next ∷ lines) = IsLine line
     × (rest : List ℕ) × (x ≡ line ++ (line_end returns ++ rest))
     × IsText rest (next ∷ lines)
 
--- Some lines make this text.
+-- The octets are a text: some lines make it.
 abbrev pub AreLines : List ℕ → Type 0
 AreLines x = (lines : List (List ℕ)) × IsText x lines
 
--- A text so far is whole lines with their ends, the begun line, and up to two CR that no LF has followed yet.
+-- A text so far is complete lines with their ends, the current line, and at most two CR that no LF
+-- has followed yet.
 abbrev pub IsTextSoFar : List ℕ → List (List ℕ) → List ℕ → ℕ → Type 0
 IsTextSoFar x [] line held = IsLine line × (held ≤ max_returns) × (x ≡ line ++ replicate held cr)
 IsTextSoFar x (first ∷ lines) line held = IsLine first
@@ -47,7 +49,7 @@ IsTextSoFar x (first ∷ lines) line held = IsLine first
 abbrev pub Holds : List ℕ → ℕ → Type 0
 Holds x held = (lines : List (List ℕ)) × (line : List ℕ) × IsTextSoFar x lines line held
 
--- Lines that make a text: one at least, and in each only octets that may stand in one.
+-- Lines that make a text: at least one, with only octets that a line may have.
 abbrev pub MakeText : List (List ℕ) → Type 0
 MakeText lines = (0 < length lines) × IsTrue (list_all (list_all is_line_octet) lines)
 
@@ -73,11 +75,11 @@ pub record StoryLanguage (tokens : List OctetOrEnd) : Type 0 where
   pub lined : IsText text lines
   pub tokens_are : tokens ≡ with_end text
 
--- A story can continue from the octets.
+-- The octets are a viable prefix of a story.
 abbrev pub LivesWith : List ℕ → Type 0
 LivesWith octets = IsAlive StoryLanguage (map Octet octets)
 
--- A story can continue from the octets, and not from them with the next token.
+-- The octets are a viable prefix of a story, and with the next token they are not.
 abbrev pub StoryDiesAt : List ℕ → OctetOrEnd → Type 0
 StoryDiesAt octets token = DiesAt StoryLanguage (map Octet octets) token
 
@@ -86,11 +88,12 @@ pub data StoryEvent : Type 0 where
   LineOctet : (octet : ℕ) → StoryEvent
   LineEnd : StoryEvent
 
--- An LF ends a line. Of a CR nothing is told: it belongs to the line end that follows, or no LF has come yet.
+-- An LF ends a line. A CR gives no event: it belongs to the line end that follows, or no LF has
+-- come yet.
 abbrev pub events_of : ℕ → List StoryEvent
 events_of b = if b == lf then LineEnd ∷ [] else if b == cr then [] else LineOctet b ∷ []
 
--- what is delivered of octets of a text, whole or not
+-- the events that are delivered of octets of a text, complete or not
 abbrev pub delivered : List ℕ → List StoryEvent
 delivered x = flat_map events_of x
 
@@ -100,12 +103,12 @@ events_of_lines [] = []
 events_of_lines (line ∷ []) = map LineOctet line
 events_of_lines (line ∷ next ∷ lines) = map LineOctet line ++ (LineEnd ∷ events_of_lines (next ∷ lines))
 
--- the octet that stands for an event where lines are joined by LF
+-- the octet of an event if lines are joined by LF
 abbrev pub octet_for : StoryEvent → ℕ
 octet_for (LineOctet b) = b
 octet_for LineEnd = lf
 
--- ---- The words of lines, and a count of words that grows by what a sink is told.
+-- ---- The words of lines, and a counter of words that grows with the events of a sink.
 
 -- any octet but SP and TAB
 abbrev pub is_word_octet : ℕ → Bool
@@ -115,11 +118,11 @@ is_word_octet b = not (b == sp || b == tab)
 abbrev pub is_blank : ℕ → Bool
 is_blank b = not (is_word_octet b)
 
--- One where a word begins with the octet: it is of a word, and the one before it in its line is not.
+-- 1 if a word begins with the octet: it is of a word, and the one before it in its line is not
 abbrev pub begun_with : Bool → ℕ → ℕ
 begun_with inside b = if is_word_octet b && not inside then 1 else 0
 
--- how many words begin in octets of a line, where those before them end inside a word or not
+-- how many words begin in octets of a line, if the octets before them end inside a word or not
 abbrev pub words_begun : Bool → List ℕ → ℕ
 words_begun inside [] = 0
 words_begun inside (b ∷ xs) = begun_with inside b + words_begun (is_word_octet b) xs
@@ -132,37 +135,38 @@ words_in line = words_begun false line
 abbrev pub words : List (List ℕ) → ℕ
 words lines = sum_by words_in lines
 
--- ---- what a word is
+-- ---- What a word is.
 
 -- Nothing comes next, or SP, or TAB: a word before it is as long as it can be.
 abbrev pub EndsWord : List ℕ → Type 0
 EndsWord [] = Unit {0}
 EndsWord (b ∷ xs) = is_word_octet b ≡ false
 
--- The line is these words, in order, each of one octet at least and as long as it can be, and blanks before, between and after them.
+-- The line is these words, in order, each of at least one octet and as long as it can be, and
+-- blanks before, between and after them.
 abbrev pub HasWords : List ℕ → List (List ℕ) → Type 0
 HasWords line [] = IsTrue (list_all is_blank line)
 HasWords line (word ∷ others) = (blank : List ℕ) × IsTrue (list_all is_blank blank) × ((0 < length word) × IsTrue (list_all is_word_octet word))
     × (rest : List ℕ) × (line ≡ blank ++ (word ++ rest)) × EndsWord rest × HasWords rest others
 
--- ---- words as they are told
+-- ---- Words of events.
 
--- a count of words, and whether the present line ends inside a word so far
+-- a counter of words, and whether the current line ends inside a word so far
 pub record WordsSoFar : Type 0 where
   pub words : ℕ
   pub inside : Bool
 
--- the greatest count
+-- the number, or the greatest number of 64 bits if it exceeds that
 abbrev pub capped : ℕ → ℕ
 capped n = min n greatest_u64
 
--- how many words begin in the events, where those before them end inside a word or not
+-- how many words begin in the events, if those before them end inside a word or not
 abbrev pub words_told : Bool → List StoryEvent → ℕ
 words_told inside [] = 0
 words_told inside (LineOctet b ∷ events) = begun_with inside b + words_told (is_word_octet b) events
 words_told inside (LineEnd ∷ events) = words_told false events
 
--- whether the present line ends inside a word after the events
+-- whether the current line ends inside a word after the events
 abbrev pub inside_after : Bool → List StoryEvent → Bool
 inside_after inside [] = inside
 inside_after inside (LineOctet b ∷ events) = inside_after (is_word_octet b) events
@@ -187,6 +191,6 @@ name_of_text Sink = codes "Sink"
 abbrev pub print_of_text : TextCause → List ℕ
 print_of_text cause = decimal (number_of_text cause) ++ (codes " " ++ name_of_text cause)
 
--- The number of octets before the refused one, and the cause, as they are printed.
+-- The number of octets before the rejected one, and the cause, as they are printed.
 abbrev pub print_of_fault : TextFault → List ℕ
 print_of_fault fault = codes "refused after " ++ (decimal fault.taken ++ (codes " octets, cause " ++ print_of_text fault.cause))

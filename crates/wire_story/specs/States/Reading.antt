@@ -1,4 +1,4 @@
--- Where a reader of a text, a writer of lines and what collects them stand.
+-- The states of a reader of a text, of a writer of lines and of a collector of lines.
 use Rattle.std.specs.Prelude.{ℕ, List, [], ◌∷◌, ◌++◌, ◌≡◌, ◌≢◌, ◌<◌, ◌≤◌, length, take, slice_index, Option, Some, ◌+◌, ◌^◌, ◌⊎◌, map}
 use Rattle.std.specs.Io.KnownBytes.{Appends}
 use Rattle.wire_story.specs.Format.Texts.{StoryEvent, LineOctet, LineEnd, Holds, max_returns, delivered, Octet, LivesWith, StoryDiesAt, octet_for}
@@ -8,39 +8,41 @@ use Rattle.wire_story.specs.declared.{writer.LineWriter.LineWriter}
 use Rattle.iim_dataset.specs.Format.Octets.{soh, eot, lf, cr, Rose}
 use Rattle.iim_dataset.specs.States.Devices.{Device, RoseAtLeast, max_interruptions}
 
--- collected lines, how often their growth was refused, and for how many octets there is memory
+-- collected lines, the number of failed allocations, and the capacity in octets
 pub record Collected : Type 0 where
   pub lines : List (List ℕ)
   pub failures : ℕ
   pub room : ℕ
 
--- the lines with one octet more, at the end of the last
+-- the lines with one more octet, at the end of the last
 abbrev pub add_octet : List (List ℕ) → ℕ → List (List ℕ)
 add_octet [] b = (b ∷ []) ∷ []
 add_octet (line ∷ []) b = (line ++ b ∷ []) ∷ []
 add_octet (line ∷ next ∷ lines) b = line ∷ add_octet (next ∷ lines) b
 
--- An octet goes to the end of the last line, and the end of a line begins an empty one.
+-- An octet is appended to the last line, and the end of a line begins an empty one.
 abbrev pub collect : List (List ℕ) → List StoryEvent → List (List ℕ)
 collect lines [] = lines
 collect lines (LineOctet b ∷ events) = collect (add_octet lines b) events
 collect lines (LineEnd ∷ events) = collect (lines ++ [] ∷ []) events
 
--- ---- Where a reader of a text stands, and why it refuses an octet.
+-- ---- The state of a reader of a text, and why it rejects an octet.
 
--- The reader, seen as the number of CR held, stands where it has taken these octets: they are a text so far that holds as many.
+-- The reader, seen as the number of pending CR, is in the state after these octets: they are a text
+-- so far with as many CR at its end.
 abbrev pub StandsAt : Option ℕ → List ℕ → Type 0
 StandsAt reader octets = (held : ℕ) × (reader ≡ Some held) × Holds octets held
 
--- The reader takes calls, and holds two CR at most.
+-- The reader accepts calls, and at most two CR are pending.
 abbrev pub IsPlace : Option ℕ → Type 0
 IsPlace reader = (held : ℕ) × (reader ≡ Some held) × (held ≤ max_returns)
 
--- A piece leads a reader on: for all octets so far at which it stood, it then stands at these and the piece.
+-- A chunk takes a reader from the state after any octets to the state after these octets and the
+-- chunk.
 abbrev pub LeadsOn : Option ℕ → List ℕ → Option ℕ → Type 0
 LeadsOn old piece new = (octets : List ℕ) → StandsAt old octets → StandsAt new (octets ++ piece)
 
--- after `held` CR an octet that is neither LF nor one of the first two CR
+-- after `held` CR, an octet that is neither LF nor one of the first two CR
 abbrev pub IsLoneReturn : ℕ → ℕ → Type 0
 IsLoneReturn held octet = (0 < held) × (octet ≢ lf) × (octet ≡ cr → held ≡ max_returns)
 
@@ -48,56 +50,60 @@ IsLoneReturn held octet = (0 < held) × (octet ≢ lf) × (octet ≡ cr → held
 abbrev pub IsControl : ℕ → Type 0
 IsControl octet = (soh ≤ octet) × (octet ≤ eot)
 
--- Why an octet is refused after others: the story dies with it, or it lives and the sink refuses what it is told.
+-- Why an octet is rejected after others: with it they are no longer a viable prefix, or they are
+-- and the sink rejects what it receives.
 abbrev pub HasCause : TextCause → List ℕ → ℕ → Type 0
 HasCause LoneReturn octets octet = StoryDiesAt octets (Octet octet) × ((held : ℕ) × Holds octets held × IsLoneReturn held octet)
 HasCause ControlOctet octets octet = StoryDiesAt octets (Octet octet) × Holds octets 0 × IsControl octet
 HasCause Sink octets octet = LivesWith (octets ++ octet ∷ []) × (octet ≢ cr)
 
--- For all octets so far at which the reader stood, the octet after the first `taken` of the piece is refused for that cause.
+-- After all octets so far, the octet after the first `taken` of the chunk is rejected for that
+-- cause.
 abbrev pub Refuses : Option ℕ → List ℕ → TextFault → Type 0
 Refuses old piece fault = (octets : List ℕ) → StandsAt old octets →
     HasCause fault.cause (octets ++ take fault.taken piece) (slice_index piece fault.taken)
 
--- The sink's count of failures rose where the sink refused, and nowhere else.
+-- The failure counter of the sink rose exactly if the sink rejected.
 abbrev pub CountsCause : ℕ → ℕ → TextCause → Type 0
 CountsCause old new LoneReturn = new ≡ old
 CountsCause old new ControlOctet = new ≡ old
 CountsCause old new Sink = Rose old new
 
--- ---- what a call comes to
+-- ---- How a call ends.
 
--- All octets of a piece were taken: they led the reader on, the sink was told just what is delivered of them, and it did not stop.
+-- All octets of a chunk were consumed: the reader is in the state after them, the sink received
+-- exactly the events delivered of them, and it did not stop.
 pub record TakesPiece {S : Type 0} (goes : S → List StoryEvent → S → Type 0) (failures : S → ℕ) (old : Option ℕ) (piece : List ℕ) (new : Option ℕ) (a b : S) : Type 0 where
   pub leads_on : LeadsOn old piece new
   pub told : goes a (delivered piece) b
   pub calm : failures b ≡ failures a
 
--- One octet of a piece was refused, for its cause. The sink was told just what is delivered of those before it, and its count of
--- failures rose where it was the one that refused.
+-- One octet of a chunk was rejected, for its cause. The sink received exactly the events delivered
+-- of those before it, and its failure counter rose if the sink rejected it.
 pub record RefusesOne {S : Type 0} (goes : S → List StoryEvent → S → Type 0) (failures : S → ℕ) (old : Option ℕ) (piece : List ℕ) (fault : TextFault) (a b : S) : Type 0 where
   pub before : fault.taken < length piece
   pub refused : Refuses old piece fault
   pub told : goes a (delivered (take fault.taken piece)) b
   pub counted : CountsCause (failures a) (failures b) fault.cause
 
--- what the lines go to
+-- the target that the lines go to
 abbrev pub writer_of : {W : Type 0} → LineWriter W → W
 writer_of sink = sink.writer
 
--- the same as a device
+-- the target that the lines go to, as its state
 abbrev pub device_of : {W : Type 0} → (W → Device) → LineWriter W → Device
 device_of state sink = state sink.writer
 
--- how often it stopped
+-- how often the writer of lines stopped
 abbrev pub stops_of : {W : Type 0} → LineWriter W → ℕ
 stops_of sink = sink.stops
 
--- Of a device a call failed, or a million were interrupted.
+-- A call of the target failed, or at least a million were interrupted.
 abbrev pub HasBroken : Device → Device → Type 0
 HasBroken old new = RoseAtLeast 1 old.failures new.failures ⊎ RoseAtLeast max_interruptions old.interruptions new.interruptions
 
--- A device took these octets. It has broken where the writer of lines stopped, and no call of it failed where it did not.
+-- The target accepted these octets. A call of it failed or was interrupted a million times if the
+-- writer of lines stopped, and none failed if it did not.
 pub record WritesOn (old new : Device) (stops_old stops_new : ℕ) (text : List ℕ) : Type 0 where
   pub octets : Appends old.octets new.octets text
   pub failures : old.failures ≤ new.failures
@@ -106,10 +112,10 @@ pub record WritesOn (old new : Device) (stops_old stops_new : ℕ) (text : List 
   pub broken : stops_old < stops_new → HasBroken old new
   pub unbroken : stops_new ≡ stops_old → stops_new + 1 < 2 ^ 64 → new.failures ≡ old.failures
 
--- From one value to another a writer of lines wrote these octets.
+-- A writer of lines wrote these octets.
 abbrev pub WritesOctets : {W : Type 0} → (W → Device) → LineWriter W → List ℕ → LineWriter W → Type 0
 WritesOctets state old octets new = WritesOn (device_of state old) (device_of state new) (stops_of old) (stops_of new) octets
 
--- It was told these events, and wrote the octets for them.
+-- A writer of lines received these events, and wrote the octets for them.
 abbrev pub WritesLines : {W : Type 0} → (W → Device) → LineWriter W → List StoryEvent → LineWriter W → Type 0
 WritesLines state old events new = WritesOctets state old (map octet_for events) new

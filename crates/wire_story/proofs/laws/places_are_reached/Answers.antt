@@ -2,7 +2,7 @@ use Rattle.std.proofs.Common.{[], replicate, refl}
 use Rattle.wire_story.proofs.SoFar.{so_far_two}
 use Rattle.wire_story.proofs.laws.places_are_reached.Goals as goal
 
--- octets of nothing but CR hold as many
+-- Octets that are all CR reach the state with as many pending.
 pub returns : goal.returns
 returns c reader = (
   λ is. (replicate is.0 13, (is.0, is.1, ([], [], (refl, is.2, refl)))),

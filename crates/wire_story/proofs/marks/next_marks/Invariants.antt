@@ -4,7 +4,7 @@ use Rattle.std.specs.Simd.Lanes.{mask_l}
 use Rattle.wire_story.specs.{Format.Texts.IsLine, Steps.is_low}
 use Rattle.wire_story.proofs.marks.next_marks.Given as goal
 
--- the octets so far are calm
+-- The octets so far lie in one line.
 abbrev pub invariant-loop-mask : goal.invariant-loop-mask
 invariant-loop-mask l = record {
   later : l.from ≤ l.at;

@@ -26,7 +26,7 @@ loop-sink-preserved g c =
       taken = takes_both g.met.S.StorySink.joined rest at k c.loop-sink.invariant.taken c.in-Ok.ensures.taken;
     }
 
--- a line of no octets
+-- ---- A line of no octets.
 pub returns-then-used-eq0-clause-taken : goal.returns-then-used-eq0-clause-taken
 returns-then-used-eq0-clause-taken g c =
     let e : c.loop-sink.at + c.in-Ok.used ≡ c.loop-sink.at = omega (arith, c.if-used-eq0.true) in

@@ -2,7 +2,7 @@ use Rattle.std.proofs.Common.{◌≤◌, ◌-◌, take, drop, length, Some}
 use Rattle.wire_story.specs.{States.Reading.TakesPiece, Steps.AreMarks}
 use Rattle.wire_story.proofs.piece.take_lines.Given as goal
 
--- the lines so far were taken
+-- The lines so far were consumed.
 abbrev pub invariant-loop-sink : goal.invariant-loop-sink
 invariant-loop-sink g l = record {
   within : l.at ≤ length l.rest;

@@ -2,7 +2,7 @@ use Rattle.std.proofs.Common.{◌≤◌, ◌-◌, take, drop, length, Some}
 use Rattle.wire_story.specs.{States.Reading.TakesPiece, Steps.AreMarks}
 use Rattle.wire_story.proofs.piece.take_piece.Given as goal
 
--- the octets so far were taken
+-- The octets so far were consumed.
 abbrev pub invariant-loop-at : goal.invariant-loop-at
 invariant-loop-at g l = record {
   few : l.now ≤ 2;

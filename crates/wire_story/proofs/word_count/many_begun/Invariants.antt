@@ -2,7 +2,8 @@ use Rattle.std.proofs.Common.{◌≡◌, ◌≤◌, ◌+◌, ◌-◌, ◌==◌, 
 use Rattle.wire_story.specs.{Format.Texts.words_begun, Steps.outside_after}
 use Rattle.wire_story.proofs.word_count.many_begun.Given as goal
 
--- the words that begin in the octets so far, and whether they end inside one
+-- The words that begin in the octets so far were counted, and whether they end inside one is
+-- stored.
 abbrev pub invariant-loop-at : goal.invariant-loop-at
 invariant-loop-at l = record {
   room : l.at + 32 ≤ length l.octets;

@@ -8,7 +8,7 @@ use Rattle.std.proofs.lemmas.List.Elements.{All-from_get_or}
 use Rattle.wire_story.specs.Steps.{lines_in}
 use Rattle.wire_story.proofs.line_iter.LineIterIterator.next.Goals as goal
 
--- the first line, and those that are left after its LF
+-- The first line, and those that remain after its LF.
 first_line : (octets : List ℕ) (end : ℕ) → end ≡ position_or_len (λ b. b == 10) octets → end < length octets
     → lines_in octets ≡ take end octets ∷ lines_in (slice_range octets (end + 1) (length octets))
 first_line octets end e l =
@@ -16,13 +16,13 @@ first_line octets end e l =
     ∙ ap (λ (n : ℕ). take n octets ∷ lines_in (drop (n + 1) octets)) (sym e)
     ∙ ap (λ (rest : List ℕ). take end octets ∷ lines_in rest) (sym (take_rest octets (end + 1)))
 
--- the last line
+-- The last line.
 last_line : (octets : List ℕ) (end : ℕ) → end ≡ position_or_len (λ b. b == 10) octets → length octets ≤ end → lines_in octets ≡ octets ∷ []
 last_line octets end e l =
     slice_split_none (λ b. b == 10) octets (All-from_get_or (λ b. (b == 10) ≡ false) octets 0
     (λ k within. fails_before_first (λ b. b == 10) octets k 0 (omega (arith, e, l, within))))
 
--- what is seen of an iterator with octets left
+-- The view of an iterator with octets that remain.
 seen : (left : Option (Bor (List ℕ))) (rest : Bor (List ℕ)) (lines : List (List ℕ))
     → unwrap_or (option_map lines_in (option_copied left)) [] ≡ lines → left ≡ Some rest → lines ≡ lines_in rest.now
 seen left rest lines view is = sym view ∙ ap (λ (o : Option (Bor (List ℕ))). unwrap_or (option_map lines_in (option_copied o)) []) is
