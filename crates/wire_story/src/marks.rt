@@ -49,7 +49,7 @@ fn calm_before(left: u64) -> (usize, u64)
 }
 
 /// Returns the position of the first low octet after the first `from` octets, by the last block,
-/// which overlaps them; or the number of octets if there is none.
+/// which overlaps them; or the number of octets otherwise.
 #[inline(always)]
 fn tail_calm(from: usize, octets: &[u8]) -> usize
     requires room { 16 ≤ length octets.now }

@@ -173,7 +173,7 @@ fn take_front<S: StorySink>(
 }
 
 /// Returns the length of the line end after the first `run` octets if no CR is pending, or 0 if
-/// there is none.
+/// no line end comes there.
 #[inline(always)]
 fn end_len(run: usize, octets: &[u8]) -> usize
     requires { run ≤ length octets.now }
