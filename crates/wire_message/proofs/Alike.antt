@@ -1,4 +1,5 @@
--- Octets that have led to a place live, lead on alike from the same place, and are refused alike.
+-- Octets that reach a state are viable prefixes; octets that reach the same state reach the same
+-- further states, and the same octets are rejected after them.
 use Rattle.std.proofs.Common.{◌≡◌, ℕ, ◌≤◌, true, cond, List, [], ◌∷◌, ◌++◌, map, Option, Some, refl, sym, ap, subst, ◌∙◌, arith, append-nil}
 use Rattle.wire_message.proofs.Names.{append_cancel_left, same_Some, AreLines, Holds, Octet, End, StoryLanguage, StoryLaws, TextReader, map_snoc, so_far_two, MessageLivesWith, text_so_far, StoryLivesIn, StoryDiesWith, HasCause, Spells, StoryStands, LeadsTo, TextsStandBetweenStxAndEtx, ReadersStandAtLivingOctets, LivingOctetsLeadOn, OctetsLeadToOnePlace, OctetsLeadOnAlike, OctetsAreRefusedAlike, Place, Filler, Text, Trailer, AfterEnd, MessageCause, BadOctet, Unfinished, LoneReturn, ControlOctet, Sink}
 use Rattle.wire_message.proofs.Machine.{Stands, led, unread, stands_unread, run, run_parts, one_end}
@@ -7,16 +8,16 @@ use Rattle.wire_message.proofs.TextSoFar.{TextIs, text_ended, none_yet, text_at,
 use Rattle.iim_dataset.specs.Format.Octets.{IsAlive}
 use Rattle.wire_story.specs.States.Reading as story
 
--- ---- how many CR a reader of the text holds
+-- ---- How many CR are pending in the text.
 
 pub holds_two : (x : List ℕ) (held : ℕ) → Holds x held → held ≤ 2
 holds_two x held h = so_far_two x h.0 h.1 held h.2
 
--- what stands at a text is a place
+-- A state of the text that octets reach satisfies the invariant.
 pub stands_two : (reader : TextReader) (x : List ℕ) → story.StandsAt reader x → story.IsPlace reader
 stands_two reader x at = (at.0, at.1, holds_two x at.0 at.2)
 
--- ---- octets that have led to a place can continue, as a message and as a story
+-- ---- Octets that reach a state can continue, as a message and as a story.
 
 pub texts_between : TextsStandBetweenStxAndEtx
 texts_between octets text place at = sym (text_at octets text place (led at)).text_is
@@ -32,7 +33,7 @@ pub stand_alive : StoryLaws → ReadersStandAtLivingOctets
 stand_alive laws octets text place at =
     (message_lives (led at), rw (tokens_of octets text (text_ended place) (text_at octets text place (led at))) (story_lives laws text place at.story))
 
--- ---- octets lead to one place at most, with one text
+-- ---- Octets reach at most one state, with one text.
 
 one_held : StoryLaws → (x : List ℕ) (held returns : ℕ) → Holds x held → Holds x returns → held ≡ returns
 one_held laws x held returns h k = (laws.texts_so_far_have_one_reading x h.0 k.0 h.1 k.1 held returns h.2 k.2).2
@@ -52,9 +53,9 @@ one_place laws octets text other p q a b =
     let same : text ≡ other = texts_between octets text p a ∙ sym (texts_between octets other q b) in
     (same, same_place laws text p q (one_end octets (spelled_runs (led a)) (spelled_runs (led b))) a.story (rw same b.story))
 
--- ---- the story
+-- ---- The story.
 
--- the reader of the text, and one that holds no CR where no text is being read
+-- the reader of the text, or one without pending CR if no text is being read
 abbrev reader_at : Place → Option ℕ
 reader_at (Text h reader) = reader
 reader_at p = Some 0
@@ -74,7 +75,7 @@ story_stands laws xs text (Trailer h v) l at = whole_text laws text at
 story_stands laws xs text (AfterEnd h v k) l at = whole_text laws text at
 story_stands laws xs text p l at = none_yet xs text p l refl
 
--- ---- from the same place the same octets lead on alike
+-- ---- Octets that reach the same state reach the same further states.
 
 spells_read : (xs text : List ℕ) (p : Place) → Spells xs text (unread p) → Spells xs text p
 spells_read xs text (Text h reader) s = s
@@ -94,13 +95,13 @@ alike laws a b x t u y p q here there on =
     (reader_stands laws (t ++ y) q on.story) in
     record { is_place = on.is_place; spelled = spelled; story = story_stands laws (b ++ x) (u ++ y) q spelled stands }
 
--- ---- octets with which a message can continue, and the story in it, lead on
+-- ---- Octets that are a viable prefix, as a message and as a story, reach a state.
 
--- from ETX on the text is whole
+-- From ETX on the text is complete.
 whole : StoryLaws → {octets text : List ℕ} → TextIs octets text true → StoryLivesIn octets → AreLines text
 whole laws {octets} {text} is lives = (laws.stories_end_as_texts text).0 (rw (tokens_of octets text true is) at lives)
 
--- In the text the reader of it holds as many CR as the text so far ends in.
+-- In the text as many CR are pending as the text so far ends in.
 story_leads : StoryLaws → (octets text : List ℕ) (p : Place) → Stands octets text p → StoryLivesIn octets → (place : Place) × LeadsTo octets text place
 story_leads laws octets text (Text h reader) at lives =
     let held = (laws.stories_live_as_texts_so_far text).0 (rw (tokens_are at) at lives) in
@@ -111,7 +112,7 @@ story_leads laws octets text (AfterEnd h t k) at lives =
     (AfterEnd h t k, record { is_place = at.bare; spelled = at.spelled; story = whole laws (text_at octets text (AfterEnd h t k) at) lives })
 story_leads laws octets text p at lives = (p, record { is_place = at.bare; spelled = at.spelled; story = none_yet octets text p at.spelled refl })
 
--- A message that can continue with the octets runs on from the place.
+-- A message that can continue with the octets reaches a further state.
 message_leads : {octets text : List ℕ} {p : Place} → Stands octets text p → (more : List ℕ) → MessageLivesWith (octets ++ more)
     → (new : Place) × Continues (unread p) more new
 message_leads {octets} {text} {p} at more message =
@@ -126,9 +127,9 @@ living_lead_on laws octets more text place at message story =
     let there = story_leads laws (octets ++ more) (text ++ on.1.0) on.0 (on.1.1 octets text (stands_unread octets text place (led at))) story in
     (on.1.0, there.0, there.1)
 
--- ---- from one place an octet is refused for one cause, whatever octets have led there
+-- ---- After octets that reach the same state an octet is rejected for the same cause.
 
--- Both octets have led to one place.
+-- Both lists of octets reach the same state.
 record LedAlike (a b t u : List ℕ) (p : Place) : Type 0 where
   here : LeadsTo a t p
   there : LeadsTo b u p
@@ -145,7 +146,7 @@ message_dies : {a b t u : List ℕ} {p : Place} (next : ℕ) → LedAlike a b t 
 message_dies {a} {b} next both dies =
     (message_lives (led both.there), λ lives. dies.1 (rw (map_snoc a next) (message_on (turned both) (next ∷ []) (rw (map_snoc b next) at lives))))
 
--- Where a message and its story can continue, the same octets lead on alike.
+-- If a message and its story can continue, the same octets reach the same further state.
 lead_on : StoryLaws → {a b t u : List ℕ} {p : Place} → LedAlike a b t u p → (x : List ℕ) → MessageLivesWith (a ++ x) → StoryLivesIn (a ++ x)
     → (added : List ℕ) × (new : Place) × LedAlike (a ++ x) (b ++ x) (t ++ added) (u ++ added) new
 lead_on laws {a} {b} {t} {u} {p} both x message story =
@@ -161,7 +162,7 @@ story_dies laws {a} {b} {t} {u} {p} next both message dies = (
       dies.1 (stand_alive laws (a ++ (next ∷ [])) (t ++ back.0) back.1 back.2.there).1,
 )
 
--- The place tells how many CR the text so far ends in.
+-- The state determines how many CR the text so far ends in.
 held_alike : StoryLaws → {a b t u : List ℕ} {p : Place} (held : ℕ) → LedAlike a b t u p → Holds (text_so_far a) held → Holds (text_so_far b) held
 held_alike laws {a} {b} {t} {u} {p} held both holds =
     let mine = reader_stands laws t p both.here.story in

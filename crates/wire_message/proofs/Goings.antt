@@ -1,17 +1,17 @@
--- What octets do at a place.
+-- What octets do in a state.
 use Rattle.std.proofs.Common.{◌≡◌, ℕ, ◌+◌, ◌<◌, ◌≤◌, Bool, true, false, ◌&&◌, ◌||◌, ◌==◌, nat_lt, length, slice_index, List, [], ◌∷◌, ◌++◌, Some, None, refl, subst, arith, append_assoc, append-nil}
 use Rattle.wire_message.proofs.Names.{and_parts, or_right, eqb-true, take_more, same_Some, ArrayVec, TextReader, IsField, is_info_octet, is_trailer_octet, is_filler_octet, is_text_octet, max_filler, max_info, max_trailer, Header, IsHeader, IsPlace, Spells, StoryStands, TakesSome, lengthens_gap, ends, begins, is_octet_of, most_of, text_of, HeaderPart, Source, HeaderTexts, Place, Filler, InHeader, Info, Gap, Text, Trailer, AfterEnd}
 use Rattle.wire_message.proofs.Machine.{of, no_texts, put, more_info, IsBare, Stands, stands, guarded, next, run, and_then_place, extended}
 use Rattle.wire_message.proofs.Transitions.{field_more, field_none, one_is, filler_more, filler_soh, info_more, info_gap, gap_more, gap_stx, text_more, text_etx, trailer_more, trailer_eot, end_more, no_texts_yet, longer_info, longer_is, longer_spells, next_is, next_spells, next_story}
 use Rattle.wire_story.specs.States.Reading as story
 
--- the octet that stands first
+-- The octet that comes first.
 pub first_is : (xs ys : List ℕ) (b : ℕ) → xs ≡ b ∷ ys → slice_index xs 0 ≡ b
 first_is xs ys b e = rw e refl
 
--- ---- one octet
+-- ---- One octet.
 
--- one octet leads from a place to another
+-- One octet takes a state to another.
 takes_one : (p q : Place) (rest : List ℕ) → 0 < length rest → IsPlace q
     → ((before text : List ℕ) → Spells before text p → Spells (before ++ (slice_index rest 0 ∷ [])) text q)
     → ((text : List ℕ) → StoryStands text p → StoryStands text q) → TakesSome p rest q 1
@@ -72,13 +72,13 @@ end_on h t k rest some i on =
     (λ before text l. end_more before text (slice_index rest 0 ∷ []) h t k (one_is is_filler_octet (slice_index rest 0) fill.0) (omega (arith, fill.1)) l)
     (λ text l. l)
 
--- ---- what octets lead on to, whatever the reader of the text
+-- ---- What octets reach, whatever the reader of the text.
 
--- From all octets that stand at p these lead to q, and add the same to the text.
+-- From all octets that match p these reach q, and add the same to the text.
 abbrev pub Continues : Place → List ℕ → Place → Type 0
 Continues p ys q = (more : List ℕ) × ((xs text : List ℕ) → Stands xs text p → Stands (xs ++ ys) (text ++ more) q)
 
--- they add nothing to the text
+-- The octets add nothing to the text.
 quiet : (p q : Place) (ys : List ℕ) → (IsBare p → IsBare q) → ((xs text : List ℕ) → IsBare p → Spells xs text p → Spells (xs ++ ys) text q) → Continues p ys q
 quiet p q ys is spells = ([], λ xs text s. rw (append-nil text) (record { bare = is s.bare; spelled = spells xs text s.bare s.spelled }))
 
@@ -90,13 +90,13 @@ quiet_at : (p q : Place) (b k : ℕ) → (b == k) ≡ true → (IsBare p → IsB
     → ((xs text : List ℕ) → IsBare p → Spells xs text p → Spells (xs ++ (k ∷ [])) text q) → Continues p (b ∷ []) q
 quiet_at p q b k t is spells = rw (eqb-true b k t) (quiet p q (k ∷ []) is spells)
 
--- the place after an octet is one of the two that may come
+-- The state after an octet is one of the two that may come.
 either : (C : Place → Type 0) (t u : Bool) (s r q : Place) → guarded t s (guarded u r None) ≡ Some q → (t ≡ true → C s) → (u ≡ true → C r) → C q
 either C true u s r q e f g = rw (same_Some s q e) at (f refl)
 either C false true s r q e f g = rw (same_Some r q e) at (g refl)
 either C false false s r q e f g = absurd cc
 
--- a part with one octet more
+-- A part with one octet more.
 one_more : (test : ℕ → Bool) (most : ℕ) (xs : List ℕ) (b : ℕ) → IsField test 0 most xs → (test b && nat_lt (length xs) most) ≡ true
     → IsField test 0 most (xs ++ (b ∷ []))
 one_more test most xs b h t =

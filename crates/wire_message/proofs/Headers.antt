@@ -1,11 +1,12 @@
--- An object is a message in one way at most; the header and the trailer that a reader tells are those of the octets so far.
+-- An object is a message in at most one way; the header and the trailer that a reader returns are
+-- those of the octets so far.
 use Rattle.std.proofs.Common.{◌≡◌, ℕ, ◌==◌, true, false, IsSome, Option, Some, None, List, [], ◌∷◌, ◌++◌, refl, sym, ap, subst, ◌∙◌, arith, is_some, length}
 use Rattle.wire_message.proofs.Names.{list_any, before_first, after_first, both_ways, nat_tests, Are, is_trailer_octet, Header, IsTrailer, BeginsWithHeader, fixed_header, IsMessage, after_stx, trailer_so_far, LeadsTo, head_read, trailer_read, TellsHeaderOf, HeadersAreToldFromStx, TrailersAreToldFromEtx, MessagesKeepTheirHeader, TrailersStandBetweenEtxAndEot, Place, Text, Trailer, AfterEnd, Filler, append_cancel_right, same_Some, ArrayVec}
 use Rattle.wire_message.proofs.{Machine.led, Machine.of, Machine.run, Machine.message_stands, Machine.one_end, Transitions.join2, Transitions.join3}
 use Rattle.wire_message.proofs.TextSoFar.{is_not, after_is, before_is, before_none, any_none, any_found, none_after, no_stx, no_etx, after_head, head_begins, text_begins, trailer_begins, message_begins, each, text_at}
 use Rattle.wire_message.proofs.Runs.{spelled_runs}
 
--- ---- the header
+-- ---- The header.
 
 -- the octets from SOH to STX, and those before them
 abbrev front_of : (octets : List ℕ) (h : Header) → BeginsWithHeader octets h → List ℕ
@@ -18,7 +19,7 @@ front_runs : (octets : List ℕ) (h : Header) (m : BeginsWithHeader octets h) �
 front_runs octets h m = spelled_runs {text = []} {p = Text h None}
     (record { bare = m.is_header; spelled = (m.before, m.info, m.gap, m.is_before, m.is_info, m.is_gap, refl, refl) })
 
--- octets begin with one header at most
+-- Octets begin with at most one header.
 one_head : (octets : List ℕ) (h k : Header) → BeginsWithHeader octets h → BeginsWithHeader octets k → h ≡ k
 one_head octets h k m n =
     let rest : m.rest ≡ n.rest = sym (after_head octets h m) ∙ after_head octets k n in
@@ -72,12 +73,12 @@ header_at octets text p l = not_told (Some p) octets refl (no_stx octets text p 
 pub headers_told : HeadersAreToldFromStx
 headers_told reader octets text stands = rw stands.1 (header_at octets text stands.0 stands.2)
 
--- ---- the trailer
+-- ---- The trailer.
 
 trailer_not : (b : ℕ) → is_trailer_octet b ≡ true → is_not 4 b ≡ true
 trailer_not b h = grind (arith, nat_tests)
 
--- what stands after ETX and before EOT, where this stands after STX
+-- what is after ETX and before EOT, if this is what follows STX
 abbrev trailer_in : List ℕ → List ℕ
 trailer_in rest = before_first (λ b. b == 4) (after_first (λ b. b == 3) rest)
 

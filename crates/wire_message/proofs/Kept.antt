@@ -1,5 +1,5 @@
--- A header is kept as the octets of its parts with one octet between two of them, whichever it is; and one that stands whole at
--- the front leads from filler to the text.
+-- A header is stored as the octets of its parts with one octet between two of them, whichever it
+-- is. One that is complete at the start takes the reader from filler to the text.
 use Rattle.std.proofs.Common.{◌≡◌, ◌⊎◌, ℕ, ◌+◌, ◌-◌, List, [], ◌∷◌, ◌++◌, length, take, refl, ap, ◌∙◌, arith, append_assoc, length-append, inl, inr}
 use Rattle.wire_message.proofs.Names.{slice_range, take-append_seam, drop-append_seam, TextReader, Header, header_of, IsHeader, SpellsInfo, fixed_header, TakesSome, Filler, Text, BeginsWithHeader, IsGap}
 use Rattle.wire_message.proofs.{Alike.stands_two, TextSoFar.head_begins}
@@ -37,7 +37,7 @@ laid_parts s n p c w i x y z v one =
     (simp length-append (omega arith)))
     (rw (whole, long) (drop-append_seam front i))
 
--- octets that are laid out so are kept so
+-- Parts that are joined so are stored so.
 kept_laid : (octets s n p c w i : List ℕ) (x y z v : ℕ) (ends : Ends) → octets ≡ laid s n p c w i x y z v → ends ≡ ends_of s n c w
     → IsHeader (header_of s n p c w i)
     → IsKept octets ends × (parts_in octets ends ≡ header_of s n p c w i)
@@ -54,7 +54,7 @@ kept_laid octets s n p c w i x y z v ends same is h =
       parts,
     )
 
--- ---- made of its parts
+-- ---- A header made of its parts.
 
 pub kept_made : (s n p c w i o0 o1 o2 o3 o4 o5 : List ℕ) (ends : Ends) → o0 ≡ s → o1 ≡ o0 ++ n → o2 ≡ o1 ++ (32 ∷ p) → o3 ≡ o2 ++ (32 ∷ c)
     → o4 ≡ o3 ++ (32 ∷ w) → o5 ≡ o4 ++ (32 ∷ i)
@@ -62,25 +62,25 @@ pub kept_made : (s n p c w i o0 o1 o2 o3 o4 o5 : List ℕ) (ends : Ends) → o0 
 kept_made s n p c w i o0 o1 o2 o3 o4 o5 ends e0 e1 e2 e3 e4 e5 =
     kept_laid o5 s n p c w i 32 32 32 32 ends (rw (e5, e4, e3, e2, e1, e0) (simp append_assoc))
 
--- ---- whole at the front
+-- ---- A header that is complete at the start.
 
--- an info with its SP, or none
+-- An info with its SP, or no info.
 pub info_spelled : (info octets rest : List ℕ) → (octets ≡ 32 ∷ (info ++ rest)) ⊎ ((info ≡ []) × (octets ≡ rest))
     → (spelled : List ℕ) × SpellsInfo info spelled × (octets ≡ spelled ++ rest)
 info_spelled info octets rest (inl some) = (32 ∷ info, inr refl, some)
 info_spelled info octets rest (inr (empty, same)) = ([], inl (empty, refl), same)
 
--- the octet that stands after the words, and what follows the info
+-- The octet after the words, and what follows the info.
 after_words : (i spelled gap rest : List ℕ) → SpellsInfo i spelled → (b : ℕ) × (tail : List ℕ) × (spelled ++ (gap ++ (2 ∷ rest)) ≡ b ∷ (i ++ tail))
 after_words i spelled gap rest (inr some) = (32, gap ++ (2 ∷ rest), rw some refl)
 after_words i spelled [] rest (inl none) = (2, rest, rw (none.0, none.1) refl)
 after_words i spelled (b ∷ gap) rest (inl none) = (b, gap ++ (2 ∷ rest), rw (none.0, none.1) refl)
 
--- the parts of a header, joined
+-- The parts of a header, joined.
 joined : (s n p c w xs : List ℕ) → s ++ (n ++ (32 ∷ (p ++ (32 ∷ (c ++ (32 ∷ (w ++ xs))))))) ≡ (s ++ (n ++ (32 ∷ (p ++ (32 ∷ (c ++ (32 ∷ w))))))) ++ xs
 joined s n p c w xs = simp append_assoc
 
--- The octets were cut into the parts of a header, each followed by the rest.
+-- The octets were split into the parts of a header, each followed by the rest.
 pub front_kept : (o r1 s r2 n r3 r4 p r5 r6 c r7 r8 w r9 i r10 rest : List ℕ) (k : ℕ) (ends : Ends) → o ≡ 1 ∷ r1 → r1 ≡ s ++ r2 → r2 ≡ n ++ r3 → r3 ≡ 32 ∷ r4
     → r4 ≡ p ++ r5 → r5 ≡ 32 ∷ r6 → r6 ≡ c ++ r7 → r7 ≡ 32 ∷ r8 → r8 ≡ w ++ r9
     → (spelled : List ℕ) × SpellsInfo i spelled × (r9 ≡ spelled ++ r10) → (gap : List ℕ) × IsGap gap × (r10 ≡ gap ++ (2 ∷ rest))

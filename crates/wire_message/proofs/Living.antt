@@ -1,15 +1,16 @@
--- A message can continue from octets that spell a place, and not with an octet after which there is no place.
+-- Octets that match a state are a viable prefix of a message, and with an octet after which there
+-- is no state they are not.
 use Rattle.std.proofs.Common.{◌≡◌, ℕ, ◌+◌, ◌<◌, ◌≤◌, Bool, true, false, ◌&&◌, ◌||◌, ◌==◌, nat_lt, List, [], ◌∷◌, ◌++◌, length, Some, None, refl, sym, ap, ◌∙◌, arith, inl, inr, length-append}
 use Rattle.wire_message.proofs.Names.{cond-true, cond-false, and_left, both_ways, and_right, cases_lt, le-ltb, ne_eqb, ArrayVec, Octet, End, with_end, with_end-append, map_snoc, front_of, end_of, is_info_octet, is_trailer_octet, is_filler_octet, max_filler, max_info, max_trailer, Header, MessageLivesWith, MessageDiesAt, IsPlace, is_ended, DiesWith, EndsPart, ends, begins, is_octet_of, most_of, text_of, begun, HeaderPart, Source, Number, Priority, Category, Words, HeaderTexts, Place, Filler, InHeader, Info, Gap, Text, Trailer, AfterEnd}
 use Rattle.wire_message.proofs.Machine.{of, no_texts, put, IsBare, Stands, stands, unread, message_stands, next, run, run_parts, and_then_place, one_end, step_to, extends, ends_next}
 use Rattle.wire_message.proofs.{Goings.octets_on, Runs.spelled_runs}
 
--- ---- from each place some octets lead to the end of a message
+-- ---- From each state some octets reach the end of a message.
 
 abbrev Finishes : Place → Type 0
 Finishes p = (rest : List ℕ) × (h : Header) × (t : ArrayVec ℕ) × (k : ℕ) × (run p rest ≡ Some (AfterEnd h t k))
 
--- and from the place before an octet
+-- Some octets reach the end from the state before an octet, if some do from the state after it.
 then : (p q : Place) (b : ℕ) → next p b ≡ Some q → Finishes q → Finishes p
 then p q b e f = (b ∷ f.0, f.1, f.2, f.3, step_to p q b f.0 e ∙ f.4)
 
@@ -20,7 +21,7 @@ finish_gap h k false on = then (Gap h k false) (Gap h (k + 1) true) 10 (rw on re
 finish_info : (h : Header) → Finishes (Info h)
 finish_info h = then (Info h) (Gap h 1 true) 10 refl (finish_gap h 1 true refl)
 
--- a part may have an octet
+-- An octet that a part may have.
 sample : (part : HeaderPart) → (b : ℕ) × (is_octet_of part b ≡ true) × (1 ≤ most_of part)
 sample Source = (65, refl, omega arith)
 sample _ = (49, refl, omega arith)
@@ -29,7 +30,7 @@ text_put : (part : HeaderPart) (t : HeaderTexts) (xs : List ℕ) → text_of par
 text_put Source t xs = refl
 text_put _ t xs = refl
 
--- once a part has an octet, the one that ends it comes
+-- Once a part has an octet, the one that ends it may come.
 finish_part : (part : HeaderPart) (b : ℕ) → ends part b ≡ true → ((t : HeaderTexts) → Finishes (begins part b t)) → (t : HeaderTexts)
     → Finishes (InHeader part t)
 finish_part part b on more t = elim (cases_lt 0 (length (text_of part t))) [
@@ -68,7 +69,7 @@ finish (Text h reader) i = (3 ∷ 4 ∷ [], h, of [], 0, refl)
 finish (Trailer h t) i = (4 ∷ [], h, t, 0, refl)
 finish (AfterEnd h t k) i = ([], h, t, k, refl)
 
--- ---- alive and dead
+-- ---- Viable prefixes, and the octets that end them.
 
 pub message_lives : {xs text : List ℕ} {p : Place} → Stands xs text p → MessageLivesWith xs
 message_lives {xs} {text} {p} s =
@@ -107,7 +108,7 @@ message_unfinished {xs} {text} {p} s not_ended = (
       both_ways (is_ended (Some (unread p))) not_ended (sym (ap (λ (q : Place). is_ended (Some q)) same)),
 )
 
--- ---- with which octet no place comes after a place
+-- ---- The octets after which there is no state.
 
 -- The octet begins no other part.
 abbrev BeginsNone : Place → ℕ → Type 0
@@ -119,7 +120,7 @@ BeginsNone (Text h reader) b = ⊥
 BeginsNone (Trailer h t) b = b ≡ 4 → ⊥
 BeginsNone (AfterEnd h t k) b = Unit {0}
 
--- what is full, or isn't followed by its class, isn't lengthened
+-- A part that is full, or is not followed by its class, is not extended.
 stays : (test : ℕ → Bool) (room : ℕ) (xs : List ℕ) (b : ℕ) → (length xs < room → test b ≡ false) → (test b && nat_lt (length xs) room) ≡ false
 stays test room xs b h = elim (cases_lt (length xs) room) [
   | inl lt ↦ and_left (test b) (nat_lt (length xs) room) (h lt)
@@ -135,6 +136,6 @@ stops (Text h reader) b e d = absurd d
 stops (Trailer h t) b e d = cond-false _ _ _ (stays is_trailer_octet max_trailer t.items b e) ∙ cond-false _ _ _ (ne_eqb b 4 d)
 stops (AfterEnd h t k) b e d = cond-false _ _ _ e
 
--- without a next place no message can continue
+-- Without a next state the octets are no longer a viable prefix.
 pub dies : (p : Place) (b : ℕ) → IsPlace p → EndsPart p b → BeginsNone p b → DiesWith p b
 dies p b i e d octets text spelled = message_dies b (stands octets text p i spelled) (stops p b e d)

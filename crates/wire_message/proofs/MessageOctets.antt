@@ -1,4 +1,4 @@
--- The octets of a message are octets, for the proofs of every crate: nothing here is to be believed.
+-- The octets of a message are octets: a lemma for the proofs of every crate.
 use Rattle.std.proofs.Common.{◌≡◌, ℕ, ◌<◌, Bool, true, List, [], ◌∷◌, ◌++◌, arith}
 use Rattle.wire_message.proofs.Names.{list_all, and_parts, nat_tests, Octets, Are, is_info_octet, is_trailer_octet, is_filler_octet, is_text_octet, Header, IsMessage, fixed_header}
 use Rattle.wire_message.proofs.TextSoFar.{header_info, spelled_info}
@@ -14,7 +14,7 @@ info xs are = of_test is_info_octet (λ b h. grind (arith, nat_tests)) xs are
 filler : (xs : List ℕ) → Are is_filler_octet xs → Octets xs
 filler xs are = of_test is_filler_octet (λ b h. grind (arith, nat_tests)) xs are
 
--- octets, one octet, and octets
+-- Octets, one octet, and octets, joined.
 around : (xs ys : List ℕ) (b : ℕ) → Octets xs → b < 256 → Octets ys → Octets (xs ++ (b ∷ ys))
 around xs ys b before is after = octets_append xs (b ∷ ys) before (is, after)
 

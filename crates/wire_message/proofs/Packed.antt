@@ -6,12 +6,12 @@ use Rattle.wire_message.proofs.{Transitions.message_from, TextSoFar.each}
 line_text : (xs : List ℕ) → IsLine xs → Are is_text_octet xs
 line_text xs h = each is_line_octet is_text_octet xs (λ b t. grind (arith, nat_tests)) h
 
--- so many of one octet
+-- One octet, repeated, passes a test that the octet passes.
 pub all_pass : (test : ℕ → Bool) (b n : ℕ) → test b ≡ true → Are test (replicate n b)
 all_pass test b zero h = refl
 all_pass test b (suc n) h = Are-cons test b (replicate n b) h (all_pass test b n h)
 
--- the octets of a text so far are any but ETX
+-- The octets of a text so far are any but ETX.
 pub so_far_text : (x : List ℕ) (lines : List (List ℕ)) (line : List ℕ) (held : ℕ) → IsTextSoFar x lines line held → Are is_text_octet x
 so_far_text x [] line held h = rw h.2 (Are-append is_text_octet line (replicate held 13) (line_text line h.0) (all_pass is_text_octet 13 held refl))
 so_far_text x (first ∷ lines) line held h =

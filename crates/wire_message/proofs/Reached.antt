@@ -1,11 +1,11 @@
--- Octets lead to each place: of each length that is neither too small nor too great, and of no other. Filler is of zeros; a gap
--- has its LF first; a text is letters and its held CR.
+-- Octets reach each state: of each length that is neither too small nor too great, and of no other.
+-- Filler is zeros; a gap has its LF first; a text is letters and its pending CR.
 use Rattle.std.proofs.Common.{◌≡◌, ℕ, ◌+◌, ◌-◌, ◌≤◌, ◌↔◌, Bool, true, false, List, [], ◌∷◌, ◌++◌, length, replicate, Option, Some, None, refl, sym, ap, subst, ◌∙◌, arith, inl, inr, length-append, ⊎_elim}
 use Rattle.wire_message.proofs.Names.{Holds, AreLines, cases_lt, length-replicate, same_Some, ArrayVec, IsTextSoFar, is_line_octet, line_end, Are, is_filler_octet, is_text_octet, max_filler, Header, IsFiller, IsGap, SpellsInfo, fixed_header, has_feed, packed_info, IsPlace, Spells, StoryStands, LeadsTo, so_far, PlacesAreReached, Place, Filler, InHeader, Info, Gap, Text, Trailer, AfterEnd, Are-append}
 use Rattle.wire_message.proofs.{Transitions.field_none, Transitions.message_from, TextSoFar.any_none, TextSoFar.is_not, Packed.spells_packed, Packed.all_pass}
 use Rattle.wire_message.specs.States.Reading.{LeadsIn, IsOneOf, fixed_octets, least_head, least_of, greatest_of}
 
--- octets of that length lead to the place
+-- octets of that length reach the state
 abbrev IsReached : Place → ℕ → Type 0
 IsReached place count = (octets : List ℕ) × (text : List ℕ) × LeadsTo octets text place × (length octets ≡ count)
 
@@ -19,7 +19,7 @@ is_filler k le = (all_pass is_filler_octet 0 k refl, omega arith, omega (arith, 
 nothing : IsFiller []
 nothing = field_none is_filler_octet max_filler
 
--- LF alone is a gap
+-- LF alone is a gap.
 feed_alone : IsGap (10 ∷ [])
 feed_alone = ((refl, omega arith, omega arith), refl)
 
@@ -27,7 +27,7 @@ feed_alone = ((refl, omega arith, omega arith), refl)
 abbrev letters : ℕ → List ℕ
 letters k = replicate k 97
 
--- ---- before SOH filler makes up the length
+-- ---- Before SOH, filler makes up the length.
 
 filled : (p : Place) (rest : List ℕ) (least : ℕ) → IsPlace p → StoryStands [] p → length rest ≡ least
     → ((before : List ℕ) → IsFiller before → Spells (before ++ rest) [] p)
@@ -38,9 +38,9 @@ filled p rest least i story long spells count above below =
     let size : length (before ++ rest) ≡ count = omega (arith, length-append before rest, length-replicate {A = ℕ} (count - least) 0, long, above) in
     (before ++ rest, [], record { is_place = i; spelled = spelled; story = story }, size)
 
--- ---- the gap
+-- ---- The gap.
 
--- k octets of a gap, its LF first or none yet
+-- k octets of a gap, with an LF first or without one.
 gap_of : (k : ℕ) (feed : Bool) → 1 ≤ k → (gap : List ℕ) × Are is_filler_octet gap × (length gap ≡ k) × (has_feed gap ≡ feed)
 gap_of k true some = (10 ∷ zeros (k - 1), all_pass is_filler_octet 0 (k - 1) refl, omega (arith, length-replicate {A = ℕ} (k - 1) 0, some), refl)
 gap_of k false some =
@@ -68,9 +68,9 @@ gap_reached h k feed i count one =
     ⊎_elim (λ more. gap_filled h k feed (32 ∷ h.info) i (inr refl) count (omega (arith, more, (packed_within h.info).0)) (omega (arith, one.1)))
     (λ few. gap_filled h k feed (packed_info h.info) i (spells_packed h.info) count one.0 few) (cases_lt (max_filler + least) count)
 
--- ---- from STX on the text makes up the length
+-- ---- From STX on, the text makes up the length.
 
--- SOH to STX, with an info that has its SP or is empty, and LF alone
+-- the octets from SOH to STX, with LF alone as the gap
 abbrev before_text : Header → List ℕ → List ℕ
 before_text h rest = 1 ∷ (fixed_header h ++ (packed_info h.info ++ (10 ∷ 2 ∷ rest)))
 
@@ -111,7 +111,7 @@ end_reached h t k i count above =
     let size : length (before_text h rest) ≡ count = omega (arith, before_text_length h rest, length-append {A = ℕ}, length-replicate {A = ℕ}, above) in
     (before_text h rest, text, record { is_place = i; spelled = (message, length-replicate {A = ℕ} k 0); story = lines }, size)
 
--- ---- all places
+-- ---- All states.
 
 leads : (p : Place) → IsPlace p → (count : ℕ) → IsOneOf (least_of p) (greatest_of p) count → IsReached p count
 leads (Filler k) i count one =
@@ -127,7 +127,7 @@ leads (Text h None) i count one = let none = i.1.1 in absurd cc
 leads (Trailer h t) i count one = trailer_reached h t i count one.0
 leads (AfterEnd h t k) i count one = end_reached h t k i count one.0
 
--- the least length is one of them
+-- The least length is one of the lengths.
 least_leads : (p : Place) → IsOneOf (least_of p) (greatest_of p) (least_of p)
 least_leads (Gap h k feed) = omega (arith, (packed_within h.info).1)
 least_leads _ = omega arith
@@ -135,21 +135,21 @@ least_leads _ = omega arith
 pub reached : PlacesAreReached
 reached place = (λ i. let led = leads place i (least_of place) (least_leads place) in (led.0, led.1, led.2), λ led. led.2.is_place)
 
--- ---- octets of no other length lead to a place
+-- ---- Octets of no other length reach a state.
 
--- a text is no shorter than the CR that it ends in
+-- A text is at least as long as the CR at its end.
 so_far_long : (x : List ℕ) (lines : List (List ℕ)) (line : List ℕ) (held : ℕ) → IsTextSoFar x lines line held → held ≤ length x
 so_far_long x [] line held h = omega (arith, ap length h.2, length-append line (replicate held 13), length-replicate {A = ℕ} held 13)
 so_far_long x (first ∷ lines) line held h =
     omega (arith, ap length h.4, length-append first (line_end h.1 ++ h.3), length-append (line_end h.1) h.3, so_far_long h.3 lines line held h.5)
 
--- how long an info is with its SP, and an empty one without it or with it
+-- The length of an info with its SP, and of an empty one with it or without it.
 info_within : (info xs : List ℕ) → SpellsInfo info xs → (length (packed_info info) ≤ length xs) × (length xs ≤ 1 + length info)
 info_within [] xs (inl none) = omega (arith, ap length none.1)
 info_within (b ∷ bs) xs (inl none) = let empty = none.0 in absurd cc
 info_within info xs (inr some) = omega (arith, ap length some, (packed_within info).1)
 
--- filler, SOH, the parts up to the words, the info, and what follows
+-- The length of filler, SOH, the parts up to the words, the info, and what follows.
 object_length : (before fixed info rest : List ℕ)
     → length (before ++ (1 ∷ (fixed ++ (info ++ rest)))) ≡ length before + 1 + length fixed + length info + length rest
 object_length before fixed info rest = omega (arith, length-append before (1 ∷ (fixed ++ (info ++ rest))), joined_length fixed info rest)
@@ -189,7 +189,7 @@ within (AfterEnd h t k) octets text l =
       l.spelled.1,
     )
 
--- so the numbers that are the bounds of a reader's place are the bounds of these lengths
+-- The bounds of a reader's state are the bounds of these lengths.
 pub exactly : (reader : Option Place) (p : Place) (least : ℕ) (greatest : Option ℕ) → reader ≡ Some p → IsPlace p → least ≡ least_of p
     → greatest ≡ greatest_of p
     → (count : ℕ) → LeadsIn reader count ↔ IsOneOf least greatest count

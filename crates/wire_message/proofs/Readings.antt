@@ -1,4 +1,4 @@
--- What a piece does to a reader that stands at a place, and to the story in it.
+-- What a chunk does to the state of a reader, and to the story in it.
 use Rattle.wire_message.proofs.Names.{take-add, slice_range, take_more, take_rest, get_or-drop, and_from, eqb-true, lt-ltb, not_from_false, true_from_ne_false, same_Some, ArrayVec, Holds, Octet, End, LivesWith, StoryDiesAt, with_end, StoryLaws, TextReader, TextCause, map_snoc, Are-tail, Are, is_trailer_octet, is_text_octet, max_trailer, Header, MessageDiesAt, MessagesEndAfterEot, ReadersStandAtLivingOctets, LeadsTo, StandsAt, LeadsOn, GoesSomewhere, Refuses, TakesPiece, RefusesOne, IsWhole, is_ended, trailer_read, HasCause, StoryDiesWith, cause_of, TakesSome, TakesOctets, RefusesInPart, DiesWith, MessageCause, BadOctet, LoneReturn, IsPlace, Spells, Place, Text, Trailer, AfterEnd}
 use Rattle.wire_message.proofs.{Machine.of, Machine.Stands, Machine.led, Machine.unread, Goings.trailer_ends, Living.message_lives, Living.message_unfinished}
 use Rattle.wire_message.proofs.{Transitions.text_more, Transitions.text_etx, Transitions.one_is, Transitions.field_none, Alike.holds_two, Packed.so_far_text}
@@ -10,11 +10,11 @@ use Rattle.wire_story.specs.States.Reading as story
 use Rattle.wire_story.specs.declared.fault.TextCause.TheVariants as text_cause
 use Rattle.wire_message.specs.declared.fault.MessageFault.{MessageFault}
 
--- what has led to where a reader stands has led to its place
+-- Octets that reach the state of a reader reach that state.
 place_at : (p : Place) (octets text : List ℕ) → StandsAt (Some p) octets text → LeadsTo octets text p
 place_at p octets text s = rw (← same_Some p s.0 s.1) at s.2
 
--- ---- where nothing is added to the text
+-- ---- Chunks that add nothing to the text.
 
 pub leads_by : (p q : Place) (rest : List ℕ) (n : ℕ) → TakesSome p rest q n → LeadsOn (Some p) (take n rest) [] (Some q)
 leads_by p q rest n w octets text s =
@@ -27,9 +27,9 @@ dies_in p rest d octets text s = rw (append-nil octets) (d octets text (place_at
 pub stays_at : (p : Place) → GoesSomewhere (Some p) [] []
 stays_at p octets text s = (p, rw (append-nil octets, append-nil text) (place_at p octets text s))
 
--- ---- octets of a story are octets of a text
+-- ---- Octets of a story are octets of a text.
 
--- octets that end a text so far
+-- The octets at the end of a text so far.
 back_text : (xs ys : List ℕ) (held : ℕ) → Holds (xs ++ ys) held → Are is_text_octet ys
 back_text xs ys held h = back xs (so_far_text (xs ++ ys) h.0 h.1 held h.2)
   where
@@ -37,7 +37,7 @@ back_text xs ys held h = back xs (so_far_text (xs ++ ys) h.0 h.1 held h.2)
     back [] are = are
     back (x ∷ xs) are = back xs (Are-tail is_text_octet x (xs ++ ys) are)
 
--- octets of a text so far lead on in the text
+-- Octets of a text so far reach a state in the text.
 text_goes : {octets text : List ℕ} {h : Header} {old : TextReader} (ys : List ℕ) → LeadsTo octets text (Text h old) → (held : ℕ) → Holds (text ++ ys) held
     → LeadsTo (octets ++ ys) (text ++ ys) (Text h (Some held))
 text_goes {octets} {text} {h} {old} ys l held holds = record {
@@ -52,12 +52,12 @@ all_taken h old new ys goes octets text s =
     let after = goes text l.story in
     (Text h new, refl, rw after.1 (text_goes ys l after.0 after.2))
 
--- ---- a story stops
+-- ---- A story stops.
 
 alive_before : (x : List ℕ) (b : ℕ) → LivesWith (x ++ (b ∷ [])) → LivesWith x
 alive_before x b a = (Octet b ∷ a.0, rw (← append_assoc (map Octet x) (Octet b ∷ []) a.0, map_snoc x b) a.1)
 
--- before an octet that a story refused its text could continue
+-- Before an octet that the story rejected, the text was a viable prefix.
 stood_before : StoryLaws → (cause : TextCause) (x : List ℕ) (b : ℕ) → story.HasCause cause x b → (held : ℕ) × Holds x held
 stood_before laws text_cause.LoneReturn x b h = (h.1.0, h.1.1)
 stood_before laws text_cause.ControlOctet x b h = (0, h.1)
@@ -70,7 +70,7 @@ stops_somewhere laws h old ys b cause refuses octets text s =
     let stood = stood_before laws cause (text ++ ys) b (refuses text l.story) in
     (Text h (Some stood.0), text_goes ys l stood.0 stood.1)
 
--- at ETX the text is whole
+-- At ETX the text is complete.
 pub ends_at : StoryLaws → (h : Header) (old : TextReader) (t : ArrayVec ℕ) (rest : List ℕ) (taken : ℕ) → t.items ≡ []
     → taken < length rest → slice_index rest taken ≡ 3
     → ((x : List ℕ) → story.StandsAt old x → story.HasCause text_cause.ControlOctet (x ++ take taken rest) (slice_index rest taken))
@@ -86,7 +86,7 @@ ends_at laws h old t rest taken none before etx refuses octets text s =
     rw (front, none) (text_etx (octets ++ ys) (text ++ ys) h (Some 0) lead.spelled) in
     (Trailer h t, refl, record { is_place = place; spelled = spelled; story = (laws.texts_end_in_no_return (text ++ ys)).1 holds })
 
--- with an octet more of the text
+-- With one more octet of the text.
 more_stands : {octets text : List ℕ} {h : Header} {reader : TextReader} (b : ℕ) → Stands octets text (Text h reader) → is_text_octet b ≡ true
     → Stands (octets ++ (b ∷ [])) (text ++ (b ∷ [])) (Text h reader)
 more_stands {octets} {text} {h} {reader} b s t =
@@ -106,7 +106,7 @@ text_refuses text_cause.Sink b s t c =
     let more = more_stands b s t in
     (message_lives more, rw (tokens_are more) c.0, text_is more ∙ ap (λ (u : List ℕ). u ++ (b ∷ [])) (sym (text_is s)), c.1)
 
--- after CR no text ends
+-- After a pending CR no text may end.
 unended : StoryLaws → (x : List ℕ) (held : ℕ) → 0 < held → Holds x held → StoryDiesAt x End
 unended laws x held some holds = (
   (laws.stories_live_as_texts_so_far x).1 (held, holds),
@@ -117,7 +117,7 @@ unended laws x held some holds = (
       omega arith,
 )
 
--- so ETX is refused there
+-- After a pending CR, ETX is rejected.
 etx_refuses : StoryLaws → {octets text : List ℕ} {h : Header} {reader : TextReader} → Stands octets text (Text h reader) → (held : ℕ) → 0 < held
     → Holds text held → HasCause LoneReturn octets 3
 etx_refuses laws {octets} {text} {h} {reader} s held some holds =
@@ -155,7 +155,7 @@ refuses_at laws h old rest taken cause fits other refuses octets text s =
     refuses_octet laws cause (slice_index rest taken) (slice_index rest taken == 3) refl fits
     (led (text_goes (take taken rest) l stood.0 stood.1)) other has
 
--- ---- a piece after another
+-- ---- A chunk after another.
 
 front_is : (octets piece : List ℕ) (at k : ℕ) → octets ++ take (at + k) piece ≡ (octets ++ take at piece) ++ take k (slice_range piece at (length piece))
 front_is octets piece at k = rw (take_rest piece at, take-add at k piece) (sym (append_assoc octets (take at piece) _))
@@ -174,7 +174,7 @@ somewhere_front a b piece at k m n f g octets text s =
 pub delivered_both : (m n : List ℕ) → delivered (m ++ n) ≡ delivered m ++ delivered n
 delivered_both m n = flat_map-append events_of m n
 
--- an octet of what is left is refused in the whole
+-- An octet that is rejected in what remains is rejected in the whole chunk.
 pub refuses_front : (a b : Option Place) (piece : List ℕ) (at k : ℕ) (m : List ℕ) (cause : MessageCause) → LeadsOn a (take at piece) m b
     → Refuses b (slice_range piece at (length piece)) (record { taken = k; cause = cause }) → Refuses a piece (record { taken = at + k; cause = cause })
 refuses_front a b piece at k m cause f g octets text s =
@@ -185,7 +185,7 @@ refuses_front a b piece at k m cause f g octets text s =
 pub stays_standing : (p : Option Place) (piece : List ℕ) → LeadsOn p (take 0 piece) [] p
 stays_standing p piece octets text s = rw (append-nil octets, append-nil text) s
 
--- a trailer of no octet, and EOT, in one step after the text
+-- An empty trailer and EOT, in one step after the text.
 pub tail_taken : {S : Type 0} (goes : S → List StoryEvent → S → Type 0) (failures : S → ℕ) (old : Place) (h : Header) (rest : List ℕ) (used : ℕ) (a b : S)
     → TakesOctets goes failures old a (take used rest) (Trailer h (of [])) b → 0 < length (slice_range rest used (length rest))
     → slice_index (slice_range rest used (length rest)) 0 ≡ 4 → TakesOctets goes failures old a (take (used + 1) rest) (AfterEnd h (of []) 0) b
@@ -197,9 +197,9 @@ tail_taken goes failures old h rest used a b taken some eot =
     (leads_by _ _ left 1 then) in
     record { is_place = then.is_place; told = (text ++ [], rw (append-nil text) taken.told.1, leads); calm = taken.calm }
 
--- ---- what a call comes to
+-- ---- How a call ends.
 
--- what a place takes, a reader that stands there takes
+-- What a state consumes, the reader in that state consumes.
 pub taken_piece : ReadersStandAtLivingOctets
     → {S : Type 0} {goes : S → List StoryEvent → S → Type 0} {failures : S → ℕ} {old new : Place} {piece : List ℕ} {a b : S}
     → TakesOctets goes failures old a piece new b → TakesPiece goes failures (Some old) piece (Some new) a b
@@ -209,7 +209,7 @@ taken_piece law {piece = piece} takes = record {
   calm = takes.calm;
 }
 
--- and what it refuses
+-- What a state rejects, the reader in that state rejects.
 pub refused_one : ReadersStandAtLivingOctets
     → {S : Type 0} {goes : S → List StoryEvent → S → Type 0} {failures : S → ℕ} {old : Place} {piece : List ℕ} {a b : S}
     {fault : MessageFault} → RefusesInPart goes failures old a piece b fault → RefusesOne goes failures (Some old) piece fault a b
@@ -221,7 +221,7 @@ refused_one law {piece = piece} {fault = fault} stops = record {
   counted = stops.counted;
 }
 
--- ---- the beginning and the end
+-- ---- The beginning and the end.
 
 pub is_whole : (reader : Option Place) → is_ended reader ≡ true → IsWhole reader
 is_whole (Some (AfterEnd h t k)) e octets text s = let l = place_at (AfterEnd h t k) octets text s in (h, refl, l.spelled.0, l.story)

@@ -1,20 +1,20 @@
--- Octets that spell a place run to it, and a message runs to its end.
+-- Octets that match a state reach it when they are read, and a message reaches its end.
 use Rattle.std.proofs.Common.{◌≡◌, ℕ, ◌+◌, ◌≤◌, Bool, true, false, ◌||◌, ◌==◌, ◌<◌, nat_lt, cond, List, [], ◌∷◌, ◌++◌, length, Some, None, refl, sym, ap, ◌∙◌, arith, inl, inr, append_assoc, append-nil}
 use Rattle.wire_message.proofs.Names.{cond-true, cond-false, and_from, or_right, lt-ltb, and_left, nat_tests, or_assoc, or-false, Are, IsField, is_alphanumeric, is_info_octet, is_trailer_octet, is_filler_octet, is_text_octet, max_filler, max_number, max_words, max_info, max_trailer, is_digit, Header, header_of, IsHeader, IsFiller, IsGap, IsTrailer, SpellsInfo, fixed_header, has_feed, IsPlace, so_far, lengthens_gap, ends, begins, is_octet_of, most_of, text_of, HeaderPart, Source, Number, Priority, Category, Words, HeaderTexts, Place, Filler, InHeader, Info, Gap, Text, Trailer, AfterEnd, Are-head, Are-tail}
 use Rattle.wire_message.proofs.Machine.{next, of, texts, texts_of, words_place, no_texts, put, Stands, unread, run, step_to, field_run, count_run, extends, reads_part, ends_next}
 use Rattle.wire_message.proofs.Transitions.{field_none, join1, join2, join3, join4, join5, none}
 
--- ---- the header
+-- ---- The header.
 
 reads_filler : (f rest : List ℕ) → IsFiller f → run (Filler 0) (f ++ rest) ≡ run (Filler (length f)) rest
 reads_filler f rest h = count_run (λ k. Filler k) (λ k b t lt. cond-true _ _ _ (extends is_filler_octet b k max_filler t lt)) f rest h
 
--- the parts, where later ones are empty
+-- The parts, with later ones empty.
 same_texts : (t : HeaderTexts) (n p c w : List ℕ) → t.number.items ≡ n → t.priority.items ≡ p → t.category.items ≡ c → t.words.items ≡ w
     → texts t.source.items n p c w ≡ t
 same_texts t n p c w en ep ec ew = rw (sym en, sym ep, sym ec, sym ew) refl
 
--- the first digit of the number ends the source
+-- The first digit of the number ends the source.
 reads_number : (t : HeaderTexts) (n rest : List ℕ) → 0 < length t.source.items → IsField is_digit 1 max_number n
     → run (InHeader Source t) (n ++ rest) ≡ run (InHeader Number (put Number n t)) rest
 reads_number t [] rest some h = absurd (omega (arith, h.1))
@@ -22,7 +22,7 @@ reads_number t (b ∷ n) rest some h =
     step_to (InHeader Source t) _ b (n ++ rest) (ends_next Source t b (Are-head is_digit b n h.0) some)
     ∙ reads_part Number (put Number (b ∷ []) t) n rest (Are-tail is_digit b n h.0) (omega (arith, h.2))
 
--- SP ends a part, and the next one is read
+-- SP ends a part, and the next one is read.
 reads_next : (part next : HeaderPart) (t : HeaderTexts) (xs rest : List ℕ) → ends part 32 ≡ true → 0 < length (text_of part t)
     → begins part 32 t ≡ InHeader next t → text_of next t ≡ [] → IsField (is_octet_of next) 0 (most_of next) xs
     → run (InHeader part t) (32 ∷ (xs ++ rest)) ≡ run (InHeader next (put next xs t)) rest
@@ -32,7 +32,7 @@ reads_next part next t xs rest on some then none h =
     ∙ (reads_part next t xs rest h.0 (omega (arith, ap length none, h.2))
     ∙ ap (λ (u : List ℕ). run (InHeader next (put next (u ++ xs) t)) rest) none))
 
--- the parts so far are read, each after the one before it
+-- The parts so far are read, each after the one before it.
 abbrev Reads : HeaderPart → Type 0
 Reads part = (t : HeaderTexts) (f rest : List ℕ) → IsFiller f → IsPlace (InHeader part t)
     → run (Filler 0) (f ++ (1 ∷ (so_far part t ++ rest))) ≡ run (InHeader part t) rest
@@ -85,7 +85,7 @@ words_of h = InHeader Words (texts_of h)
 to_header : (f : List ℕ) (h : Header) (rest : List ℕ) → IsFiller f → IsHeader h → run (Filler 0) (f ++ (1 ∷ (fixed_header h ++ rest))) ≡ run (words_of h) rest
 to_header f h rest hf p = to_words (texts_of h) f rest hf (words_place h p)
 
--- ---- the info and the gap
+-- ---- The info and the gap.
 
 abbrev with_info : Header → List ℕ → Header
 with_info h i = header_of h.source h.number h.priority h.category h.words i
@@ -100,7 +100,7 @@ reads_info h i rest hw hi =
 same_gap : (h : Header) (k j : ℕ) (f g : Bool) (rest : List ℕ) → k ≡ j → f ≡ g → run (Gap h k f) rest ≡ run (Gap h j g) rest
 same_gap h k j f g rest e d = rw (e, d) refl
 
--- a gap octet may come where the gap can continue after the last one
+-- An octet of a gap may come if the gap can continue after the last one.
 gap_octet : (b : ℕ) (xs : List ℕ) (k : ℕ) (feed : Bool) → is_filler_octet b ≡ true → k + length (b ∷ xs) ≤ max_filler
     → ((feed || has_feed (b ∷ xs)) || nat_lt (k + length (b ∷ xs)) max_filler) ≡ true → lengthens_gap k feed b ≡ true
 gap_octet b [] k feed t le on = and_from _ _ (extends is_filler_octet b k max_filler t (omega arith)) (rw (or-false (b == 10)) at on)
@@ -118,7 +118,7 @@ reads_gap h (b ∷ xs) k feed rest t le on =
     ∙ (reads_gap h xs (k + 1) (feed || b == 10) rest (Are-tail is_filler_octet b xs t) (omega arith) (rw (count, feeds) on)
     ∙ same_gap h ((k + 1) + length xs) (k + length (b ∷ xs)) ((feed || b == 10) || has_feed xs) (feed || has_feed (b ∷ xs)) rest count feeds)
 
--- what may stand at the end of a gap so far
+-- the gap so far can continue
 abbrev GapContinues : List ℕ → Type 0
 GapContinues gap = (has_feed gap || nat_lt (length gap) max_filler) ≡ true
 
@@ -128,7 +128,7 @@ no_space b fills = grind (arith, nat_tests)
 no_info : (b : ℕ) → is_filler_octet b ≡ true → is_info_octet b ≡ false
 no_info b fills = grind (arith, nat_tests)
 
--- a gap after what its first octet ends
+-- A gap after the part that its first octet ends.
 first_gap : (p : Place) (h : Header) (gap rest : List ℕ) → ((b : ℕ) → is_filler_octet b ≡ true → next p b ≡ Some (Gap h 1 (b == 10)))
     → IsField is_filler_octet 1 max_filler gap → GapContinues gap → run p (gap ++ rest) ≡ run (Gap h (length gap) (has_feed gap)) rest
 first_gap p h [] rest step g on = absurd (omega (arith, g.1))
@@ -153,7 +153,7 @@ to_gap h spelled gap rest p (inl none) g on = rw none.1 (first_gap (words_of h) 
 to_gap h spelled gap rest p (inr some) g on =
     rw some (reads_info h h.info (gap ++ rest) p.words p.info ∙ first_gap (Info h) h gap rest (ends_info h) g on)
 
--- ---- the text and what follows
+-- ---- The text and what follows.
 
 whole_gap : (gap : List ℕ) → IsGap gap → GapContinues gap
 whole_gap gap g = ap (λ (t : Bool). t || nat_lt (length gap) max_filler) g.1
@@ -173,9 +173,9 @@ to_trailer h spelled gap text trailer rest p sp g x t =
     ∙ field_run (λ ys. Trailer h (of ys)) is_trailer_octet max_trailer
     (λ ys b q lt. cond-true _ _ _ (extends is_trailer_octet b (length ys) max_trailer q lt)) trailer [] rest t.0 (omega (arith, t.2))
 
--- ---- what spells a place runs to it
+-- ---- Octets that match a state reach it.
 
--- and what follows runs on from there
+-- What follows is read from that state on.
 runs_on : (octets text rest : List ℕ) (p : Place) → Stands octets text p → run (Filler 0) (octets ++ rest) ≡ run (unread p) rest
 runs_on octets text rest (Filler k) s = reads_filler octets rest s.spelled.0 ∙ ap (λ (n : ℕ). run (Filler n) rest) s.spelled.1
 runs_on octets text rest (InHeader part t) s =

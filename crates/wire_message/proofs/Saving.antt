@@ -1,4 +1,4 @@
--- A place is known by how it is saved.
+-- A state is determined by its saved form.
 use Rattle.std.proofs.Common.{◌≡◌, ◌==◌, ℕ, List, [], ◌∷◌, true, false, Some, None, refl, sym, ap, ◌∙◌}
 use Rattle.wire_message.proofs.Names.{PlacesAreSavedApart, IsPlace, HeaderPart, Source, Number, Priority, Category, Words, Place, Filler, InHeader, Info, Gap, Text, Trailer, AfterEnd}
 use Rattle.wire_message.specs.{States.Reading.saved, States.Reading.saved_part, Steps.head_in, Steps.texts_in}
@@ -6,7 +6,7 @@ use Rattle.wire_message.specs.declared.saved.MessagePart.TheVariants as part
 use Rattle.wire_message.specs.declared.saved.MessagePart.{MessagePart}
 use Rattle.wire_message.specs.declared.saved.MessagePlace.{MessagePlace}
 
--- the place of a part, by the octets that were saved
+-- the state of a part, by the octets that were saved
 abbrev pub restored : MessagePart → MessagePlace → Place
 restored part.Filler m = Filler m.counter
 restored part.Source m = InHeader Source (texts_in m)

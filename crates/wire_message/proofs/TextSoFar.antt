@@ -1,9 +1,9 @@
--- The text so far in octets that spell a place.
+-- The text so far in octets that match a state.
 use Rattle.std.proofs.Common.{◌≡◌, ℕ, ◌+◌, Bool, true, false, not, ◌==◌, cond, nat_lt, List, [], ◌∷◌, ◌++◌, length, take, drop, map, Some, None, refl, sym, ap, ◌∙◌, arith, inl, inr, append-nil}
 use Rattle.wire_message.proofs.Names.{list_any, position_or_len, before_first, after_first, and_parts, and_from, or_right, or_left, or_from, not-true, list_all-append, list_any-append, nat_tests, drop-append-add, take-append_seam, take-length, Octet, End, TextReader, Are, IsField, is_alphanumeric, is_info_octet, is_filler_octet, is_text_octet, max_info, is_digit, is_letter, Header, IsHeader, IsFiller, IsGap, IsMessage, SpellsInfo, BeginsWithHeader, fixed_header, ArrayVec, after_stx, text_so_far, story_tokens_of, IsPlace, Spells, so_far, head_read, HeaderPart, Source, Words, HeaderTexts, Place, Filler, InHeader, Info, Gap, Text, Trailer, AfterEnd, Are-append, Are-head, Are-tail, Are-cons}
 use Rattle.wire_message.proofs.{Machine.texts_of, Machine.words_place, Machine.Stands, Transitions.join2}
 
--- ---- what stands before and after the first octet of a kind
+-- ---- What is before and after the first octet of a kind.
 
 abbrev pub is_not : ℕ → ℕ → Bool
 is_not k b = not (b == k)
@@ -36,7 +36,7 @@ any_none k (b ∷ xs) h = or_from (b == k) _ (not-true (b == k) (Are-head (is_no
 pub any_found : (k : ℕ) (front x : List ℕ) → (k == k) ≡ true → list_any (λ b. b == k) (front ++ (k ∷ x)) ≡ true
 any_found k front x e = rw list_any-append (or_right (list_any (λ b. b == k) front) _ (or_left (k == k) _ e))
 
--- ---- no STX stands before the text, and no ETX in it
+-- ---- No STX is before the text, and no ETX in it.
 
 pub each : (p q : ℕ → Bool) (xs : List ℕ) → ((b : ℕ) → p b ≡ true → q b ≡ true) → Are p xs → Are q xs
 each p q [] f h = refl
@@ -48,7 +48,7 @@ letters xs are = each is_letter is_info_octet xs (λ b h. grind (arith, nat_test
 digits : (xs : List ℕ) → Are is_digit xs → Are is_info_octet xs
 digits xs are = each is_digit is_info_octet xs (λ b h. grind (arith, nat_tests)) are
 
--- All octets of a header are octets that may stand in an info, SP among them.
+-- All octets of a header are octets that an info may have, SP among them.
 so_far_info : (part : HeaderPart) (t : HeaderTexts) → IsPlace (InHeader part t) → Are is_info_octet (so_far part t)
 so_far_info Source t i = letters t.source.items i.0.0
 so_far_info _ t i =
@@ -72,7 +72,7 @@ filler_not xs are = each is_filler_octet (is_not 2) xs (λ b h. grind (arith, na
 info_not : (xs : List ℕ) → Are is_info_octet xs → Are (is_not 2) xs
 info_not xs are = each is_info_octet (is_not 2) xs (λ b h. grind (arith, nat_tests)) are
 
--- SOH and octets of a header, with no STX
+-- SOH and the octets of a header have no STX.
 after_soh : (before rest : List ℕ) → IsFiller before → Are is_info_octet rest → Are (is_not 2) (before ++ (1 ∷ rest))
 after_soh before rest f are = Are-append (is_not 2) before (1 ∷ rest) (filler_not before f.0) (info_not rest are)
 
@@ -107,9 +107,9 @@ after_head octets h m =
 pub no_etx : (text : List ℕ) → Are is_text_octet text → Are (is_not 3) text
 no_etx text h = each is_text_octet (is_not 3) text (λ b t. (and_parts (nat_lt b 256) (not (b == 3)) t).1) h
 
--- ---- the text so far, and what the story sees of it
+-- ---- The text so far, and what the story sees of it.
 
--- the text so far of octets, and whether it has ended
+-- The text so far of octets, and whether it has ended.
 pub record TextIs (octets text : List ℕ) (ended : Bool) : Type 0 where
   pub text_is : text_so_far octets ≡ text
   pub ended_is : list_any (λ b. b == 3) (after_stx octets) ≡ ended
@@ -126,9 +126,9 @@ tokens_of octets text ended is =
     ap (λ (t : List ℕ). map Octet t ++ cond (list_any (λ b. b == 3) (after_stx octets)) (End ∷ []) []) is.text_is
     ∙ ap (λ (b : Bool). map Octet text ++ cond b (End ∷ []) []) is.ended_is
 
--- ---- the text so far at each place
+-- ---- The text so far in each state.
 
--- whether ETX has come
+-- whether ETX was received
 abbrev pub text_ended : Place → Bool
 text_ended (Trailer h t) = true
 text_ended (AfterEnd h t k) = true
@@ -138,7 +138,7 @@ pub none_after : (k : ℕ) (octets : List ℕ) → Are (is_not k) octets → aft
 none_after k octets h =
     ap (λ (n : ℕ). drop (n + 1) octets) (no_first k octets h) ∙ (ap (drop (length octets + 1)) (sym (append-nil octets)) ∙ drop-append-add octets [] 1)
 
--- Before STX no octet is one.
+-- Before STX no octet is STX.
 pub no_stx : (octets text : List ℕ) (p : Place) → Stands octets text p → head_read (Some p) ≡ None → Are (is_not 2) octets
 no_stx octets text (Filler k) s e = filler_not octets s.spelled.0.0
 no_stx octets text (InHeader part t) s e = rw s.spelled.2 (after_soh s.spelled.0 (so_far part t) s.spelled.1 (so_far_info part t s.bare))

@@ -1,9 +1,10 @@
--- What more octets lead to from each place; how a part of the header gets longer, and how the next one begins.
+-- What further octets reach from each state; how a part of the header is extended, and how the next
+-- one begins.
 use Rattle.std.proofs.Common.{◌≡◌, ℕ, ◌+◌, ◌≤◌, Bool, true, ◌||◌, ◌==◌, List, [], ◌∷◌, ◌++◌, length, refl, arith, inr, append_assoc, length-append, ◌<◌, ap, ◌∙◌, inl}
 use Rattle.wire_message.proofs.Names.{and_from, list_any-append, or-false, ArrayVec, Are, IsField, is_filler_octet, is_text_octet, max_filler, Header, IsHeader, IsFiller, IsGap, IsTrailer, IsMessage, SpellsInfo, fixed_header, has_feed, Spells, Filler, InHeader, Info, Gap, Text, Trailer, AfterEnd, Are-append, Source, TextReader, or_right, eqb-true, cond_both, is_digit, is_letter, is_alphanumeric, is_info_octet, max_source, max_number, max_priority, max_category, max_words, max_info, IsPlace, StoryStands, so_far, ends, begins, is_octet_of, most_of, text_of, begun, HeaderPart, Number, Priority, Category, Words, HeaderTexts, Place}
 use Rattle.wire_message.proofs.Machine.{of, no_texts, more_info, put}
 
--- ---- parts with more octets
+-- ---- Parts with more octets.
 
 pub field_more : (test : ℕ → Bool) (low least most : ℕ) (xs ys : List ℕ) → IsField test low most xs → Are test ys → length xs + length ys ≤ most
     → least ≤ length xs + length ys → IsField test least most (xs ++ ys)
@@ -22,7 +23,7 @@ field_none test most = (refl, omega arith, omega arith)
 field_from : (test : ℕ → Bool) (low most : ℕ) (xs : List ℕ) → IsField test 0 most xs → low ≤ length xs → IsField test low most xs
 field_from test low most xs h le = (h.0, le, h.2)
 
--- ---- what is added at the end of joined parts is added to the last one
+-- ---- What is added at the end of joined parts is added to the last one.
 
 pub join1 : (a f r ys : List ℕ) → (a ++ (1 ∷ (f ++ r))) ++ ys ≡ a ++ (1 ∷ (f ++ (r ++ ys)))
 join1 a f r ys = simp append_assoc
@@ -60,7 +61,7 @@ message_from object h x t before info gap after is_before is_header is_info is_g
   parts = parts;
 }
 
--- ---- from each place
+-- ---- From each state.
 
 pub filler_more : (xs text ys : List ℕ) (k : ℕ) → Are is_filler_octet ys → k + length ys ≤ max_filler → Spells xs text (Filler k)
     → Spells (xs ++ ys) text (Filler (k + length ys))
@@ -124,7 +125,7 @@ end_more xs text ys h t k f le l =
       omega (arith, length-append m.after ys, l.1),
     )
 
--- ---- more octets of a part
+-- ---- More octets of a part.
 
 pub longer_is : (part : HeaderPart) (t : HeaderTexts) (ys : List ℕ) → IsPlace (InHeader part t) → Are (is_octet_of part) ys
     → length (text_of part t) + length ys ≤ most_of part
@@ -139,7 +140,7 @@ longer_octets : (part : HeaderPart) (t : HeaderTexts) (ys : List ℕ) → so_far
 longer_octets Source t ys = refl
 longer_octets _ t ys = simp append_assoc
 
--- what follows SOH gets longer
+-- What follows SOH is extended.
 after_soh : (xs before old more new : List ℕ) → xs ≡ before ++ (1 ∷ old) → old ++ more ≡ new → xs ++ more ≡ before ++ (1 ∷ new)
 after_soh xs before old more new e more_is = rw (e, ← more_is) (append_assoc before (1 ∷ old) more)
 
@@ -151,7 +152,7 @@ pub longer_info : (h : Header) (b : ℕ) → IsHeader h → IsField is_info_octe
 longer_info h b i is_info =
     record { source = i.source; number = i.number; priority = i.priority; category = i.category; words = i.words; info = is_info }
 
--- ---- the octet that ends a part
+-- ---- The octet that ends a part.
 
 pub no_texts_yet : IsPlace (InHeader Source no_texts)
 no_texts_yet = (field_none is_letter max_source, field_none is_digit 0, field_none is_digit 0, field_none is_alphanumeric 0, field_none is_digit 0)
@@ -160,7 +161,7 @@ pub none : (test : ℕ → Bool) (xs : List ℕ) → IsField test 0 0 xs → xs 
 none test [] h = refl
 none test (b ∷ xs) h = absurd (omega (arith, h.2))
 
--- an empty part may have octets
+-- An empty part may have octets.
 room : (test : ℕ → Bool) (most : ℕ) (xs : List ℕ) → IsField test 0 0 xs → IsField test 0 most xs
 room test most xs h = (h.0, h.1, omega (arith, h.2))
 
@@ -182,7 +183,7 @@ next_is Words b t i on some =
     record { source = i.0; number = i.1; priority = i.2; category = i.3; words = words; info = field_none is_info_octet max_info } in
     cond_both (b == 32) (Info (begun t)) (Gap (begun t) 1 (b == 10)) IsPlace (λ e. is) (λ e. (is, omega arith, omega arith, or_right (b == 10) true refl))
 
--- SP ends a part, and no octet of the next one has come
+-- SP ends a part, and the next one is empty.
 spaced : (part next : HeaderPart) (t : HeaderTexts) (b : ℕ) (xs text : List ℕ) → (b == 32) ≡ true → so_far part t ++ (32 ∷ []) ≡ so_far next t
     → Spells xs text (InHeader part t) → Spells (xs ++ (b ∷ [])) text (InHeader next t)
 spaced part next t b xs text on e l = (

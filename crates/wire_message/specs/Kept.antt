@@ -1,12 +1,12 @@
--- How a header is kept, and the octets of a class.
+-- How a header is stored, and the octets of a class.
 use Rattle.std.specs.Prelude.{ℕ, ◌+◌, ◌≤◌, List, drop, length, slice_range, Bool}
 use Rattle.wire_message.specs.Format.Messages.{Header, header_of, IsHeader, is_alphanumeric, is_info_octet, is_trailer_octet, is_filler_octet, is_text_octet}
 use Rattle.wire_message.specs.declared.class.Class.TheVariants.{Letter, Digit, Alphanumeric, Info, Trailer, Filler, Text}
 use Rattle.wire_message.specs.declared.{ends.Ends.Ends, class.Class.Class}
 use Rattle.iim_dataset.specs.Format.Octets.{is_digit, is_letter}
 
--- the header whose parts end there in the octets: the number follows the source at once, and one octet, whichever it is, stands
--- between other parts
+-- the header whose parts end there in the octets: the number follows the source immediately, and
+-- other parts are separated by one octet, whichever it is
 abbrev pub parts_in : List ℕ → Ends → Header
 parts_in octets ends = header_of
     (slice_range octets 0 ends.source)
@@ -16,7 +16,7 @@ parts_in octets ends = header_of
     (slice_range octets (ends.category + 1) ends.words)
     (drop (ends.words + 1) octets)
 
--- where parts of these octets end
+-- where these parts end if they are joined
 abbrev pub ends_of : List ℕ → List ℕ → List ℕ → List ℕ → Ends
 ends_of source number category words = record {
   source = length source;

@@ -1,9 +1,9 @@
--- What octets are, and what is said of them.
+-- Messages: the definitions.
 pub mod Format
--- Where readers and writers stand.
+-- The states of readers.
 pub mod States
--- What holds of these: statements, each the contract of a law.
+-- Lemmas on these: statements, each the contract of a function without code.
 pub mod Laws
--- What only proofs and private clauses cite.
+-- Definitions that only proofs and private clauses cite.
 pub mod Steps
 pub mod Kept

@@ -1,4 +1,4 @@
--- How a place gets to the next one, and a saved place that is made again.
+-- How a state gets to the next one, and how a saved state is restored.
 use Rattle.std.specs.Prelude.{◌≡◌, ℕ, ◌+◌, ◌<◌, ◌&&◌, ◌||◌, ◌==◌, nat_lt, if◌then◌else◌, Bool, false, List, [], ◌∷◌, length, Option, Some, ◌≤◌, ◌++◌, take}
 use Rattle.iim_dataset.specs.Format.Octets.{lf, sp, is_digit, is_letter}
 use Rattle.wire_message.specs.Format.Messages.{is_alphanumeric, is_info_octet, is_trailer_octet, is_filler_octet, max_filler, max_source, max_number, max_priority, max_category, max_words, max_info, max_trailer, Header, header_of, MessageDiesAt}
@@ -12,15 +12,15 @@ use Rattle.wire_message.specs.declared.{fault.MessageFault.MessageFault}
 use Rattle.wire_story.specs.{Format.Texts.StoryEvent, Format.Texts.Octet, declared.fault.TextCause.TextCause}
 use Rattle.wire_story.specs.declared.fault.TextCause.TheVariants as text_cause
 
--- ---- the parts of a header before its info
+-- ---- The parts of a header before its info.
 
--- the octets that it is made of
+-- the octets that the part may have
 abbrev pub is_octet_of : HeaderPart → ℕ → Bool
 is_octet_of Source = is_letter
 is_octet_of Category = is_alphanumeric
 is_octet_of _ = is_digit
 
--- how many of them it has at most
+-- the greatest number of octets of the part
 abbrev pub most_of : HeaderPart → ℕ
 most_of Source = max_source
 most_of Number = max_number
@@ -28,7 +28,7 @@ most_of Priority = max_priority
 most_of Category = max_category
 most_of Words = max_words
 
--- what has come of it
+-- the octets received of the part
 abbrev pub text_of : HeaderPart → HeaderTexts → List ℕ
 text_of Source t = t.source.items
 text_of Number t = t.number.items
@@ -36,17 +36,17 @@ text_of Priority t = t.priority.items
 text_of Category t = t.category.items
 text_of Words t = t.words.items
 
--- the header of the parts, its info empty so far
+-- the header of the parts, with an empty info so far
 abbrev pub begun : HeaderTexts → Header
 begun t = header_of t.source.items t.number.items t.priority.items t.category.items t.words.items []
 
--- ---- all parts
+-- ---- All parts.
 
--- The octet lengthens a gap of `count` octets, an LF among them or not, so that STX can still come.
+-- The octet extends a gap of `count` octets, with or without an LF, so that STX can still come.
 abbrev pub lengthens_gap : ℕ → Bool → ℕ → Bool
 lengthens_gap count feed octet = is_filler_octet octet && nat_lt count max_filler && (feed || octet == lf || nat_lt (count + 1) max_filler)
 
--- The octet does not lengthen the part that is being read: it is none of that part's octets, or the part is full.
+-- The octet does not extend the part that is being read: the part may not have it, or is full.
 abbrev pub EndsPart : Place → ℕ → Type 0
 EndsPart (Filler count) octet = (is_filler_octet octet && nat_lt count max_filler) ≡ false
 EndsPart (InHeader part t) octet = length (text_of part t) < most_of part → is_octet_of part octet ≡ false
@@ -62,8 +62,8 @@ ends Source octet = is_digit octet
 ends Words octet = octet == sp || is_filler_octet octet
 ends _ octet = octet == sp
 
--- the place after the octet that ends a part: the digit that ends the source begins the number, and after the words SP begins the
--- info, and filler the gap
+-- the state after the octet that ends a part: the digit that ends the source begins the number, and
+-- after the words SP begins the info, and filler the gap
 abbrev pub begins : HeaderPart → ℕ → HeaderTexts → Place
 begins Source octet t = InHeader Number (record t { number = record { items = octet ∷ [] } })
 begins Number octet t = InHeader Priority t
@@ -71,15 +71,15 @@ begins Priority octet t = InHeader Category t
 begins Category octet t = InHeader Words t
 begins Words octet t = if octet == sp then Info (begun t) else Gap (begun t) 1 (octet == lf)
 
--- the header of a saved place
+-- the header of a saved state
 abbrev pub head_in : MessagePlace → Header
 head_in place = header_of place.source.items place.number.items place.priority.items place.category.items place.words.items place.info.items
 
--- the parts of its header so far
+-- the parts of the header of a saved state so far
 abbrev pub texts_in : MessagePlace → HeaderTexts
 texts_in m = record { source = m.source; number = m.number; priority = m.priority; category = m.category; words = m.words }
 
--- No other place than this is saved so.
+-- No state other than the one found has this saved state.
 abbrev pub IsOnly : Option Place → MessagePlace → Type 0
 IsOnly found place = (at : Place) → IsPlace at → saved at ≡ place → found ≡ Some at
 
@@ -89,13 +89,13 @@ cause_of text_cause.LoneReturn = LoneReturn
 cause_of text_cause.ControlOctet = ControlOctet
 cause_of text_cause.Sink = Sink
 
--- ---- one place and the next
+-- ---- One state and the next.
 
--- With the octet no message can continue.
+-- With the octet the octets so far are no longer a viable prefix of a message.
 abbrev pub DiesWith : Place → ℕ → Type 0
 DiesWith place octet = (octets text : List ℕ) → Spells octets text place → MessageDiesAt octets (Octet octet)
 
--- After some of the octets, one at least, there is this place. They add nothing to the text.
+-- After at least one of the octets this is the state. They add nothing to the text.
 pub record TakesSome (old : Place) (rest : List ℕ) (new : Place) (used : ℕ) : Type 0 where
   pub some : 0 < used
   pub within : used ≤ length rest
@@ -103,14 +103,16 @@ pub record TakesSome (old : Place) (rest : List ℕ) (new : Place) (used : ℕ) 
   pub adds : (before text : List ℕ) → Spells before text old → Spells (before ++ take used rest) text new
   pub story : (text : List ℕ) → StoryStands text old → StoryStands text new
 
--- Octets were taken: they led from one place to the next, the sink was told what they deliver, and it did not stop.
+-- Octets were consumed: they reach the next state, the sink received the events that they deliver,
+-- and it did not stop.
 pub record TakesOctets {S : Type 0} (goes : S → List StoryEvent → S → Type 0) (failures : S → ℕ) (old : Place) (before : S) (octets : List ℕ)
     (new : Place) (after : S) : Type 0 where
   pub is_place : IsPlace new
   pub told : TellsStory goes before (Some old) octets (Some new) after
   pub calm : failures after ≡ failures before
 
--- An octet of a piece was refused: for its cause, and the sink was told what those before it deliver.
+-- An octet of a chunk was rejected, for its cause, and the sink received the events that those
+-- before it deliver.
 pub record RefusesInPart {S : Type 0} (goes : S → List StoryEvent → S → Type 0) (failures : S → ℕ) (old : Place) (before : S) (piece : List ℕ)
     (after : S) (fault : MessageFault) : Type 0 where
   pub within : fault.taken < length piece

@@ -1,4 +1,4 @@
-//! The classes of octets that the parts of a message are made of.
+//! Classes of the octets of a message.
 
 ghost use Rattle.std.specs.Prelude.{◌≡◌};
 ghost use Rattle.wire_message.specs.Format.Messages.{is_info_octet, is_filler_octet};
@@ -18,11 +18,11 @@ pub(crate) enum Class {
     Alphanumeric,
     /// 20 to 7E and 80 to FF.
     Info,
-    /// The same, LF and CR.
+    /// Info octets, LF and CR.
     Trailer,
     /// NUL, LF, CR and SYN.
     Filler,
-    /// Any but ETX.
+    /// Any octet but ETX.
     Text,
 }
 
@@ -54,7 +54,7 @@ fn filler(octet: u8) -> bool
     octet == NUL || octet == LF || octet == CR || octet == SYN
 }
 
-/// Whether the octet is of the class.
+/// Checks whether the octet is of the class.
 #[inline(always)]
 pub(crate) fn is_in(class: Class, octet: u8) -> bool
     ensures { result ≡ is_in_class class octet }

@@ -4,8 +4,9 @@ ghost use Rattle.std.specs.Prelude.{◌≡◌, ◌≤◌, length};
 ghost use Rattle.wire_message.specs.Format.Messages.{max_source, max_number, max_category, max_words};
 ghost use Rattle.wire_message.specs.Kept.{ends_of};
 
-/// Where the parts of a header end in its octets. The number follows the source at once, and one octet stands between other
-/// parts. The priority has one octet, and the info ends where the octets do.
+/// Where the parts of a header end in its octets. The number follows the source immediately, and
+/// other parts are separated by one octet. The priority has one octet, and the info ends where the
+/// octets do.
 #[derive(Clone, Copy, Debug, Drop)]
 pub(crate) struct Ends {
     pub(crate) source: u8,
@@ -15,7 +16,7 @@ pub(crate) struct Ends {
 }
 
 impl Ends {
-    /// Where parts of these octets end.
+    /// Returns where these parts end if they are joined.
     #[inline(always)]
     pub(crate) fn of(source: &[u8], number: &[u8], category: &[u8], words: &[u8]) -> Ends
         requires source { length source.now ≤ max_source }

@@ -1,4 +1,4 @@
-//! Why an object is refused.
+//! Why an object is rejected.
 
 ghost use Rattle.std.specs.Prelude.{◌≡◌, Some};
 ghost use Rattle.wire_message.specs.Format.Causes.{number_of_message, name_of_message, print_of_message, print_of_fault};
@@ -8,30 +8,31 @@ use std::fmt;
 use std::fmt::{Display, Formatter};
 use wire_story::TextCause;
 
-/// Why a reader of messages refused an octet, or the end, each with its number.
+/// Why a reader of messages rejected an octet, or the end, each with its number.
 #[derive(Clone, Copy, Debug, PartialEq, Eq)]
 pub enum MessageCause {
     /// No message can continue with the octet.
     BadOctet = 30,
-    /// No message ends here.
+    /// No message may end here.
     Unfinished = 32,
-    /// CR came before it in the text that no LF has followed.
+    /// A CR was received before it in the text, and no LF followed that CR.
     LoneReturn = 40,
-    /// SOH, STX or EOT stands in the text.
+    /// SOH, STX or EOT occurs in the text.
     ControlOctet = 41,
     /// The sink stopped.
     Sink = 60,
 }
 
 impl MessageCause {
-    /// The number, as it is printed.
+    /// Returns the number of the cause, as it is printed.
     pub fn number(self) -> u8
         ensures { result ≡ number_of_message self }
     {
         self as u8
     }
 
-    /// The name, as it is printed: of the text that of [`TextCause`].
+    /// Returns the name of the cause, as it is printed. A cause of the text has the name of the
+    /// [`TextCause`].
     pub fn name(self) -> &'static str
         ensures { result.now ≡ name_of_message self }
     {
@@ -45,7 +46,7 @@ impl MessageCause {
     }
 }
 
-/// The number and the name, as `30 BadOctet`.
+/// Writes the number and the name, as `30 BadOctet`.
 impl Display for MessageCause {
     ghost output = { λ cause. Some (print_of_message cause) };
 
@@ -58,16 +59,17 @@ impl Display for MessageCause {
 
 impl Error for MessageCause {}
 
-/// A reader of messages refused an octet, or the end.
+/// A reader of messages rejected an octet, or the end.
 #[derive(Clone, Copy, Debug, PartialEq, Eq)]
 pub struct MessageFault {
-    /// How many octets of the piece stand before the refused one.
+    /// The number of octets of the chunk before the rejected one.
     pub taken: usize,
-    /// Why it was refused.
+    /// Why it was rejected.
     pub cause: MessageCause,
 }
 
-/// Writes the number of octets before the refused one, and the cause, as `refused after 5 octets, cause 40 LoneReturn`.
+/// Writes the number of octets before the rejected one, and the cause, as `refused after 5 octets,
+/// cause 40 LoneReturn`.
 impl Display for MessageFault {
     ghost output = { λ fault. Some (print_of_fault fault) };
 

@@ -1,4 +1,4 @@
-//! Parts of a bounded length.
+//! Parts of bounded length.
 
 ghost use Rattle.std.specs.Prelude.{◌≡◌, ◌≤◌, ◌<◌, ◌↔◌, ◌+◌, ◌++◌, [], ◌∷◌, false, length, slice_index, take, IsTrue};
 ghost use Rattle.arrayvec.specs.ArrayVec.{array_vec_len};
@@ -10,14 +10,14 @@ use crate::class::{Class, is_in};
 use arrayvec::ArrayVec;
 use iim_dataset::octets::SP;
 
-/// Whether each octet is of the class.
+/// Checks whether each octet is of the class.
 fn are_in(class: Class, octets: &[u8]) -> bool
     ensures { IsTrue result ↔ Are (is_in_class class) octets.now }
 {
     octets.iter().all(|octet| is_in(class, *octet))
 }
 
-/// Whether the octets are of the class, and least to most of them.
+/// Checks whether the octets are of the class, and at least `least` and at most `most`.
 pub(crate) fn is_field(class: Class, least: usize, most: usize, octets: &[u8]) -> bool
     ensures { IsTrue result ↔ IsField (is_in_class class) least most octets.now }
 {
@@ -27,24 +27,24 @@ pub(crate) fn is_field(class: Class, least: usize, most: usize, octets: &[u8]) -
     are_in(class, octets)
 }
 
-/// The octets in a fixed room.
+/// Copies the octets into a fixed capacity.
 pub(crate) fn kept<const ROOM: usize>(octets: &[u8]) -> ArrayVec<u8, ROOM>
     requires { length octets.now ≤ ROOM }
     ensures { result.items ≡ octets.now }
 {
     let mut kept = ArrayVec::new();
-    // There is room, so it cannot fail.
+    // There is capacity, so this cannot fail.
     let _ = kept.try_extend_from_slice(octets);
     kept
 }
 
-/// Appends octets for which there is room.
+/// Appends octets, for which there must be capacity.
 pub(crate) fn append<const ROOM: usize>(out: &mut ArrayVec<u8, ROOM>, octets: &[u8])
     requires { array_vec_len out.old + length octets.now ≤ ROOM }
     ensures items { out.new.items ≡ out.old.items ++ octets.now }
     ensures len { array_vec_len out.new ≡ array_vec_len out.old + length octets.now }
 {
-    // There is room, so it cannot fail.
+    // There is capacity, so this cannot fail.
     let _ = out.try_extend_from_slice(octets);
 }
 
@@ -58,7 +58,7 @@ pub(crate) fn append_part<const ROOM: usize>(out: &mut ArrayVec<u8, ROOM>, part:
     append(out, part);
 }
 
-/// The length of the longest front of the class.
+/// Returns the length of the longest prefix of the class.
 #[inline(always)]
 pub(crate) fn run_len(class: Class, octets: &[u8]) -> usize
     ensures within { result ≤ length octets.now }
@@ -73,7 +73,7 @@ pub(crate) fn run_len(class: Class, octets: &[u8]) -> usize
     octets.len()
 }
 
-/// The length of the longest front of the class, `most` octets at most.
+/// Returns the length of the longest prefix of the class, up to `most`.
 #[inline(always)]
 pub(crate) fn front_len(class: Class, most: usize, octets: &[u8]) -> usize
     ensures within { result ≤ length octets.now }
@@ -86,7 +86,8 @@ pub(crate) fn front_len(class: Class, most: usize, octets: &[u8]) -> usize
     run_len(class, &octets[..room])
 }
 
-/// Lengthens a part by the octets of its class that follow it, as many as there is room for, and answers how many.
+/// Appends to a part the octets of its class that follow it, up to its capacity, and returns their
+/// number.
 #[inline(always)]
 pub(crate) fn take_run<const ROOM: usize>(
     part: &mut ArrayVec<u8, ROOM>,
@@ -105,7 +106,7 @@ pub(crate) fn take_run<const ROOM: usize>(
     run
 }
 
-/// A part of one octet.
+/// Returns a part of one octet.
 pub(crate) fn part_of_one<const ROOM: usize>(octet: u8) -> ArrayVec<u8, ROOM>
     requires { 0 < ROOM }
     ensures { result.items ≡ octet ∷ [] }

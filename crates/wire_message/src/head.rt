@@ -12,8 +12,8 @@ use crate::part::HeaderTexts;
 use arrayvec::ArrayVec;
 use std::marker::Model;
 
-/// The header of a message: each part has a length and octets that the format allows. It holds them as they come, with one octet
-/// between two parts, 99 octets at most, and takes no memory.
+/// The header of a message: each part has a length and octets that the format allows. It stores the
+/// parts joined, with one octet between two of them, at most 99 octets, and does not allocate.
 ///
 /// Contracts see it as the six parts.
 #[derive(Debug, Drop)]
@@ -39,7 +39,7 @@ ghost use Rattle.iim_dataset.specs.Format.Octets.{is_letter, is_digit};
 ghost use Rattle.wire_message.specs.Kept.{parts_in, IsKept};
 ghost use Rattle.wire_message.specs.Steps.{begun};
 
-/// Whether the parts are those of a header.
+/// Checks whether the parts are those of a valid header.
 fn is_header(
     source: &[u8],
     number: &[u8],
@@ -59,7 +59,8 @@ fn is_header(
 }
 
 impl MessageHead {
-    /// The header of these parts, or None where one of them has another length or other octets than it may.
+    /// Creates a header of these parts. Returns `None` if one of them has an invalid length or
+    /// octet.
     pub fn new(
         source: &[u8],
         number: &[u8],
@@ -79,7 +80,7 @@ impl MessageHead {
         Some(MessageHead::of_parts(source, number, priority, category, words, info))
     }
 
-    /// The header of these parts, which are those of a header.
+    /// Creates the header of these parts, which must be valid.
     pub(crate) fn of_parts(
         source: &[u8],
         number: &[u8],
@@ -103,7 +104,7 @@ impl MessageHead {
         }
     }
 
-    /// The header that is kept so: as these octets, in which its parts end there.
+    /// Creates the header of the joined parts `octets`, which end as `ends` states.
     #[inline(always)]
     pub(crate) fn of_octets(octets: &[u8], ends: Ends) -> MessageHead
         requires { IsKept octets.now ends }
@@ -115,7 +116,7 @@ impl MessageHead {
         }
     }
 
-    /// The header of these parts, its info empty so far.
+    /// Creates the header of these parts, with an empty info so far.
     pub(crate) fn begun(texts: &HeaderTexts) -> MessageHead
         requires { IsHeader (begun texts.now) }
         ensures { result ≡ begun texts.now }
@@ -130,7 +131,8 @@ impl MessageHead {
         )
     }
 
-    /// Lengthens the info by the octets of it that follow, as many as there is room for, and answers how many.
+    /// Appends to the info the octets of it that follow, up to its capacity, and returns their
+    /// number.
     pub(crate) fn take_info(&mut self, octets: &[u8]) -> usize
         ensures within { result ≤ length octets.now }
         ensures class { Are is_info_octet (take result octets.now) }
@@ -145,14 +147,14 @@ impl MessageHead {
         run
     }
 
-    /// The same header once more.
+    /// Returns a copy of the header.
     pub fn copied(&self) -> MessageHead
         ensures { result ≡ self.now }
     {
         MessageHead::of_octets(&self.octets, self.ends)
     }
 
-    /// The source: 1 to 8 letters.
+    /// Returns the source: 1 to 8 letters.
     pub fn source(&self) -> &[u8]
         ensures part { result.now ≡ self.now.source }
         ensures letters { IsField is_letter 1 max_source result.now }
@@ -160,7 +162,7 @@ impl MessageHead {
         &self.octets[..usize::from(self.ends.source)]
     }
 
-    /// The number: 1 to 8 digits.
+    /// Returns the number: 1 to 8 digits.
     pub fn number(&self) -> &[u8]
         ensures part { result.now ≡ self.now.number }
         ensures digits { IsField is_digit 1 max_number result.now }
@@ -168,7 +170,7 @@ impl MessageHead {
         &self.octets[usize::from(self.ends.source)..usize::from(self.ends.number)]
     }
 
-    /// The priority: one digit.
+    /// Returns the priority: one digit.
     pub fn priority(&self) -> &[u8]
         ensures part { result.now ≡ self.now.priority }
         ensures digit { IsField is_digit 1 max_priority result.now }
@@ -177,7 +179,7 @@ impl MessageHead {
         &self.octets[number + 1..number + 2]
     }
 
-    /// The category: 1 to 8 letters or digits.
+    /// Returns the category: 1 to 8 letters or digits.
     pub fn category(&self) -> &[u8]
         ensures part { result.now ≡ self.now.category }
         ensures octets { IsField is_alphanumeric 1 max_category result.now }
@@ -185,7 +187,7 @@ impl MessageHead {
         &self.octets[usize::from(self.ends.number) + 3..usize::from(self.ends.category)]
     }
 
-    /// The announced number of words: 1 to 6 digits.
+    /// Returns the announced number of words: 1 to 6 digits.
     pub fn words(&self) -> &[u8]
         ensures part { result.now ≡ self.now.words }
         ensures digits { IsField is_digit 1 max_words result.now }
@@ -193,7 +195,7 @@ impl MessageHead {
         &self.octets[usize::from(self.ends.category) + 1..usize::from(self.ends.words)]
     }
 
-    /// The info: up to 64 octets.
+    /// Returns the info: up to 64 octets.
     pub fn info(&self) -> &[u8]
         ensures part { result.now ≡ self.now.info }
         ensures octets { IsField is_info_octet 0 max_info result.now }

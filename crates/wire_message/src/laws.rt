@@ -1,10 +1,12 @@
-//! What holds of all messages, and where a reader of messages stands. The functions do nothing: their contracts are the laws.
+//! Lemmas on all messages, and on the states of a reader of messages. The functions do nothing:
+//! their contracts are the lemmas.
 
 ghost use Rattle.wire_message.specs.Laws.{MessageLaws, ReadersStandAtLivingOctets, PlacesAreReached, PlacesAreSavedApart};
 
 use wire_story::laws::story_laws;
 
-/// What holds of messages, of what a reader tells of them, and of where octets lead: a field for each law.
+/// Proves the lemmas on messages, on what a reader returns of them, and on the states that octets
+/// reach; the record has a field for each.
 pub fn message_laws()
     ensures { MessageLaws }
 {
@@ -12,7 +14,8 @@ pub fn message_laws()
     readers_stand_at_living_octets();
 }
 
-/// A reader stands at octets from which a message can continue, and the story in it.
+/// Proves that the octets that a reader has consumed are a viable prefix of a message, and so is
+/// their text of a story.
 #[tactic(auto, using(crate::proofs::Alike::stand_alive))]
 pub fn readers_stand_at_living_octets()
     ensures { ReadersStandAtLivingOctets }
@@ -20,13 +23,14 @@ pub fn readers_stand_at_living_octets()
     story_laws();
 }
 
-/// A reader's invariant holds exactly of the places to which some octets lead.
+/// Proves that some octets reach each state that satisfies the invariant of the reader, and that
+/// octets reach no other state.
 #[tactic(auto, using(crate::proofs::Reached::reached))]
 pub fn places_are_reached()
     ensures { PlacesAreReached }
 {}
 
-/// Two places that are saved alike are one.
+/// Proves that two states with the same saved state are the same.
 #[tactic(auto, using(crate::proofs::Saving::saved_apart))]
 pub fn places_are_saved_apart()
     ensures { PlacesAreSavedApart }

@@ -1,4 +1,4 @@
-//! How a part gets longer where it lies: by its longest run, or by one octet of filler.
+//! Appends octets to the part that is being read: its longest slice, or one octet of filler.
 
 ghost use Rattle.std.specs.Prelude.{◌≡◌, ◌<◌, ◌≤◌, ◌+◌, ◌&&◌, ◌||◌, ◌==◌, nat_lt, true, false, length, slice_index};
 ghost use Rattle.iim_dataset.specs.Format.Octets.{lf};
@@ -13,7 +13,7 @@ use crate::part::HeaderPart;
 use crate::place::Place;
 use iim_dataset::octets::LF;
 
-/// Whether an octet lengthens filler of `count` octets.
+/// Checks whether an octet extends filler of `count` octets.
 #[inline(always)]
 fn fills(count: u8, octet: u8) -> bool
     ensures { result ≡ (is_filler_octet octet && nat_lt count max_filler) }
@@ -21,7 +21,7 @@ fn fills(count: u8, octet: u8) -> bool
     is_in(Class::Filler, octet) && count < MAX_FILLER
 }
 
-/// Counts an octet that lengthens filler of `count` octets, and answers how many it counted.
+/// Counts an octet if it extends filler of `count` octets, and returns how many it counted.
 #[inline(always)]
 fn lengthen_filler(count: &mut u8, octet: u8) -> usize
     ensures one { result ≤ 1 }
@@ -36,7 +36,8 @@ fn lengthen_filler(count: &mut u8, octet: u8) -> usize
     1
 }
 
-/// Whether an octet lengthens a gap of `count` octets, an LF among them or not, so that STX can still come.
+/// Checks whether an octet extends a gap of `count` octets, with or without an LF, so that STX can
+/// still come.
 #[inline(always)]
 fn gap_leads_on(count: u8, feed: bool, octet: u8) -> bool
     ensures { result ≡ lengthens_gap count feed octet }
@@ -44,7 +45,8 @@ fn gap_leads_on(count: u8, feed: bool, octet: u8) -> bool
     fills(count, octet) && (feed || octet == LF || count < MAX_FILLER - 1)
 }
 
-/// Counts an octet that lengthens a gap, keeps whether an LF has come, and answers how many it counted.
+/// Counts an octet if it extends a gap, stores whether an LF has come, and returns how many it
+/// counted.
 #[inline(always)]
 fn lengthen_gap(count: &mut u8, feed: &mut bool, octet: u8) -> usize
     ensures one { result ≤ 1 }
@@ -62,7 +64,7 @@ fn lengthen_gap(count: &mut u8, feed: &mut bool, octet: u8) -> usize
     1
 }
 
-/// Lengthens the part that is being read by the octets of it that follow, and answers how many.
+/// Appends to the part that is being read the octets of it that follow, and returns their number.
 #[inline(always)]
 pub(crate) fn lengthen(place: &mut Place, rest: &[u8]) -> usize
     requires place { IsPlace place.old }

@@ -1,9 +1,11 @@
 //! The message of IPTC 7901, in our own profile: header, text and trailer, read and written.
 //!
-//! Stands on `wire_story` for the text, on `arrayvec` for parts of a fixed room, and on `iim_dataset`, of which its
-//! definitions and its tests use parts. The crates above read an object by [`MessageReader`], for any cut into pieces: what
-//! came is a message so far with this header and trailer, the sink is told exactly what is delivered of its text, and a fault
-//! stands exactly where no message, or no text, can continue, or the sink stopped.
+//! Depends on `wire_story` for the text, on `arrayvec` for parts of fixed capacity, and on
+//! `iim_dataset`, whose definitions it uses. The crates above read an object by [`MessageReader`],
+//! for any split into chunks. The octets consumed are a message so far with this header and
+//! trailer, and the sink receives exactly what is delivered of its text. A fault is reported at the
+//! first octet with which they are not a viable prefix of a message, or their text of a story, or
+//! at which the sink stopped.
 #![tactic(auto)]
 
 mod class;

@@ -17,8 +17,8 @@ use arrayvec::ArrayVec;
 use iim_dataset::octets::EOT;
 use std::mem;
 
-/// The place after an octet that does not lengthen the part that is being read, or None where it dies. The part is none of the
-/// header's before its info.
+/// Returns the state after an octet that does not extend the part that is being read, or `None` if
+/// no message can have it there. The part is the info, or one before or after the header.
 fn next_part(place: Place, rest: &[u8]) -> Option<Place>
     requires place { IsPlace place }
     requires outside { (head : Header) (text : TextReader) → place ≡ Place.Text head text → ⊥ }
@@ -43,7 +43,8 @@ fn next_part(place: Place, rest: &[u8]) -> Option<Place>
     }
 }
 
-/// Takes an octet that does not lengthen the part that is being read, and answers whether it begins the next part.
+/// Consumes an octet that does not extend the part that is being read, and returns whether it
+/// begins the next part.
 #[inline(never)]
 pub(crate) fn begin_next(place: &mut Place, rest: &[u8]) -> bool
     requires place { IsPlace place.old }
@@ -72,7 +73,8 @@ pub(crate) fn begin_next(place: &mut Place, rest: &[u8]) -> bool
     }
 }
 
-/// Ends the text, and begins the trailer, which an EOT that stands next ends at once. Answers how many octets it took.
+/// Ends the text and begins the trailer, which an EOT that follows ends immediately. Returns the
+/// number of octets consumed: 1 if EOT follows, and otherwise 0.
 #[inline(never)]
 pub(crate) fn end_text(place: &mut Place, rest: &[u8]) -> usize
     ensures few { result ≤ 1 }

@@ -1,4 +1,4 @@
-//! The parts of a header that are read before its info, and what has come of them.
+//! The parts of a header that are read before its info.
 
 use crate::lengths::{MAX_CATEGORY, MAX_NUMBER, MAX_PRIORITY, MAX_SOURCE, MAX_WORDS};
 use arrayvec::ArrayVec;
@@ -13,7 +13,7 @@ pub(crate) enum HeaderPart {
     Words,
 }
 
-/// What has come of each part. Later parts than the one that is being read are empty.
+/// The octets received of each part. Parts after the one that is being read are empty.
 #[derive(Drop)]
 pub(crate) struct HeaderTexts {
     pub(crate) source: ArrayVec<u8, MAX_SOURCE>,

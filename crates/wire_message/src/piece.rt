@@ -1,4 +1,5 @@
-//! How a piece of a message is read from a place on: by the longest runs that lie in one part, and else octet by octet.
+//! Reads a chunk of a message from a state on: by the longest slices that lie in one part, and
+//! otherwise octet by octet.
 
 ghost use Rattle.std.specs.Prelude.{◌≡◌, ◌<◌, ◌≤◌, length, slice_index, take, IfOk, IfErr, IfSome, IfNone, OnOk};
 ghost use Rattle.wire_message.specs.Format.Messages.{Header};
@@ -15,7 +16,7 @@ use crate::text::in_text;
 use crate::whole::whole_head;
 use wire_story::StorySink;
 
-/// How many octets of filler have come, where SOH is to come.
+/// Returns the number of octets of filler received, if SOH has not come.
 #[inline(always)]
 fn filler_in(place: &Place) -> Option<u8>
     ensures { IfSome result (λ count. place.now ≡ Filler count) }
@@ -26,7 +27,7 @@ fn filler_in(place: &Place) -> Option<u8>
     }
 }
 
-/// Takes a whole header where the place lies, in filler, and answers how many octets it has.
+/// Consumes a complete header in place, if the state is filler, and returns its number of octets.
 #[inline(always)]
 fn take_head(place: &mut Place, rest: &[u8]) -> Option<usize>
     ensures takes { IfSome result (λ used. TakesSome place.old rest.now place.new used) }
@@ -38,7 +39,8 @@ fn take_head(place: &mut Place, rest: &[u8]) -> Option<usize>
     whole_head(place, rest)
 }
 
-/// Takes octets outside the text where the place lies, and answers how many, or None where the first dies.
+/// Consumes octets outside the text in place, and returns their number, or `None` if no message can
+/// have the first one there.
 #[inline(never)]
 fn outside_text(place: &mut Place, rest: &[u8]) -> Option<usize>
     requires place { IsPlace place.old }
@@ -60,7 +62,7 @@ fn outside_text(place: &mut Place, rest: &[u8]) -> Option<usize>
     None
 }
 
-/// The same with a sink, which is told nothing.
+/// Consumes octets outside the text as `outside_text` does. The sink receives nothing.
 #[inline(always)]
 fn take_outside_text<S: StorySink>(
     place: &mut Place,
@@ -86,7 +88,7 @@ fn take_outside_text<S: StorySink>(
     }
 }
 
-/// Takes a front of the octets that are left, and answers how many it took.
+/// Consumes a prefix of the remaining octets, and returns its length.
 #[inline(always)]
 fn take_front<S: StorySink>(
     place: &mut Place,
@@ -115,7 +117,7 @@ fn take_front<S: StorySink>(
     }
 }
 
-/// Takes a piece where the place lies.
+/// Consumes a chunk in place.
 pub(crate) fn take_piece<S: StorySink>(
     place: &mut Place,
     piece: &[u8],

@@ -1,4 +1,4 @@
-//! What a reader of messages knows of the octets so far.
+//! The states of a reader of messages.
 
 use crate::head::MessageHead;
 use crate::lengths::MAX_TRAILER;
@@ -9,7 +9,7 @@ use wire_story::TextReader;
 /// The part of a message that is being read, with what was read of the header and the trailer.
 #[derive(Drop)]
 pub(crate) enum Place {
-    /// `count` octets of filler, and no SOH.
+    /// `count` octets of filler, and no SOH yet.
     Filler {
         count: u8,
     },
@@ -18,11 +18,11 @@ pub(crate) enum Place {
         part: HeaderPart,
         texts: HeaderTexts,
     },
-    /// The header, its info begun by SP.
+    /// The header, with an SP after which the info has started.
     Info {
         head: MessageHead,
     },
-    /// The header, and `count` octets of the gap, with an LF among them or not yet.
+    /// The header, and `count` octets of the gap, and whether an LF is among them.
     Gap {
         head: MessageHead,
         count: u8,

@@ -1,4 +1,4 @@
-//! The reader of a message, for any cut into pieces.
+//! The push parser of a message, for any split into chunks.
 
 ghost use Rattle.std.specs.Prelude.{◌≡◌, ◌↔◌, ◌<◌, [], List, ℕ, Option, false, is_none, length, Some, None, IsTrue, IsSome, IsOk, IfSome, IfErr, OnOk, OnErr};
 ghost use Rattle.std.specs.Option.{option_map};
@@ -19,17 +19,18 @@ use std::fmt;
 use std::marker::Model;
 use wire_story::StorySink;
 
-/// A reader of a message. It holds the octets of the header and the trailer that have come, 163 at most, and a few counters:
-/// nothing of the text but how many CR stand at its end. No call takes memory.
+/// A push parser of a message. It stores the octets received of the header and the trailer, at most
+/// 163, and a few counters. Of the text it stores only the number of CR at its end. No call
+/// allocates.
 ///
-/// Contracts see it as the place that the octets so far have led to, and as None after a refusal.
+/// Contracts see it as the state that the octets so far reach, and as `None` after an error.
 #[derive(Drop)]
 pub struct MessageReader {
     place: Option<Place>,
 }
 
 impl fmt::Debug for MessageReader {
-    /// Its name alone: what it holds is told by [`MessageReader::place`].
+    /// Writes the name of the type alone. [`MessageReader::place`] returns the state.
     fn fmt<W: fmt::Write>(&self, f: &mut fmt::Formatter<W>) -> fmt::Result {
         f.write_str("MessageReader")
     }
@@ -52,7 +53,7 @@ impl Model for MessageReader {
 ghost use Rattle.wire_message.specs.States.Reading.{StandsAt, TakesPiece, RefusesOne, head_read, trailer_read, is_ended, IsWhole};
 
 impl MessageReader {
-    /// The reader of an object of which no octet has come.
+    /// Creates a reader at the start of an object.
     pub fn new() -> MessageReader
         ensures takes_calls { IsSome result }
         ensures stands { StandsAt result [] [] }
@@ -62,14 +63,15 @@ impl MessageReader {
         }
     }
 
-    /// Whether a call was refused.
+    /// Checks whether a call returned an error.
     pub fn is_failed(&self) -> bool
         ensures { result ≡ is_none self.now }
     {
         self.place.is_none()
     }
 
-    /// The place of the reader, of which [`MessageReader::at`] makes the reader again. The reader has not failed.
+    /// Returns the saved state of the reader, from which [`MessageReader::at`] restores it. The
+    /// reader must not have failed.
     pub fn place(&self) -> MessagePlace
         requires { IsSome self.now }
         ensures { IsAt self.now result }
@@ -80,7 +82,7 @@ impl MessageReader {
         }
     }
 
-    /// The reader that stands at this place, or None exactly where no octets lead there.
+    /// Restores a reader from a saved state. Returns `None` exactly if no octets reach that state.
     pub fn at(place: MessagePlace) -> Option<MessageReader>
         ensures place { IfSome result (λ reader. IsAt reader place) }
         ensures stands { IfSome result (λ reader.
@@ -93,8 +95,9 @@ impl MessageReader {
         Some(MessageReader { place: Some(place) })
     }
 
-    /// How many octets lead to where the reader stands: the least and the greatest number, None where there is no greatest.
-    /// For each number between them there are octets that do. The reader has not failed.
+    /// Returns the least and the greatest number of octets that reach the state of the reader;
+    /// `None` if there is no greatest. For each number between them some octets do. The reader must
+    /// not have failed.
     pub fn lengths(&self) -> (u64, Option<u64>)
         requires { IsSome self.now }
         ensures exactly { (count : ℕ) → LeadsIn self.now count ↔ IsOneOf result.0 result.1 count }
@@ -107,21 +110,26 @@ impl MessageReader {
         }
     }
 
-    /// Takes the next octets of the object, and tells the sink what is delivered of its text among them, or among those
-    /// before the refused one. After a refusal the reader has failed ([`MessageReader::is_failed`]), and takes no further
-    /// call.
+    /// Feeds the next octets of the object, and passes to the sink what is delivered of its text
+    /// among them, or among those before the rejected one.
+    ///
+    /// **Errors:** the first octet with which the octets so far are not a viable prefix of a
+    /// message, or their text of a story, or at which the sink stopped. The reader has then failed
+    /// ([`MessageReader::is_failed`]), and accepts no further call.
     pub fn feed<S: StorySink>(&mut self, piece: &[u8], sink: &mut S) -> Result<(), MessageFault>
         requires { IsSome self.old }
 
-        // The octets so far, with the piece, are a message so far, and its text is a text so far: both can continue.
+        // The octets so far, with the chunk, are a viable prefix of a message, and their text of a
+        // story.
         ensures takes_calls { OnOk result (IsSome self.new) }
         ensures taken { OnOk result (TakesPiece S.goes S.failures self.old piece.now self.new sink.old sink.new) }
 
-        // An empty piece is taken, and changes nothing.
+        // An empty chunk is accepted, and changes nothing.
         ensures takes_nothing { length piece.now ≡ 0 → IsOk result }
         ensures nothing { length piece.now ≡ 0 → (self.new ≡ self.old) × (sink.new ≡ sink.old) }
 
-        // With the refused octet no message can continue from them, or no text, or the sink stopped; before it both could.
+        // With the rejected octet they are not a viable prefix of a message, or their text of a
+        // story, or the sink stopped. Before it both were.
         ensures failed { OnErr result (self.new ≡ None) }
         ensures refused { IfErr result (λ fault.
             RefusesOne S.goes S.failures self.old piece.now fault sink.old sink.new) }
@@ -139,7 +147,7 @@ impl MessageReader {
         }
     }
 
-    /// Whether the octets so far are a message: whether the object may end here.
+    /// Checks whether the octets so far are a message: whether the object may end here.
     #[inline(always)]
     pub fn is_whole(&self) -> bool
         ensures whole { IsTrue result → IsWhole self.now }
@@ -149,15 +157,18 @@ impl MessageReader {
         has_ended(&self.place)
     }
 
-    /// Takes the end of the object. Refused as Unfinished, with `taken` 0, before EOT. The reader has failed then.
+    /// Ends the object.
+    ///
+    /// **Errors:** `Unfinished`, with `taken` 0, before EOT. The reader has then failed.
     pub fn close(&mut self) -> Result<(), MessageFault>
         requires { IsSome self.old }
 
-        // The octets so far are a message of the header and the trailer that were read, and of a text.
+        // The octets so far are a message with the header and the trailer that were read, and with
+        // a text.
         ensures unchanged { OnOk result (self.new ≡ self.old) }
         ensures whole { OnOk result (IsWhole self.old) }
 
-        // No message ends here.
+        // No message may end here.
         ensures failed { OnErr result (self.new ≡ None) }
         ensures fault { IfErr result (λ fault. (fault.taken ≡ 0) × (fault.cause ≡ MessageCause.Unfinished)) }
         ensures refused { OnErr result ((octets text : List ℕ) → StandsAt self.old octets text
@@ -173,7 +184,7 @@ impl MessageReader {
         })
     }
 
-    /// The header, from STX on.
+    /// Returns the header, once STX was received.
     pub fn head(&self) -> Option<&MessageHead>
         ensures { option_map (λ head. head.now) result ≡ head_read self.now }
     {
@@ -185,7 +196,7 @@ impl MessageReader {
         }
     }
 
-    /// The octets of the trailer that have come: none before ETX, and all of them from EOT on.
+    /// Returns the octets received of the trailer: empty before ETX, and complete from EOT on.
     pub fn trailer(&self) -> &[u8]
         ensures { result.now ≡ trailer_read self.now }
     {
@@ -197,7 +208,7 @@ impl MessageReader {
     }
 }
 
-/// Whether the message has ended, but for filler.
+/// Checks whether the message has ended, except for filler.
 fn has_ended(place: &Option<Place>) -> bool
     ensures { result ≡ is_ended place.now }
 {

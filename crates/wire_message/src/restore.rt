@@ -1,4 +1,4 @@
-//! How a saved place is put back: by the parts that it has, and then by whether it is the place that is saved so.
+//! Restores a state: from its parts, and then by a check that it is saved in this form.
 
 ghost use Rattle.std.specs.Prelude.{◌≡◌, ◌≤◌, ◌↔◌, ◌||◌, nat_lt, if◌then◌else◌, IsTrue, IsSome, IfSome};
 ghost use Rattle.wire_message.specs.declared.place.Place.{Place};
@@ -20,14 +20,15 @@ use crate::writing::is_trailer;
 use wire_story::TextReader;
 use wire_story::laws::places_are_reached;
 
-/// Whether there may be such filler.
+/// Checks whether filler may have `count` octets.
 fn is_filler(count: u8) -> bool
     ensures { IsTrue result ↔ (count ≤ max_filler) }
 {
     count <= MAX_FILLER
 }
 
-/// Whether the octets may be a part: one at least where it has `some`, none where it has not `begun`, and else `most` at most.
+/// Checks whether the octets may be a part: at least one if `some`, none unless `begun`, and
+/// otherwise at most `most`.
 fn is_part(class: Class, some: bool, begun: bool, most: usize, octets: &[u8]) -> bool
     ensures { IsTrue result ↔
         IsField (is_in_class class) (if some then 1 else 0) (if begun then most else 0) octets.now }
@@ -36,7 +37,9 @@ fn is_part(class: Class, some: bool, begun: bool, most: usize, octets: &[u8]) ->
     is_field(class, usize::from(some), most, octets)
 }
 
-/// Whether there may be such parts while this one is being read: the first `some` of them have an octet, and the first `begun` may.
+/// Checks whether the saved header is consistent with `part`, the part that is being read. The
+/// first `some` parts must be non-empty, the parts after the first `begun` must be empty, and any
+/// between them may be either.
 fn is_header_so_far(part: HeaderPart, place: &MessagePlace) -> bool
     ensures { IsTrue result ↔ IsPlace (Place.InHeader part (texts_in place.now)) }
 {
@@ -71,14 +74,14 @@ fn is_header_so_far(part: HeaderPart, place: &MessagePlace) -> bool
         && is_part(Class::Digit, some > 4, begun > 4, MAX_WORDS, &place.words)
 }
 
-/// Whether STX can still come after `count` octets of a gap, an LF among them or not.
+/// Checks whether STX can still come after `count` octets of a gap, with or without an LF.
 fn is_gap(count: u8, has_feed: bool) -> bool
     ensures { IsTrue result ↔ (1 ≤ count) × (count ≤ max_filler) × IsTrue (has_feed || nat_lt count max_filler) }
 {
     1 <= count && count <= MAX_FILLER && (has_feed || count < MAX_FILLER)
 }
 
-/// The header of a saved place, where it has one.
+/// Returns the header of a saved state, if it has a valid one.
 fn head_of(place: &MessagePlace) -> Option<MessageHead>
     ensures admitted { IsSome result ↔ IsHeader (head_in place.now) }
     ensures parts { IfSome result (λ head. head ≡ head_in place.now) }
@@ -93,7 +96,7 @@ fn head_of(place: &MessagePlace) -> Option<MessageHead>
     )
 }
 
-/// A place in the filler before SOH.
+/// Restores a state in the filler before SOH.
 fn in_filler(place: &MessagePlace) -> Option<Place>
     requires { place.now.part ≡ part.Filler }
     ensures place { IfSome result IsPlace }
@@ -107,7 +110,7 @@ fn in_filler(place: &MessagePlace) -> Option<Place>
     None
 }
 
-/// A place in a part of the header.
+/// Restores a state in a part of the header.
 fn in_header(part: HeaderPart, place: &MessagePlace) -> Option<Place>
     requires { (at : Place) → IsPlace at → saved at ≡ place.now → at ≡ Place.InHeader part (texts_in place.now) }
     ensures place { IfSome result IsPlace }
@@ -126,7 +129,7 @@ fn in_header(part: HeaderPart, place: &MessagePlace) -> Option<Place>
     Some(Place::InHeader { part, texts })
 }
 
-/// A place in the gap.
+/// Restores a state in the gap.
 fn in_gap(place: &MessagePlace) -> Option<Place>
     requires { place.now.part ≡ part.Gap }
     ensures place { IfSome result IsPlace }
@@ -144,7 +147,7 @@ fn in_gap(place: &MessagePlace) -> Option<Place>
     None
 }
 
-/// A place in the text.
+/// Restores a state in the text.
 fn in_text(place: &MessagePlace) -> Option<Place>
     requires { place.now.part ≡ part.Text }
     ensures place { IfSome result IsPlace }
@@ -156,7 +159,7 @@ fn in_text(place: &MessagePlace) -> Option<Place>
     Some(Place::Text { head, text })
 }
 
-/// A place in the trailer.
+/// Restores a state in the trailer.
 fn in_trailer(place: &MessagePlace) -> Option<Place>
     requires { place.now.part ≡ part.Trailer }
     ensures place { IfSome result IsPlace }
@@ -170,7 +173,7 @@ fn in_trailer(place: &MessagePlace) -> Option<Place>
     None
 }
 
-/// A place after EOT.
+/// Restores a state after EOT.
 fn after_end(place: &MessagePlace) -> Option<Place>
     requires { place.now.part ≡ part.AfterEnd }
     ensures place { IfSome result IsPlace }
@@ -187,7 +190,7 @@ fn after_end(place: &MessagePlace) -> Option<Place>
     None
 }
 
-/// The one place that may be saved so.
+/// Returns the only state that may have this saved state.
 fn candidate(place: &MessagePlace) -> Option<Place>
     ensures place { IfSome result IsPlace }
     ensures only { IsOnly result place.now }
@@ -211,7 +214,7 @@ fn candidate(place: &MessagePlace) -> Option<Place>
     }
 }
 
-/// The place that is saved so, or None where there is none.
+/// Returns the state with this saved state, or `None` if there is no such state.
 pub(crate) fn restore(saved_place: &MessagePlace) -> Option<Place>
     ensures place { IfSome result IsPlace }
     ensures same { IfSome result (λ place. saved place ≡ saved_place.now) }

@@ -1,4 +1,4 @@
-//! How a place is saved.
+//! Saves a state.
 
 ghost use Rattle.std.specs.Prelude.{◌≡◌, ◌≤◌, [], length};
 ghost use Rattle.wire_message.specs.States.Reading.{IsPlace, place_with_header, saved, saved_part};
@@ -10,7 +10,8 @@ use crate::part::{HeaderPart, HeaderTexts};
 use crate::place::Place;
 use crate::saved::{MessagePart as Part, MessagePlace};
 
-/// A part of the header as it is saved: the priority before its digit or after it.
+/// Returns a part of the header in its saved form, in which the priority before its digit and after
+/// it are two.
 fn saved_part(part: HeaderPart, priority: &[u8]) -> Part
     ensures { result ≡ saved_part part priority.now }
 {
@@ -26,7 +27,7 @@ fn saved_part(part: HeaderPart, priority: &[u8]) -> Part
     }
 }
 
-/// A place in a header, with what was read of it.
+/// Saves a state in a header, with what was read of it.
 fn in_header(part: HeaderPart, texts: &HeaderTexts) -> MessagePlace
     ensures { result ≡ saved (Place.InHeader part texts.now) }
 {
@@ -40,7 +41,7 @@ fn in_header(part: HeaderPart, texts: &HeaderTexts) -> MessagePlace
     }
 }
 
-/// A place after a header, with what was read of the trailer.
+/// Saves a state after a header, with what was read of the trailer.
 fn headed(part: Part, counter: u8, flag: u8, head: &MessageHead, trailer: &[u8]) -> MessagePlace
     requires { length trailer.now ≤ MAX_SAVED }
     ensures { result ≡ place_with_header part counter flag head.now trailer.now }
@@ -59,7 +60,7 @@ fn headed(part: Part, counter: u8, flag: u8, head: &MessageHead, trailer: &[u8])
     }
 }
 
-/// A place as it is saved.
+/// Saves a state.
 pub(crate) fn save(place: &Place) -> MessagePlace
     requires { IsPlace place.now }
     ensures { result ≡ saved place.now }

@@ -1,4 +1,4 @@
-//! The place of a reader, as it is saved.
+//! The saved state of a reader.
 
 ghost use Rattle.std.specs.Prelude.{◌≡◌, ◌↔◌, [], IsTrue};
 ghost use Rattle.wire_message.specs.States.Reading.{place_from};
@@ -13,19 +13,19 @@ pub enum MessagePart {
     Filler,
     /// The source, after SOH.
     Source,
-    /// The number, of which a digit has come.
+    /// The number, after its first digit.
     Number,
-    /// The priority: the SP after the number has come.
+    /// The priority, after the SP that follows the number.
     Priority,
-    /// The SP after the priority.
+    /// The SP after the priority, which has been read.
     PriorityRead,
-    /// The category: the SP before it has come.
+    /// The category, after the SP before it.
     Category,
-    /// The words: the SP before them has come.
+    /// The words, after the SP before them.
     Words,
-    /// The info: the SP before it has come.
+    /// The info, after the SP before it.
     Info,
-    /// The gap, of which an octet has come.
+    /// The gap, after its first octet.
     Gap,
     /// The text, after STX.
     Text,
@@ -35,21 +35,22 @@ pub enum MessagePart {
     AfterEnd,
 }
 
-/// The place of a reader of messages: all that it knows of the octets so far. What comes later than the part that is being
-/// read is empty.
+/// The saved state of a reader of messages: all that it has stored of the octets so far. Parts
+/// after the one that is being read are empty.
 #[derive(Debug, Drop)]
 pub struct MessagePlace {
     /// The part that is being read.
     pub part: MessagePart,
-    /// How many octets of filler have come before SOH or after EOT, or of the gap; 0 in other parts.
+    /// The number of octets of filler before SOH or after EOT, or of the gap; 0 in other parts.
     pub counter: u8,
-    /// In the gap 1 where an LF has come in it; in the text how many CR stand at the end of what has come; else 0.
+    /// In the gap, 1 if it has an LF. In the text, the number of CR at the end of the octets so
+    /// far. Otherwise 0.
     pub flag: u8,
     /// The source so far.
     pub source: ArrayVec<u8, MAX_SAVED>,
     /// The number so far.
     pub number: ArrayVec<u8, MAX_SAVED>,
-    /// The priority, once it has come.
+    /// The priority, once it was received.
     pub priority: ArrayVec<u8, MAX_SAVED>,
     /// The category so far.
     pub category: ArrayVec<u8, MAX_SAVED>,
@@ -61,7 +62,7 @@ pub struct MessagePlace {
     pub trailer: ArrayVec<u8, MAX_SAVED>,
 }
 
-/// Whether two parts have the same octets.
+/// Checks whether two parts have the same octets.
 fn is_same(part: &ArrayVec<u8, MAX_SAVED>, other: &ArrayVec<u8, MAX_SAVED>) -> bool
     ensures { IsTrue result ↔ (part.now ≡ other.now) }
 {
@@ -69,7 +70,7 @@ fn is_same(part: &ArrayVec<u8, MAX_SAVED>, other: &ArrayVec<u8, MAX_SAVED>) -> b
 }
 
 impl MessagePlace {
-    /// The place in a part of which, and before which, nothing is known.
+    /// Creates a saved state in a part, with no octets and counters of 0.
     pub(crate) fn bare(part: MessagePart) -> MessagePlace
         ensures { result ≡ place_from part 0 0 [] [] [] [] [] [] [] }
     {
@@ -87,7 +88,7 @@ impl MessagePlace {
         }
     }
 
-    /// Whether the part and the counters are the same.
+    /// Checks whether the part and the counters are the same.
     fn has_counters_of(&self, other: &MessagePlace) -> bool
         ensures { IsTrue result ↔
             (self.now.part ≡ other.now.part) × (self.now.counter ≡ other.now.counter)
@@ -96,7 +97,7 @@ impl MessagePlace {
         self.part == other.part && self.counter == other.counter && self.flag == other.flag
     }
 
-    /// Whether two places are the same.
+    /// Checks whether two saved states are the same.
     pub(crate) fn is(&self, other: &MessagePlace) -> bool
         ensures { IsTrue result ↔ (self.now ≡ other.now) }
     {

@@ -13,7 +13,7 @@ use crate::place::Place;
 use arrayvec::ArrayVec;
 use iim_dataset::octets::{LF, SOH, SP};
 
-/// Takes SOH, which ends the filler.
+/// Consumes SOH, which ends the filler.
 #[inline(never)]
 pub(crate) fn after_filler(count: u8, rest: &[u8]) -> Option<Place>
     requires place { IsPlace (Place.Filler count) }
@@ -38,7 +38,7 @@ pub(crate) fn after_filler(count: u8, rest: &[u8]) -> Option<Place>
     None
 }
 
-/// Whether an octet ends a part of the header: it is one that does, and the part has octets.
+/// Checks whether an octet ends a part of the header: it is one that does, and the part has octets.
 #[inline(always)]
 pub(crate) fn ends_part(part: HeaderPart, texts: &HeaderTexts, octet: u8) -> bool
     ensures { result ≡ (ends part octet && nat_lt 0 (length (text_of part texts.now))) }
@@ -54,7 +54,7 @@ pub(crate) fn ends_part(part: HeaderPart, texts: &HeaderTexts, octet: u8) -> boo
     }
 }
 
-/// The place after the octet that ends the words.
+/// Returns the state after the octet that ends the words.
 fn after_words(texts: &HeaderTexts, octet: u8) -> Place
     requires { IsPlace (begins HeaderPart.Words octet texts.now) }
     ensures { result ≡ begins HeaderPart.Words octet texts.now }
@@ -70,7 +70,8 @@ fn after_words(texts: &HeaderTexts, octet: u8) -> Place
     }
 }
 
-/// Begins the part that comes after the octet, where the parts lie, or answers the place that comes after the words.
+/// Begins the part that comes after the octet, in place, or returns the state that comes after the
+/// words.
 pub(crate) fn begin_part(part: &mut HeaderPart, texts: &mut HeaderTexts, octet: u8) -> Option<Place>
     requires { IsPlace (begins part.old octet texts.old) }
     ensures { unwrap_or result (Place.InHeader part.new texts.new) ≡ begins part.old octet texts.old }

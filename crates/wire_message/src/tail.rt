@@ -13,7 +13,7 @@ use arrayvec::ArrayVec;
 use iim_dataset::octets::{EOT, LF, STX};
 use wire_story::TextReader;
 
-/// Takes the first octet of the gap, which ends the info.
+/// Consumes the first octet of the gap, which ends the info.
 #[inline(never)]
 pub(crate) fn after_info(head: MessageHead, rest: &[u8]) -> Option<Place>
     requires place { IsPlace (Place.Info head) }
@@ -33,7 +33,7 @@ pub(crate) fn after_info(head: MessageHead, rest: &[u8]) -> Option<Place>
     None
 }
 
-/// Whether an octet ends a gap in which an LF has come or not.
+/// Checks whether an octet ends a gap, with or without an LF.
 #[inline(always)]
 fn ends_gap(feed: bool, octet: u8) -> bool
     ensures { result ≡ (octet == stx && feed) }
@@ -41,7 +41,7 @@ fn ends_gap(feed: bool, octet: u8) -> bool
     octet == STX && feed
 }
 
-/// Takes STX, which ends the gap.
+/// Consumes STX, which ends the gap.
 #[inline(never)]
 pub(crate) fn after_gap(head: MessageHead, count: u8, feed: bool, rest: &[u8]) -> Option<Place>
     requires place { IsPlace (Place.Gap head count feed) }
@@ -58,7 +58,7 @@ pub(crate) fn after_gap(head: MessageHead, count: u8, feed: bool, rest: &[u8]) -
     None
 }
 
-/// Takes EOT, which ends the trailer.
+/// Consumes EOT, which ends the trailer.
 #[inline(never)]
 pub(crate) fn after_trailer(
     head: MessageHead,

@@ -1,4 +1,4 @@
-//! How the text is read: the story takes it, and stops at ETX, which ends it.
+//! Reads the text: the reader of the story consumes it, and rejects ETX, which ends it.
 
 ghost use Rattle.std.specs.Prelude.{◌≡◌, ◌<◌, ◌≤◌, ℕ, false, true, [], length, take, IfOk, IfErr};
 ghost use Rattle.arrayvec.specs.ArrayVec.{ArrayVec};
@@ -12,7 +12,7 @@ use iim_dataset::octets::ETX;
 use wire_story::laws::{places_are_reached, story_laws};
 use wire_story::{StorySink, TextCause, TextReader};
 
-/// The cause of a message for a cause of its text.
+/// Returns the cause of a message for a cause of its text.
 #[inline(always)]
 fn cause_in_text(cause: TextCause) -> MessageCause
     ensures { result ≡ cause_of cause }
@@ -24,7 +24,7 @@ fn cause_in_text(cause: TextCause) -> MessageCause
     }
 }
 
-/// Whether a story refused its text for a control octet.
+/// Checks whether the reader of the story rejected a control octet.
 #[inline(always)]
 fn is_control(cause: TextCause) -> bool
     ensures yes { result ≡ true → cause ≡ TextCause.ControlOctet }
@@ -33,7 +33,8 @@ fn is_control(cause: TextCause) -> bool
     matches!(cause, TextCause::ControlOctet)
 }
 
-/// Takes octets of the text, and the ETX that ends it, and answers how many, and whether ETX was the last of them.
+/// Consumes octets of the text, and the ETX that ends it. Returns the number of octets consumed,
+/// and whether ETX was the last of them.
 #[inline(always)]
 pub(crate) fn in_text<S: StorySink>(
     head: &MessageHead,

@@ -1,4 +1,4 @@
-//! A header that stands whole in a piece, read at once.
+//! Reads a header that is complete in a chunk in one step.
 
 ghost use Rattle.std.specs.Prelude.{ℕ, ◌≡◌, ◌≤◌, ◌<◌, ◌⊎◌, List, [], ◌∷◌, ◌++◌, length, take, IsTrue, IfSome, IfNone};
 ghost use Rattle.iim_dataset.specs.Format.Octets.{stx, sp};
@@ -18,7 +18,7 @@ use crate::place::Place;
 use iim_dataset::octets::{LF, SOH, SP, STX};
 use wire_story::TextReader;
 
-/// The longest front of the class, `most` octets at most, and what follows.
+/// Returns the longest prefix of the class, of at most `most` octets, and what follows.
 #[inline(always)]
 fn part(class: Class, most: usize, octets: &[u8]) -> (&[u8], &[u8])
     ensures parts { octets.now ≡ result.0.now ++ result.1.now }
@@ -28,7 +28,7 @@ fn part(class: Class, most: usize, octets: &[u8]) -> (&[u8], &[u8])
     octets.split_at(front_len(class, most, octets))
 }
 
-/// What follows the octet, where it stands first.
+/// Returns what follows the octet, if it comes first.
 #[inline(always)]
 pub(crate) fn after(octet: u8, octets: &[u8]) -> Option<&[u8]>
     ensures { IfSome result (λ rest. octets.now ≡ octet ∷ rest.now) }
@@ -39,7 +39,7 @@ pub(crate) fn after(octet: u8, octets: &[u8]) -> Option<&[u8]>
     }
 }
 
-/// The info of a header, which may be left out with its SP, and what follows.
+/// Returns the info of a header, which may be left out with its SP, and what follows.
 #[inline(always)]
 fn info_part(octets: &[u8]) -> (&[u8], &[u8])
     ensures front { (octets.now ≡ sp ∷ result.0.now ++ result.1.now)
@@ -52,7 +52,7 @@ fn info_part(octets: &[u8]) -> (&[u8], &[u8])
     }
 }
 
-/// Whether an LF is among the octets.
+/// Checks whether an LF is among the octets.
 #[inline(always)]
 fn has_feed(octets: &[u8]) -> bool
     ensures { result ≡ has_feed octets.now }
@@ -60,7 +60,7 @@ fn has_feed(octets: &[u8]) -> bool
     octets.iter().any(|octet| *octet == LF)
 }
 
-/// What follows a gap and STX.
+/// Returns what follows a gap and STX.
 #[inline(always)]
 fn after_gap(octets: &[u8]) -> Option<&[u8]>
     ensures { IfSome result (λ rest. (gap : List ℕ) × IsGap gap × (octets.now ≡ gap ++ stx ∷ rest.now)) }
@@ -72,7 +72,7 @@ fn after_gap(octets: &[u8]) -> Option<&[u8]>
     after(STX, rest)
 }
 
-/// Whether each part has an octet.
+/// Checks whether each part is non-empty.
 #[inline(always)]
 fn are_some(source: &[u8], number: &[u8], priority: &[u8], category: &[u8], words: &[u8]) -> bool
     ensures source { IsTrue result → 0 < length source.now }
@@ -88,8 +88,8 @@ fn are_some(source: &[u8], number: &[u8], priority: &[u8], category: &[u8], word
         && !words.is_empty()
 }
 
-/// A header that stands whole at the front, from SOH to STX: the octets that it is kept as, where its parts end in them, and what
-/// follows STX.
+/// Reads a header that is complete at the start, from SOH to STX. Returns its joined parts, where
+/// they end, and what follows STX.
 #[inline(always)]
 fn front_head(octets: &[u8]) -> Option<(&[u8], Ends, &[u8])>
     ensures head { IfSome result (λ front. (begins : BeginsWithHeader octets.now (parts_in front.0.now front.1))
@@ -118,7 +118,8 @@ fn front_head(octets: &[u8]) -> Option<(&[u8], Ends, &[u8])>
     ))
 }
 
-/// Takes a header that stands whole at the front, after any octets of filler, and answers how many octets it has.
+/// Consumes a header that is complete at the start, after any number of octets of filler, and
+/// returns its number of octets.
 #[inline(never)]
 pub(crate) fn whole_head(place: &mut Place, octets: &[u8]) -> Option<usize>
     ensures takes { IfSome result (λ used. (count : ℕ) → TakesSome (Filler count) octets.now place.new used) }

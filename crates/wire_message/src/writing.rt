@@ -11,7 +11,7 @@ use crate::lengths::MAX_TRAILER;
 use arrayvec::ArrayVec;
 use iim_dataset::octets::{CR, EOT, ETX, LF, SOH, STX};
 
-/// Appends the info, and SP before it, or nothing for an empty one.
+/// Appends SP and the info, or nothing for an empty one.
 fn append_info(out: &mut ArrayVec<u8, 128>, info: &[u8])
     requires { array_vec_len out.old + 1 + length info.now ≤ 128 }
     ensures items { out.new.items ≡ out.old.items ++ packed_info info.now }
@@ -22,7 +22,7 @@ fn append_info(out: &mut ArrayVec<u8, 128>, info: &[u8])
     }
 }
 
-/// The octets of a message from SOH to STX, with the gap CR LF and no filler.
+/// Returns the octets of a message from SOH to STX, with the gap CR LF and no filler.
 pub fn head_text(head: &MessageHead) -> ArrayVec<u8, 128>
     ensures octets { result.items ≡ packed_head head.now }
     ensures header { IsHeader head.now }
@@ -39,14 +39,14 @@ pub fn head_text(head: &MessageHead) -> ArrayVec<u8, 128>
     out
 }
 
-/// Whether the octets may be a trailer.
+/// Checks whether the octets are a valid trailer.
 pub fn is_trailer(octets: &[u8]) -> bool
     ensures { IsTrue result ↔ IsTrailer octets.now }
 {
     is_field(Class::Trailer, 0, MAX_TRAILER, octets)
 }
 
-/// The octets of a message from ETX to EOT, or None where the octets may be no trailer.
+/// Returns the octets of a message from ETX to EOT, or `None` if the trailer is invalid.
 pub fn tail_text(trailer: &[u8]) -> Option<ArrayVec<u8, 66>>
     ensures admitted { IsSome result ↔ IsTrailer trailer.now }
     ensures octets { IfSome result (λ tail. tail.items ≡ packed_tail trailer.now) }

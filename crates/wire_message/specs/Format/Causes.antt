@@ -1,4 +1,4 @@
--- Why an octet of a message is refused.
+-- Why an octet of a message is rejected.
 use Rattle.std.specs.Prelude.{List, ℕ, ◌++◌, codes, decimal, ◌≡◌, ◌≢◌, ◌<◌, [], ◌∷◌}
 use Rattle.wire_story.specs.Format.Texts.{number_of_text, name_of_text, Holds, Octet}
 use Rattle.wire_story.specs.declared.fault.TextCause.TheVariants as texts
@@ -26,16 +26,17 @@ name_of_message Sink = name_of_text texts.Sink
 abbrev pub print_of_message : MessageCause → List ℕ
 print_of_message cause = decimal (number_of_message cause) ++ (codes " " ++ name_of_message cause)
 
--- The number of octets before the refused one, and the cause, as they are printed.
+-- The number of octets before the rejected one, and the cause, as they are printed.
 abbrev pub print_of_fault : MessageFault → List ℕ
 print_of_fault fault = codes "refused after " ++ (decimal fault.taken ++ (codes " octets, cause " ++ print_of_message fault.cause))
 
--- The story can continue from the octets, and not from them with one more.
+-- The text in the octets is a viable prefix of a story, and with one more octet it is not.
 abbrev pub StoryDiesWith : List ℕ → ℕ → Type 0
 StoryDiesWith octets octet = StoryLivesIn octets × (StoryLivesIn (octets ++ octet ∷ []) → ⊥)
 
--- Why an octet is refused after others: the message dies with it, or else the story, or else the sink refused an octet of
--- the text that it is told of.
+-- Why an octet is rejected after others: with it they are no longer a viable prefix of a message,
+-- or else their text is not one of a story, or else the sink rejected an octet of the text that it
+-- received.
 abbrev pub HasCause : MessageCause → List ℕ → ℕ → Type 0
 HasCause BadOctet octets octet = MessageDiesAt octets (Octet octet)
 HasCause Unfinished octets octet = ⊥

@@ -7,15 +7,15 @@ use Rattle.wire_story.specs.Format.Texts.{packed_text, OctetOrEnd, Octet, End, w
 abbrev pub is_alphanumeric : ℕ → Bool
 is_alphanumeric b = is_letter b || is_digit b
 
--- 20 to 7E and 80 to FF
+-- an info octet: 20h to 7Eh, or 80h to FFh
 abbrev pub is_info_octet : ℕ → Bool
 is_info_octet b = within sp 0x7e b || within 0x80 0xff b
 
--- the same, LF and CR
+-- an info octet, LF or CR
 abbrev pub is_trailer_octet : ℕ → Bool
 is_trailer_octet b = is_info_octet b || b == lf || b == cr
 
--- NUL, LF, CR and SYN
+-- NUL, LF, CR or SYN
 abbrev pub is_filler_octet : ℕ → Bool
 is_filler_octet b = b == nul || b == lf || b == cr || b == syn
 
@@ -27,11 +27,11 @@ is_text_octet b = nat_lt b 256 && not (b == etx)
 abbrev pub Are : (ℕ → Bool) → List ℕ → Type 0
 Are test xs = IsTrue (list_all test xs)
 
--- least to most octets that pass the test
+-- `least` to `most` octets that pass the test
 abbrev pub IsField : (ℕ → Bool) → ℕ → ℕ → List ℕ → Type 0
 IsField test least most xs = Are test xs × (least ≤ length xs) × (length xs ≤ most)
 
--- ---- how many octets the parts have at most
+-- ---- The greatest numbers of octets of the parts.
 
 -- filler before SOH and after EOT, and the gap
 abbrev pub max_filler : ℕ
@@ -60,7 +60,7 @@ max_trailer = 64
 
 -- ---- The message: filler, SOH, header, gap, STX, text, ETX, trailer, EOT, filler.
 
--- what a header says
+-- the six parts of a header
 pub record Header : Type 0 where
   pub source : List ℕ
   pub number : List ℕ
@@ -83,7 +83,7 @@ pub record IsHeader (head : Header) : Type 0 where
   pub words : IsField is_digit 1 max_words head.words
   pub info : IsField is_info_octet 0 max_info head.info
 
--- A trailer: up to 64 octets, line ends among them.
+-- A trailer: up to 64 octets, which may be line ends.
 abbrev pub IsTrailer : List ℕ → Type 0
 IsTrailer xs = IsField is_trailer_octet 0 max_trailer xs
 
@@ -134,7 +134,7 @@ pub record BeginsWithHeader (octets : List ℕ) (head : Header) : Type 0 where
   pub is_gap : IsGap gap
   pub parts : octets ≡ before ++ (soh ∷ fixed_header head ++ (info ++ (gap ++ (stx ∷ rest))))
 
--- nothing for an empty info, and else SP and the info
+-- nothing for an empty info, and otherwise SP and the info
 abbrev pub packed_info : List ℕ → List ℕ
 packed_info [] = []
 packed_info (b ∷ bs) = sp ∷ b ∷ bs
@@ -160,31 +160,31 @@ pub record MessageLanguage (tokens : List OctetOrEnd) : Type 0 where
   pub message : IsMessage object head text trailer
   pub tokens_are : tokens ≡ with_end object
 
--- A message can continue from the octets.
+-- The octets are a viable prefix of a message.
 abbrev pub MessageLivesWith : List ℕ → Type 0
 MessageLivesWith octets = IsAlive MessageLanguage (map Octet octets)
 
--- A message can continue from the octets, and not from them with the next token.
+-- The octets are a viable prefix of a message, and with the next token they are not.
 abbrev pub MessageDiesAt : List ℕ → OctetOrEnd → Type 0
 MessageDiesAt octets token = DiesAt MessageLanguage (map Octet octets) token
 
--- what stands after STX
+-- what follows STX
 abbrev pub after_stx : List ℕ → List ℕ
 after_stx octets = after_first (λ b. b == stx) octets
 
--- the text so far: what stands after STX and before ETX
+-- the text so far: what is after STX and before ETX
 abbrev pub text_so_far : List ℕ → List ℕ
 text_so_far octets = before_first (λ b. b == etx) (after_stx octets)
 
--- the trailer so far: what stands after ETX, which ends the text, and before EOT
+-- the trailer so far: what is after ETX, which ends the text, and before EOT
 abbrev pub trailer_so_far : List ℕ → List ℕ
 trailer_so_far octets = before_first (λ b. b == eot) (after_first (λ b. b == etx) (after_stx octets))
 
--- the story's tokens of the octets so far: the text has ended where an ETX stands after STX
+-- the story's tokens of the octets so far: the text has ended if an ETX is after STX
 abbrev pub story_tokens_of : List ℕ → List OctetOrEnd
 story_tokens_of octets = map Octet (text_so_far octets)
     ++ (if list_any (λ b. b == etx) (after_stx octets) then End ∷ [] else [])
 
--- The story of the object can continue from the octets.
+-- The text in the octets is a viable prefix of a story.
 abbrev pub StoryLivesIn : List ℕ → Type 0
 StoryLivesIn octets = IsAlive StoryLanguage (story_tokens_of octets)

@@ -1,4 +1,4 @@
--- Where a reader of messages stands, what octets so far are, and how a place is saved.
+-- The states of a reader of messages, which octets reach them, and how a state is saved.
 use Rattle.std.specs.Prelude.{◌≡◌, ℕ, ◌≤◌, ◌||◌, nat_lt, IsTrue, List, [], ◌∷◌, ◌++◌, length, ◌<◌, take, slice_index, Bool, true, false, Option, Some, None, if◌then◌else◌, ◌+◌, IfSome}
 use Rattle.iim_dataset.specs.Format.Octets.{soh, stx, etx, sp, is_digit, is_letter, Rose}
 use Rattle.wire_story.specs.Format.Texts.{AreLines, StoryEvent, delivered}
@@ -13,14 +13,15 @@ pub use Rattle.wire_message.specs.declared.place.Place.{Place}
 pub use Rattle.wire_message.specs.declared.place.Place.TheVariants.{Filler, InHeader, Info, Gap, Text, Trailer, AfterEnd}
 use Rattle.wire_message.specs.declared.saved.MessagePart.TheVariants as part
 
--- ---- the parts of a header
+-- ---- The parts of a header.
 
--- They are made of their octets, and each has so many of them at least, and so many at most.
+-- Each part has only its own octets, and its length is between these two bounds.
 abbrev pub AreParts : (s s' n n' p p' c c' w w' : ℕ) → HeaderTexts → Type 0
 AreParts s s' n n' p p' c c' w w' t = IsField is_letter s s' t.source.items × IsField is_digit n n' t.number.items × IsField is_digit p p' t.priority.items
     × IsField is_alphanumeric c c' t.category.items × IsField is_digit w w' t.words.items
 
--- the octets after SOH up to the part that is being read: the number follows the source at once, and SP stands between other parts
+-- the octets after SOH up to the part that is being read: the number follows the source
+-- immediately, and other parts are separated by SP
 abbrev pub so_far : HeaderPart → HeaderTexts → List ℕ
 so_far Source t = t.source.items
 so_far Number t = t.source.items ++ t.number.items
@@ -28,10 +29,11 @@ so_far Priority t = t.source.items ++ (t.number.items ++ (sp ∷ t.priority.item
 so_far Category t = t.source.items ++ (t.number.items ++ (sp ∷ (t.priority.items ++ (sp ∷ t.category.items))))
 so_far Words t = t.source.items ++ (t.number.items ++ (sp ∷ (t.priority.items ++ (sp ∷ (t.category.items ++ (sp ∷ t.words.items))))))
 
--- ---- all places
+-- ---- All states.
 
--- What was read has lengths and octets with which a message can continue. Of a header the parts before the one that is being read
--- have an octet at least, and so has the number, which its first digit begins; those after it have none.
+-- What was read has lengths and octets with which a message can continue. In a header the parts
+-- before the one that is being read have at least one octet, and so has the number, which its first
+-- digit begins; those after it are empty.
 abbrev pub IsPlace : Place → Type 0
 IsPlace (Filler count) = count ≤ max_filler
 IsPlace (InHeader Source t) = AreParts 0 max_source 0 0 0 0 0 0 0 0 t
@@ -62,67 +64,74 @@ Spells octets text (Trailer h t) = (before : List ℕ) × (info : List ℕ) × (
     × (octets ≡ before ++ (soh ∷ (fixed_header h ++ (info ++ (gap ++ (stx ∷ (text ++ (etx ∷ t.items))))))))
 Spells octets text (AfterEnd h t count) = (message : IsMessage octets h text t.items) × (length message.after ≡ count)
 
--- The text so far is one of the story: a reader stands where it has taken it, and from ETX on it is whole.
+-- The text so far is one of a story: a reader of the text is in the state after it, and from ETX on
+-- the text is complete.
 abbrev pub StoryStands : List ℕ → Place → Type 0
 StoryStands text (Text h reader) = story.StandsAt reader text
 StoryStands text (Trailer h t) = AreLines text
 StoryStands text (AfterEnd h t count) = AreLines text
 StoryStands text _ = text ≡ []
 
--- The octets so far, with this text among them, have led to the place.
+-- The octets so far, with this text among them, reach the state.
 pub record LeadsTo (octets text : List ℕ) (place : Place) : Type 0 where
   pub is_place : IsPlace place
   pub spelled : Spells octets text place
   pub story : StoryStands text place
 
--- ---- Where a reader of messages stands, and why it refuses an octet.
+-- ---- The state of a reader of messages, and why it rejects an octet.
 
--- The reader has taken these octets, with this text among them.
+-- The reader has consumed these octets, with this text among them.
 abbrev pub StandsAt : Option Place → List ℕ → List ℕ → Type 0
 StandsAt reader octets text = (place : Place) × (reader ≡ Some place) × LeadsTo octets text place
 
--- For all octets so far, a piece leads a reader on, and this is what it adds to the text.
+-- From the state after any octets, a chunk takes the reader to the new state, and adds this to the
+-- text.
 abbrev pub LeadsOn : Option Place → List ℕ → List ℕ → Option Place → Type 0
 LeadsOn old piece more new = (octets text : List ℕ) → StandsAt old octets text → StandsAt new (octets ++ piece) (text ++ more)
 
--- For all octets so far, some place comes after a piece, and this is what it adds to the text.
+-- From the state after any octets, a chunk reaches some state, and adds this to the text.
 abbrev pub GoesSomewhere : Option Place → List ℕ → List ℕ → Type 0
 GoesSomewhere old piece more = (octets text : List ℕ) → StandsAt old octets text
     → (place : Place) × LeadsTo (octets ++ piece) (text ++ more) place
 
--- TellsStory of a piece: the sink went by exactly what is delivered of the text that the piece adds.
+-- The sink received exactly the events delivered of the text that the chunk adds.
 abbrev pub TellsStory : {S : Type 0} → (S → List StoryEvent → S → Type 0) → S → Option Place → List ℕ → Option Place → S → Type 0
 TellsStory goes before old piece new after = (more : List ℕ) × goes before (delivered more) after × LeadsOn old piece more new
 
--- The same of the octets before a refused one.
+-- The sink received exactly the events delivered of the text that the octets before a rejected one
+-- add.
 abbrev pub TellsFront : {S : Type 0} → (S → List StoryEvent → S → Type 0) → S → Option Place → List ℕ → S → Type 0
 TellsFront goes before old piece after = (more : List ℕ) × goes before (delivered more) after × GoesSomewhere old piece more
 
--- For all octets so far, a message can continue from these and a piece, and so can the story in it.
+-- After any octets so far, these and the chunk are a viable prefix of a message, and their text of
+-- a story.
 abbrev pub LivesOn : Option Place → List ℕ → Type 0
 LivesOn old piece = (octets text : List ℕ) → StandsAt old octets text → MessageLivesWith (octets ++ piece) × StoryLivesIn (octets ++ piece)
 
--- For all octets so far, the octet of the piece after the first `taken` is refused for that cause.
+-- After any octets so far, the octet of the chunk after the first `taken` is rejected for that
+-- cause.
 abbrev pub Refuses : Option Place → List ℕ → MessageFault → Type 0
 Refuses old piece fault = (octets text : List ℕ) → StandsAt old octets text →
     HasCause fault.cause (octets ++ take fault.taken piece) (slice_index piece fault.taken)
 
--- The sink's count of failures rose where the sink refused, and nowhere else.
+-- The failure counter of the sink rose exactly if the sink rejected.
 abbrev pub CountsCause : ℕ → ℕ → MessageCause → Type 0
 CountsCause old new Sink = Rose old new
 CountsCause old new _ = new ≡ old
 
--- ---- what a call comes to
+-- ---- How a call ends.
 
--- All octets of a piece were taken: the message and the story in it can continue, the sink was told just what is delivered of the
--- text that they add, and it did not stop.
+-- All octets of a chunk were consumed: the octets so far are a viable prefix of a message, and
+-- their text of a story, the sink received exactly the events delivered of the text that they add,
+-- and it did not stop.
 pub record TakesPiece {S : Type 0} (goes : S → List StoryEvent → S → Type 0) (failures : S → ℕ) (old : Option Place) (piece : List ℕ) (new : Option Place) (a b : S) : Type 0 where
   pub lives : LivesOn old piece
   pub told : TellsStory goes a old piece new b
   pub calm : failures b ≡ failures a
 
--- One octet of a piece was refused, for its cause. With those before it message and story could continue, and the sink was told
--- just what is delivered of their text. Its count of failures rose where it was the one that refused.
+-- One octet of a chunk was rejected, for its cause. With those before it the octets are a viable
+-- prefix of a message, and their text of a story, and the sink received exactly the events
+-- delivered of their text. Its failure counter rose if it was the one that rejected.
 pub record RefusesOne {S : Type 0} (goes : S → List StoryEvent → S → Type 0) (failures : S → ℕ) (old : Option Place) (piece : List ℕ) (fault : MessageFault) (a b : S) : Type 0 where
   pub before : fault.taken < length piece
   pub lives : LivesOn old (take fault.taken piece)
@@ -130,7 +139,7 @@ pub record RefusesOne {S : Type 0} (goes : S → List StoryEvent → S → Type 
   pub told : TellsFront goes a old (take fault.taken piece) b
   pub counted : CountsCause (failures a) (failures b) fault.cause
 
--- ---- what a reader tells
+-- ---- What a reader returns.
 
 -- the header, from STX on
 abbrev pub head_read : Option Place → Option Header
@@ -150,14 +159,15 @@ abbrev pub is_ended : Option Place → Bool
 is_ended (Some (AfterEnd h t count)) = true
 is_ended _ = false
 
--- The octets are a message of the header and the trailer that were read, and of a text.
+-- The octets are a message with the header and the trailer that were read, and with a text.
 abbrev pub IsWhole : Option Place → Type 0
 IsWhole reader = (octets text : List ℕ) → StandsAt reader octets text
     → (head : Header) × (head_read reader ≡ Some head) × IsMessage octets head text (trailer_read reader) × AreLines text
 
--- ---- The place of a reader of messages, as it is saved.
+-- ---- The saved state of a reader of messages.
 
--- a part, its counter and flag, and the octets of source, number, priority, category, words, info and trailer
+-- a part, its counter and flag, and the octets of source, number, priority, category, words, info
+-- and trailer
 abbrev pub place_from : MessagePart → ℕ → ℕ → List ℕ → List ℕ → List ℕ → List ℕ → List ℕ → List ℕ → List ℕ → MessagePlace
 place_from part counter flag source number priority category words info trailer = record {
   part = part;
@@ -172,11 +182,12 @@ place_from part counter flag source number priority category words info trailer 
   trailer = record { items = trailer };
 }
 
--- the same with the parts of a header
+-- a part, its counter and flag, the parts of a header, and the trailer
 abbrev pub place_with_header : MessagePart → ℕ → ℕ → Header → List ℕ → MessagePlace
 place_with_header part counter flag h trailer = place_from part counter flag h.source h.number h.priority h.category h.words h.info trailer
 
--- a part of the header as it is saved: the priority, with these octets, before its digit or after it
+-- a part of the header in its saved form: the priority, with these octets, is before its digit or
+-- after it
 abbrev pub saved_part : HeaderPart → List ℕ → MessagePart
 saved_part Source _ = part.Source
 saved_part Number _ = part.Number
@@ -185,7 +196,7 @@ saved_part Priority (b ∷ bs) = part.PriorityRead
 saved_part Category _ = part.Category
 saved_part Words _ = part.Words
 
--- A place as it is saved. What comes later than the part that is being read is empty.
+-- the saved form of a state: parts after the one that is being read are empty
 abbrev pub saved : Place → MessagePlace
 saved (Filler count) = place_from part.Filler count 0 [] [] [] [] [] [] []
 saved (InHeader at t) = place_from (saved_part at t.priority.items) 0 0 t.source.items t.number.items t.priority.items t.category.items t.words.items [] []
@@ -196,32 +207,33 @@ saved (Text h None) = place_with_header part.Text 0 0 h []
 saved (Trailer h t) = place_with_header part.Trailer 0 0 h t.items
 saved (AfterEnd h t count) = place_with_header part.AfterEnd count 0 h t.items
 
--- The octets so far, with this text among them, have led to the place that is saved so.
+-- The octets so far, with this text among them, reach the state with this saved form.
 abbrev pub LeadsToSaved : List ℕ → List ℕ → MessagePlace → Type 0
 LeadsToSaved octets text place = (at : Place) × LeadsTo octets text at × (saved at ≡ place)
 
--- The reader is at the place that is saved so.
+-- The reader is in the state with this saved form.
 abbrev pub IsAt : Option Place → MessagePlace → Type 0
 IsAt reader place = (at : Place) × (reader ≡ Some at) × (saved at ≡ place)
 
--- Some octets, `count` of them, lead to where the reader stands.
+-- Some `count` octets reach the state of the reader.
 abbrev pub LeadsIn : Option Place → ℕ → Type 0
 LeadsIn reader count = (octets : List ℕ) × (text : List ℕ) × StandsAt reader octets text × (length octets ≡ count)
 
--- The number is no less than the least, and no more than the greatest where there is one.
+-- The number is at least the least, and at most the greatest if there is one.
 abbrev pub IsOneOf : ℕ → Option ℕ → ℕ → Type 0
 IsOneOf least greatest count = (least ≤ count) × IfSome greatest (λ most. count ≤ most)
 
--- SOH and the parts up to the words, with the SP between them
+-- the length of SOH and the parts up to the words, with the SP between them
 abbrev pub fixed_octets : Header → ℕ
 fixed_octets h = 1 + length (fixed_header h)
 
--- SOH to STX at least: an empty info has no SP, and the gap is LF alone
+-- the least length from SOH to STX: an empty info has no SP, and the gap is LF alone
 abbrev pub least_head : Header → ℕ
 least_head h = fixed_octets h + length (packed_info h.info) + 2
 
--- How many octets lead to a place at least: no filler stands before SOH, an empty info has no SP once the gap has begun, and
--- once it has ended the gap is LF alone; of the text there are the CR that are held.
+-- The least number of octets that reach a state: there is no filler before SOH, an empty info has
+-- no SP once the gap has begun, and once the gap has ended it is LF alone; the text is the pending
+-- CR.
 abbrev pub least_of : Place → ℕ
 least_of (Filler count) = count
 least_of (InHeader part t) = 1 + length (so_far part t)
@@ -232,8 +244,8 @@ least_of (Text h None) = least_head h
 least_of (Trailer h t) = least_head h + 1 + length t.items
 least_of (AfterEnd h t count) = least_head h + 2 + length t.items + count
 
--- How many lead there at most: 32 of filler stand before SOH, and in the gap an empty info has its SP. From STX on the text
--- may be of any length.
+-- The greatest number of octets that reach a state: there are 32 octets of filler before SOH, and
+-- in the gap an empty info has its SP. From STX on the text may be of any length.
 abbrev pub greatest_of : Place → Option ℕ
 greatest_of (Filler count) = Some count
 greatest_of (Gap h count feed) = Some (max_filler + (fixed_octets h + 1 + length h.info + count))

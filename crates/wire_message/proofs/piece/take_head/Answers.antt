@@ -2,7 +2,7 @@ use Rattle.std.proofs.Common.{ℕ, List, Option, Some, None, IfSome}
 use Rattle.wire_message.proofs.Names.{TakesSome, Place, Filler}
 use Rattle.wire_message.proofs.piece.take_head.Goals as goal
 
--- after so many octets of filler
+-- The same after any number of octets of filler.
 after_filler : (r : Option ℕ) (new : Place) (rest : List ℕ) (count : ℕ) → IfSome r (λ used. (n : ℕ) → TakesSome (Filler n) rest new used)
     → IfSome r (λ used. TakesSome (Filler count) rest new used)
 after_filler (Some used) new rest count takes = takes count

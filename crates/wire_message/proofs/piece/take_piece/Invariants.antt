@@ -2,7 +2,7 @@ use Rattle.std.proofs.Common.{◌≡◌, ◌≤◌, ◌-◌, take, length, Some}
 use Rattle.wire_message.specs.States.Reading.{IsPlace, TellsStory}
 use Rattle.wire_message.proofs.piece.take_piece.Given as goal
 
--- the octets so far have led here, and the sink was told what they deliver
+-- The octets so far reach this state, and the sink received the events that they deliver.
 abbrev pub invariant-loop-at : goal.invariant-loop-at
 invariant-loop-at g l = record {
   is_place : IsPlace l.place;

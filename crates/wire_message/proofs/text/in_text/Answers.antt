@@ -6,7 +6,7 @@ use Rattle.wire_story.specs.States.Reading as story
 use Rattle.wire_message.proofs.text.in_text.Goals as goal
 use Rattle.wire_message.proofs.text.in_text.Goals.{else-is_control-via-then-is_control+else-rest-fault-eq-ETX, else-is_control-via-else-is_control}
 
--- the place is reached by some octets, and so is the next one
+-- ---- Some octets reach the state, and so they do the next one.
 pub returns-in-Ok-clause-takes : goal.returns-in-Ok-clause-takes
 returns-in-Ok-clause-takes g c = λ on.
     let place = c.requires.place in
@@ -33,7 +33,7 @@ returns-then-rest-fault-eq-ETX-clause-ended g c = λ ended trailer none.
       calm = rw control at e.counted;
     }
 
--- the cause of a message counts as the cause of its text does
+-- The cause of a message counts as the cause of its text does.
 counted_as : (cause : TextCause) (old new : ℕ) → story.CountsCause old new cause → CountsCause old new (cause_of cause)
 counted_as text_cause.Sink old new h = h
 counted_as _ old new h = h
