@@ -1,6 +1,7 @@
-//! The worked envelope with a story of two lines, and its parts.
+//! The example envelope with a story of two lines, and its parts.
 
-/// An envelope with by-lines, keywords and a story of two lines: with a known size, and one subfile of at most 1024 octets.
+/// An envelope with by-lines, keywords and a story of two lines: with a known size, and one subfile
+/// of at most 1024 octets.
 pub const STORY: &[u8; 246] =
     b"\x1c\x01\x00\x00\x02\x00\x04\x1c\x01\x14\x00\x02\x00\x02\x1c\x01\x16\x00\x02\x00\x01\
 \x1c\x01\x1e\x00\x03TST\x1c\x01\x28\x00\x0800000002\x1c\x01\x46\x00\x0820240301\x1c\x02\x00\x00\x02\x00\x04\
@@ -30,7 +31,7 @@ pub const STORY_FIELDS: [(u8, u8, &[u8]); 16] = [
     (2, 250, b"\0\xff"),
 ];
 
-/// The octets of these: what the story's envelope has before record 7.
+/// The octets of these datasets: what the story's envelope has before record 7.
 pub const STORY_FRONT: &[u8] =
     b"\x1c\x01\x00\x00\x02\x00\x04\x1c\x01\x14\x00\x02\x00\x02\x1c\x01\x16\x00\x02\x00\x01\
 \x1c\x01\x1e\x00\x03TST\x1c\x01\x28\x00\x0800000002\x1c\x01\x46\x00\x0820240301\x1c\x02\x00\x00\x02\x00\x04\
@@ -42,10 +43,10 @@ pub const STORY_FRONT: &[u8] =
 pub const STORY_OBJECT: &[u8] =
     b"\x01TST0007 4 ECO 5 rates\r\n\x02Rates stay.\r\nNo change.\x03\x04";
 
-/// The dataset after it, which confirms its size.
+/// The dataset after the object, which confirms its size.
 pub const STORY_CONFIRMED: &[u8] = b"\x1c\x09\x0a\x00\x04\x00\x00\x00\x32";
 
-/// What the story's envelope has from record 7 on.
+/// The octets of the story's envelope from record 7 on.
 pub const STORY_REST: &[u8] =
     b"\x1c\x07\x0a\0\x01\x01\x1c\x07\x14\0\x04\0\0\x04\0\x1c\x07\x5a\0\x04\0\0\0\x32\
 \x1c\x08\x0a\0\x32\x01TST0007 4 ECO 5 rates\r\n\x02Rates stay.\r\nNo change.\x03\x04\x1c\x09\x0a\0\x04\0\0\0\x32";
@@ -53,5 +54,5 @@ pub const STORY_REST: &[u8] =
 /// The first line of the story.
 pub const FIRST_LINE: &[u8] = b"Rates stay.";
 
-/// Its last line.
+/// The last line of the story.
 pub const LAST_LINE: &[u8] = b"No change.";

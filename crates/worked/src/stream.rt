@@ -1,6 +1,6 @@
-//! Worked envelopes one after another.
+//! Example envelopes, one after another.
 
-/// The story's envelope, the smallest one, and one that is as small and has the story's id.
+/// The story's envelope, the smallest one, and one that is as small and has the story's identity.
 pub const STREAM: &[u8] =
     b"\x1c\x01\x00\x00\x02\x00\x04\x1c\x01\x14\x00\x02\x00\x02\x1c\x01\x16\x00\x02\x00\x01\
 \x1c\x01\x1e\x00\x03TST\x1c\x01\x28\x00\x0800000002\x1c\x01\x46\x00\x0820240301\x1c\x02\x00\x00\x02\x00\x04\
