@@ -1,4 +1,4 @@
--- The laws of the test reader, handed in by its impl.
+-- The lemmas that the impl of the test reader provides.
 use Rattle.std.proofs.Common.{refl, ◌∙◌, arith}
 use Rattle.trials.specs.declared.device.{Plan.Plan, TrialReader.TrialReader}
 use Rattle.trials.specs.States.{GoesByPlan, ReadsOn, trial_device}

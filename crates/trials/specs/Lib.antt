@@ -1,4 +1,4 @@
--- Where devices and sinks of tests stand.
+-- The states of the readers, writers and sinks of tests.
 pub mod States
--- What only proofs and private clauses cite.
+-- Definitions that only proofs and private clauses cite.
 pub mod DeviceLaws

@@ -1,4 +1,4 @@
--- Test devices and a sink of tests, as contracts see them.
+-- Readers, writers and a sink of tests, as contracts see them.
 use Rattle.std.specs.Prelude.{◌≡◌, ℕ, ◌+◌, ◌<◌, ◌≤◌, ◌⊎◌, ◌↔◌, Bool, true, false, List, length, drop, None, Some, Option, ◌-◌, min}
 use Rattle.iim_dataset.specs.{States.Devices.Device, States.Devices.Calm, States.Devices.LaterThan, Format.Octets.Rose}
 use Rattle.iim_dataset.specs.declared.device.IoFault.{IoFault, TheVariants.Interrupted, TheVariants.Failed}
@@ -7,17 +7,17 @@ use Rattle.trials.specs.declared.{device.TrialWriter.TrialWriter, sink.TrialSink
 use Rattle.trials.specs.declared.device.Trouble.TheVariants.{Failure, Interruptions}
 use Rattle.wire_story.specs.Format.Texts.{StoryEvent}
 
--- ---- Test devices, as contracts see them.
+-- ---- Readers and writers of tests.
 
 -- this number of good calls and then the trouble, and no fault so far
 abbrev pub new_plan : ℕ → Trouble → Plan
 new_plan good trouble = record { good = good; trouble = trouble; failures = 0; interruptions = 0 }
 
--- a device with the faults of a plan
+-- a source or a target with the faults of a plan
 abbrev pub planned : Option (List ℕ) → Plan → Device
 planned octets p = record { octets = octets; failures = p.failures; interruptions = p.interruptions }
 
--- the interruptions that are still to come
+-- the interruptions that remain
 abbrev pub trial_to_come : Trouble → ℕ
 trial_to_come Failure = 0
 trial_to_come (Interruptions left) = left
@@ -27,19 +27,20 @@ abbrev pub has_failures : Trouble → Bool
 has_failures Failure = true
 has_failures (Interruptions left) = false
 
--- A call went well: it was one of the good ones, or they were used up and no interruption was to come.
+-- A call succeeded: it was one of the good ones, or they were used up and no interruption remained.
 abbrev pub WentWell : Plan → Plan → Type 0
 WentWell old new = (new.trouble ≡ old.trouble)
     × ((old.good ≡ new.good + 1) ⊎ ((old.good ≡ 0) × (new.good ≡ 0) × (old.trouble ≡ Interruptions 0)))
 
--- The good calls were used up, and a call met the trouble: failures, or the first of the interruptions that were to come.
+-- The good calls were used up, and a call met the trouble: failures, or the first of the
+-- interruptions that remained.
 abbrev pub MetTrouble : Plan → Plan → IoFault → Type 0
 MetTrouble old new Failed = (old.good ≡ 0) × (new.good ≡ 0) × (old.trouble ≡ Failure) × (new.trouble ≡ Failure)
 MetTrouble old new Interrupted = (old.good ≡ 0) × (new.good ≡ 0)
     × ((left : ℕ) × (old.trouble ≡ Interruptions (left + 1)) × (new.trouble ≡ Interruptions left))
 
--- Trouble comes as it was planned: none while good calls are left, no failure where interruptions are, and no
--- interruption beyond those that were to come.
+-- Trouble comes as it was planned: none while good calls remain, no failure if interruptions are
+-- planned, and no interruption beyond those that remained.
 pub record GoesByPlan (old new : Plan) : Type 0 where
   pub good : new.good ≤ old.good
   pub calm : 0 < new.good → Calm (planned None old) (planned None new)
@@ -48,7 +49,7 @@ pub record GoesByPlan (old new : Plan) : Type 0 where
   pub interruptions : new.interruptions + trial_to_come new.trouble ≤ old.interruptions + trial_to_come old.trouble
   pub later : old.interruptions ≤ new.interruptions
 
--- a reader of known octets as a device
+-- a reader of known octets as a source
 abbrev pub trial_device : TrialReader → Device
 trial_device r = planned (Some (drop r.at r.octets.now)) r.plan
 
@@ -58,30 +59,30 @@ reader_plan r = r.plan
 abbrev pub writer_plan : {N : ℕ} → TrialWriter N → Plan
 writer_plan w = w.plan
 
--- Where reads can lead: some octets fewer, and trouble by the plan.
+-- What reads can reach: fewer octets remain, and trouble comes by the plan.
 pub record ReadsOn (old new : TrialReader) : Type 0 where
   pub later : LaterThan (trial_device old) (trial_device new)
   pub plan : GoesByPlan old.plan new.plan
 
--- what a test target took
+-- the octets that a test target accepted
 abbrev pub taken_octets : {N : ℕ} → TrialWriter N → List ℕ
 taken_octets w = w.octets.items
 
--- a test target as a device
+-- a test target, by its octets and its faults
 abbrev pub trial_target : {N : ℕ} → TrialWriter N → Device
 trial_target w = planned (Some (taken_octets w)) w.plan
 
--- One octet of the piece is taken where there is room for it, and else none.
+-- One octet of the chunk is accepted if there is capacity for it, and otherwise none.
 abbrev pub TakesOne : ℕ → List ℕ → List ℕ → ℕ → Type 0
 TakesOne room taken piece n = (n ≤ 1) × ((n ≡ 0) ↔ ((length piece ≡ 0) ⊎ (room ≤ length taken)))
 
--- ---- A sink of tests, as contracts see it.
+-- ---- A sink of tests.
 
--- the sink that it stands before
+-- the sink that calls are passed on to
 abbrev pub sink_of : {S : Type 0} → TrialSink S → S
 sink_of trial = trial.sink
 
--- how many good calls are left
+-- the number of good calls that remain
 abbrev pub good_of : {S : Type 0} → TrialSink S → ℕ
 good_of trial = trial.good
 
@@ -93,17 +94,18 @@ front_of trial = trial.front
 abbrev pub failures_of : {S : Type 0} → TrialSink S → ℕ
 failures_of trial = trial.failures
 
--- The sink that it stands before went by the events.
+-- The sink that calls are passed on to received the events.
 abbrev pub PassesOn : {S : Type 0} → (S → List StoryEvent → S → Type 0) → TrialSink S → List StoryEvent → TrialSink S → Type 0
 PassesOn goes old events new = goes (sink_of old) events (sink_of new)
 
--- A call came: one good call less is left, if one was.
+-- A call was made: one good call less remains, if one remained.
 abbrev pub UsesCall : {S : Type 0} → TrialSink S → TrialSink S → Type 0
 UsesCall old new = (front_of new ≡ front_of old)
     × ((good_of old ≡ good_of new + 1) ⊎ ((good_of old ≡ 0) × (good_of new ≡ 0)))
 
--- A run of `len` octets was refused after the first `taken`. Either no good call was left, and `taken` is how many octets of a call
--- are passed on before a stop, or all but the last where that is fewer; or the sink that it stands before refused it.
+-- A slice of `len` octets was rejected after the first `taken`. Either no good call remained, and
+-- `taken` is the number of octets of a call that are passed on before a stop, or all but the last
+-- if that is fewer; or the sink that calls are passed on to rejected it.
 abbrev pub StopsByPlan : {S : Type 0} → (S → ℕ) → TrialSink S → ℕ → ℕ → TrialSink S → Type 0
 StopsByPlan failures old len taken new = ((good_of old ≡ 0) × (taken ≡ min (front_of old) (len - 1)))
     ⊎ Rose (failures (sink_of old)) (failures (sink_of new))

@@ -12,7 +12,7 @@ use iim_dataset::{IoFault, Source, Target};
 pub enum Trouble {
     /// This call and all later ones fail.
     Failure,
-    /// This number of interruptions comes, and then nothing goes wrong any more.
+    /// This number of calls is interrupted, and then nothing goes wrong any more.
     Interruptions(u32),
 }
 
@@ -37,7 +37,7 @@ impl Plan {
         }
     }
 
-    /// Begins a call, and answers what goes wrong with it.
+    /// Begins a call, and returns what goes wrong with it.
     fn call(&mut self) -> Result<(), IoFault>
         ensures ok { OnOk result (Calm (planned None self.old) (planned None self.new)) }
         ensures err { IfErr result (Faulted (planned None self.old) (planned None self.new)) }
@@ -72,7 +72,7 @@ impl Plan {
     }
 }
 
-/// A source of known octets that gives one a call, with trouble after `good` good calls.
+/// A source of known octets that returns one a call, with trouble after `good` good calls.
 #[derive(Drop)]
 pub struct TrialReader<'a> {
     octets: &'a [u8],
@@ -81,7 +81,7 @@ pub struct TrialReader<'a> {
 }
 
 impl<'a> TrialReader<'a> {
-    /// A source of these octets with `good` good calls before the trouble.
+    /// Creates a source of these octets with `good` good calls before the trouble.
     pub fn new(octets: &'a [u8], good: u64, trouble: Trouble) -> TrialReader<'a>
         ensures device { trial_device result ≡ unbroken (Some octets.entry.now) }
         ensures plan { reader_plan result ≡ new_plan good trouble }
@@ -124,7 +124,8 @@ impl Source for TrialReader<'_> {
     }
 }
 
-/// A target that takes one octet a call while it has less than `N` and then none, with trouble after `good` good calls.
+/// A target that accepts one octet a call while it has fewer than `N`, and then none, with trouble
+/// after `good` good calls.
 #[derive(Drop)]
 pub struct TrialWriter<const N: usize> {
     octets: ArrayVec<u8, N>,
@@ -132,7 +133,7 @@ pub struct TrialWriter<const N: usize> {
 }
 
 impl<const N: usize> TrialWriter<N> {
-    /// An empty target with `good` good calls before the trouble.
+    /// Creates an empty target with `good` good calls before the trouble.
     pub fn new(good: u64, trouble: Trouble) -> TrialWriter<N>
         ensures empty { taken_octets result ≡ [] }
         ensures plan { writer_plan result ≡ new_plan good trouble }
@@ -143,7 +144,7 @@ impl<const N: usize> TrialWriter<N> {
         }
     }
 
-    /// The octets that were taken.
+    /// Returns the octets that were accepted.
     pub fn octets(&self) -> &[u8]
         ensures { result.now ≡ taken_octets self.now }
     {

@@ -1,6 +1,7 @@
-//! Devices for tests: a reader and a writer that go wrong by a plan, and a sink of a story that stops by one.
+//! Fault injection for tests: a reader and a writer that fail by a plan, and a sink of a story that
+//! stops by one.
 //!
-//! Stands on `iim_dataset`, `wire_story` and `arrayvec`. Tests stand on it, and no library does.
+//! Depends on `iim_dataset`, `wire_story` and `arrayvec`. Tests depend on it, and no library does.
 #![tactic(auto)]
 
 mod device;

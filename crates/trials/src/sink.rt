@@ -7,9 +7,10 @@ ghost use Rattle.wire_story.specs.Format.Texts.{IsLine, LineOctet, LineEnd};
 use iim_dataset::Stop;
 use wire_story::StorySink;
 
-/// A sink that passes `good` calls on to another sink, and stops at each later one: at a run after some of its octets,
-/// which it passes on, and at a line end at once. A run of no octets is never refused. It counts its stops, and those of the
-/// other sink, up to the greatest number of 64 bits.
+/// A sink that passes `good` calls on to another sink, and stops at each later one: at a slice
+/// after some of its octets, which it passes on, and at a line end immediately. An empty slice is
+/// never rejected. It counts its stops, and those of the other sink; the counter saturates at
+/// `u64::MAX`.
 #[derive(Drop)]
 pub struct TrialSink<S> {
     sink: S,
@@ -21,7 +22,8 @@ pub struct TrialSink<S> {
 impl<S: StorySink> TrialSink<S> {
     ghost use Rattle.trials.specs.States.{sink_of, good_of, front_of, failures_of, PassesOn, UsesCall, StopsByPlan};
 
-    /// A sink with `good` good calls, which stops then after `front` octets of a run, or after all but its last.
+    /// Creates a sink with `good` good calls, which then stops after `front` octets of a slice, or
+    /// after all but its last.
     pub fn new(sink: S, good: u64, front: usize) -> TrialSink<S>
         ensures sink { sink_of result ≡ sink }
         ensures good { good_of result ≡ good }
@@ -36,14 +38,14 @@ impl<S: StorySink> TrialSink<S> {
         }
     }
 
-    /// How often it stopped.
+    /// Returns how often the sink stopped.
     pub fn failures(&self) -> u64
         ensures { result ≡ failures_of self.now }
     {
         self.failures
     }
 
-    /// The sink that it stands before.
+    /// Returns the sink that calls are passed on to.
     pub fn into_sink(self) -> S
         ensures { result ≡ sink_of self }
     {
@@ -56,7 +58,7 @@ impl<S: StorySink> TrialSink<S> {
         sink
     }
 
-    /// Counts a stop.
+    /// Counts a stop, and returns it.
     fn stop(&mut self, taken: usize) -> Stop
         ensures taken { result.taken ≡ taken }
         ensures sink { sink_of self.new ≡ sink_of self.old }
@@ -68,7 +70,7 @@ impl<S: StorySink> TrialSink<S> {
         Stop { taken }
     }
 
-    /// Passes octets on, and counts a stop.
+    /// Passes octets on, and counts a stop of the other sink.
     fn pass(&mut self, run: &[u8]) -> Result<(), Stop>
         requires { IsLine run.now }
         ensures ok { OnOk result (PassesOn S.goes self.old (map LineOctet run.now) self.new) }

@@ -2,7 +2,7 @@ use Rattle.std.proofs.Common.{◌≡◌, ◌<◌, ◌+◌, ℕ, List, [], ◌∷
 use Rattle.std.proofs.lemmas.List.{drop_more, length-set}
 use Rattle.trials.proofs.device.TrialReaderSource.read.Goals as goal
 
--- the octet that was stored is the next
+-- The octet that was stored is the next one.
 moved : (xs buffer : List ℕ) (at : ℕ) → at < length xs → 0 < length buffer
     → drop at xs ≡ take 1 (slice_set buffer 0 (slice_index_or xs at 0)) ++ drop (at + 1) xs
 moved xs [] at h k = absurd (omega arith)
