@@ -34,7 +34,7 @@ fn limits_of_wire_copy(told: &mut Told) {
     told.end_words(" fields");
 }
 
-/// Tells the name of each value, and the value as it is printed.
+/// Logs each value by its name and as it is printed.
 fn tell_printed<T: Error>(told: &mut Told, trial: &str, values: &[T]) {
     for value in values {
         told.begin(trial, " ", value);
@@ -46,7 +46,7 @@ fn causes_of_texts_are_printed(told: &mut Told) {
     tell_printed(told, "causes_of_texts_are_printed", &TEXT_CAUSES);
 }
 
-/// The name of the trials of faults.
+/// The name of the tests of faults.
 const FAULTS: &str = "faults_are_printed";
 
 fn faults_of_records_are_printed(told: &mut Told) {

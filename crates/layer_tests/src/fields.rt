@@ -1,4 +1,5 @@
-//! Readers of records over the memory of an envelope, and where nothing is handed over; and the walks over an envelope.
+//! Readers of records that reuse the memory of an envelope, readers that return no envelope yet,
+//! and iterators over an envelope.
 
 ghost use Rattle.std.specs.Prelude.{◌≢◌, length, OnOk, IfSome};
 ghost use Rattle.iim_fields.specs.States.Standing.{IsBetween, IsInside};
@@ -10,7 +11,7 @@ use iim_fields::{CopyFault, Envelope, EnvelopeBuilder, FieldCause, FieldFault, F
 use std::alloc::Global;
 use worked::STORY_FIELDS;
 
-/// What the command allows.
+/// The limits of the command.
 const LIMITS: Limits = Limits::WIRE;
 
 /// The datasets of records 7, 8 and 9.
@@ -22,7 +23,7 @@ const SIZES: [(u8, u8, &[u8]); 5] = [
     (9, 10, b"\0\0\0\x32"),
 ];
 
-/// The number that each dataset tells.
+/// The number that each dataset encodes.
 type Numbers = ArrayVec<Option<u64>, 5>;
 
 /// Datasets of record 2 that are added to a copy.
@@ -31,13 +32,13 @@ const ADDED: [(u8, &[u8]); 3] = [(105, b"Rates held"), (122, b"RELAYS"), (122, b
 /// Limits of a copy: its octets and its datasets.
 const LIMITS_OF_COPIES: [(u32, u32); 4] = [(78, 16), (77, 16), (77, 15), (78, 15)];
 
-/// The name of a trial that several functions tell.
+/// The name of a test that several functions log.
 const MEMORY: &str = "the_memory_of_an_envelope_serves_the_next";
 
-/// The name of another one.
+/// The name of another test that several functions log.
 const COPIED: &str = "copied_envelopes_take_a_dataset_more";
 
-/// Gives all octets of the begun dataset, in one piece or one by one.
+/// Feeds all octets of the dataset in progress, in one chunk or one by one.
 fn give(fields: &mut Fields, head: Head, octets: &[u8], one_by_one: bool)
     requires inside { IsInside fields.old head (length octets.now) }
     requires value { head.rec ≢ 8 }
@@ -52,7 +53,7 @@ fn give(fields: &mut Fields, head: Head, octets: &[u8], one_by_one: bool)
     }
 }
 
-/// Passes a dataset, and answers the number that it tells.
+/// Feeds a dataset, and returns the number that it encodes.
 fn pass(
     fields: &mut Fields,
     rec: u8,
@@ -79,7 +80,9 @@ fn pass(
     }
 }
 
-/// Passes the datasets of records 1 and 2, and answers the first fault.
+/// Feeds the datasets of records 1 and 2.
+///
+/// **Errors:** the first fault.
 fn pass_fields(fields: &mut Fields, one_by_one: bool) -> Result<(), FieldFault>
     requires { IsBetween fields.old }
     ensures { OnOk result (IsBetween fields.new) }
@@ -92,7 +95,9 @@ fn pass_fields(fields: &mut Fields, one_by_one: bool) -> Result<(), FieldFault>
     Ok(())
 }
 
-/// Passes the datasets of records 7, 8 and 9, keeps the number that each tells, and answers the first fault.
+/// Feeds the datasets of records 7, 8 and 9, and stores the number that each encodes.
+///
+/// **Errors:** the first fault.
 fn pass_sizes(
     fields: &mut Fields,
     one_by_one: bool,
@@ -112,7 +117,7 @@ fn pass_sizes(
     Ok(())
 }
 
-/// Passes the datasets of records 7, 8 and 9, and tells the number that each tells, or the fault.
+/// Feeds records 7 to 9, and logs each decoded number, or the fault.
 fn tell_sizes(told: &mut Told, trial: &str, fields: &mut Fields, one_by_one: bool)
     requires { IsBetween fields.old }
 {
@@ -124,7 +129,7 @@ fn tell_sizes(told: &mut Told, trial: &str, fields: &mut Fields, one_by_one: boo
     }
 }
 
-/// Passes all datasets of the longer worked envelope, and tells what they tell.
+/// Feeds all datasets of the longer example envelope, and logs each decoded number, or the fault.
 fn tell_all(told: &mut Told, fields: &mut Fields, one_by_one: bool)
     requires { IsBetween fields.old }
 {
@@ -134,7 +139,7 @@ fn tell_all(told: &mut Told, fields: &mut Fields, one_by_one: bool)
     }
 }
 
-/// Tells each dataset of the envelope.
+/// Logs each dataset of the envelope.
 fn tell_fields(told: &mut Told, trial: &str, envelope: &Envelope) {
     for (rec, set, octets) in envelope.fields() {
         told.begin(trial, " ", &rec);
@@ -143,7 +148,7 @@ fn tell_fields(told: &mut Told, trial: &str, envelope: &Envelope) {
     }
 }
 
-/// Tells a title, or that there is none.
+/// Logs a title, or that there is no further one.
 fn tell_title(told: &mut Told, title: Option<&[u8]>) {
     match title {
         Some(title) => told.line_of_octets(MEMORY, " title ", title),
@@ -151,7 +156,7 @@ fn tell_title(told: &mut Told, title: Option<&[u8]>) {
     }
 }
 
-/// Tells the first four answers of the walk over the envelope's titles.
+/// Logs the first four results of the iterator over the envelope's titles.
 fn tell_titles(told: &mut Told, envelope: &Envelope) {
     let mut titles = envelope.byline_titles();
     for _ in 0..4 {
@@ -159,7 +164,7 @@ fn tell_titles(told: &mut Told, envelope: &Envelope) {
     }
 }
 
-/// The envelope that is read in memory that served another one.
+/// Returns the envelope that is read in memory that another one has used.
 fn read_twice(told: &mut Told, alloc: Global) -> Option<Envelope> {
     let mut fields = Fields::new(alloc, LIMITS).ok()?;
     tell_all(told, &mut fields, false);
@@ -178,7 +183,7 @@ fn the_memory_of_an_envelope_serves_the_next(told: &mut Told, alloc: Global) {
     }
 }
 
-/// Adds the datasets of the longer worked envelope, and answers whether each was taken.
+/// Adds the datasets of the longer example envelope, and returns whether each was accepted.
 fn add_worked(builder: &mut EnvelopeBuilder) -> bool {
     for (rec, set, octets) in &STORY_FIELDS {
         if builder.add(*rec, *set, octets).is_err() {
@@ -188,7 +193,7 @@ fn add_worked(builder: &mut EnvelopeBuilder) -> bool {
     true
 }
 
-/// The longer worked envelope, built.
+/// Builds the longer example envelope.
 fn built(alloc: Global) -> Option<Envelope> {
     let mut builder = EnvelopeBuilder::new(alloc, LIMITS).ok()?;
     if !add_worked(&mut builder) {
@@ -197,7 +202,7 @@ fn built(alloc: Global) -> Option<Envelope> {
     builder.finish().ok()
 }
 
-/// The fields after records 1 and 2, where no envelope was handed over: there is none yet.
+/// Returns the reader after records 1 and 2, when it has no envelope to return yet.
 fn paused(alloc: Global) -> Option<Fields>
     ensures { IfSome result (λ fields. IsBetween fields) }
 {
@@ -208,7 +213,7 @@ fn paused(alloc: Global) -> Option<Fields>
     }
 }
 
-/// Whether the envelope is the longer worked one.
+/// Checks whether the envelope is the longer example one.
 fn is_worked(alloc: Global, read: &Envelope) -> bool {
     match built(alloc) {
         Some(built) => read.same(&built),
@@ -216,7 +221,7 @@ fn is_worked(alloc: Global, read: &Envelope) -> bool {
     }
 }
 
-/// Whether the fields have come to the longer worked envelope.
+/// Checks whether the reader returns the longer example envelope.
 fn are_worked(alloc: Global, fields: Fields) -> bool {
     match fields.into_envelope() {
         Ok(read) => is_worked(alloc, &read),
@@ -234,12 +239,12 @@ fn the_reader_continues_where_nothing_is_handed_over(told: &mut Told, alloc: Glo
     told.line(trial, " the same as the one that was built: ", &same);
 }
 
-/// Why the envelope is not copied into a builder of these limits.
+/// Returns why the envelope is not copied into a builder of these limits.
 fn fault_of_copy(alloc: Global, limits: Limits, envelope: &Envelope) -> Option<CopyFault> {
     EnvelopeBuilder::from(alloc, limits, envelope).err()
 }
 
-/// The envelope has 78 octets in 16 datasets.
+/// Copies the envelope, which has 78 octets in 16 datasets, within several limits.
 fn envelopes_are_copied_within_other_limits(told: &mut Told, alloc: Global, envelope: &Envelope) {
     for (octets, fields) in &LIMITS_OF_COPIES {
         let limits = Limits {
@@ -252,7 +257,7 @@ fn envelopes_are_copied_within_other_limits(told: &mut Told, alloc: Global, enve
     }
 }
 
-/// Why a dataset is not taken.
+/// Returns why a dataset is not accepted.
 fn cause_of(added: Result<(), FieldFault>) -> Option<FieldCause> {
     match added {
         Ok(()) => None,
@@ -260,7 +265,7 @@ fn cause_of(added: Result<(), FieldFault>) -> Option<FieldCause> {
     }
 }
 
-/// Adds datasets, and tells why some are not taken.
+/// Adds datasets, and logs why some are not accepted.
 fn tell_added(told: &mut Told, builder: &mut EnvelopeBuilder) {
     for (set, octets) in &ADDED {
         told.begin(COPIED, " add 2:", set);
@@ -268,7 +273,8 @@ fn tell_added(told: &mut Told, builder: &mut EnvelopeBuilder) {
     }
 }
 
-/// A copy of the envelope with room for five octets and a dataset more, which it takes.
+/// Returns a copy of the envelope, with capacity for five more octets and one more dataset, which
+/// it accepts.
 fn copied(told: &mut Told, alloc: Global, envelope: &Envelope) -> Option<Envelope> {
     let limits = Limits {
         octets: 83,

@@ -1,8 +1,10 @@
-//! Tries the layers below the unpacker by their public calls, and tells what these answer: over devices that fail, with sinks that
-//! count and stop, over the memory of an envelope, and in walks over one.
+//! Tests of the layers below the unpacker by their public calls: with readers and writers that
+//! fail, with sinks that count and stop, with reused memory of an envelope, and with iterators over
+//! one.
 //!
-//! Each line begins with the name of the trial that it belongs to. The program `envelope_tests` prints them, and its file `stdout` has the
-//! lines that are wanted, worked out from the format and from the library's pages.
+//! Each line of the log begins with the name of its test. The program `envelope_tests` prints the
+//! lines, and its file `stdout` has the expected ones, worked out from the format and from the
+//! library's pages.
 #![tactic(auto)]
 
 mod causes;
@@ -16,7 +18,7 @@ mod told;
 use std::alloc::Global;
 pub use told::Told;
 
-/// The lines of all trials.
+/// Runs all tests, and returns their lines.
 pub fn lines(alloc: Global) -> Told {
     let mut told = Told::new(alloc);
     causes::tell(&mut told);

@@ -9,7 +9,7 @@ use wire_message::{MessageCause, MessageReader};
 use wire_story::{LineWriter, Lines, StorySink};
 use worked::STORY_OBJECT;
 
-/// What a sink was told: octets of a line, of which the number is kept, or the end of a line.
+/// A call of a sink: octets of a line, of which the number is stored, or the end of a line.
 #[derive(Clone, Copy, Debug)]
 enum Call {
     Text(usize),
@@ -22,7 +22,7 @@ impl Default for Call {
     }
 }
 
-/// A sink that keeps what it was told first.
+/// A sink that stores its first calls.
 #[derive(Drop)]
 struct Calls {
     first: arrayvec::ArrayVec<Call, 8>,
@@ -48,7 +48,7 @@ impl StorySink for Calls {
     }
 }
 
-/// The smallest header, a text of one line of 32,754 octets, and no trailer.
+/// Returns an object with the smallest header, a text of one line of 32,754 octets, and no trailer.
 fn long_object() -> arrayvec::ArrayVec<u8, 32_768> {
     let mut object = arrayvec::ArrayVec::new();
     let _ = object.try_extend_from_slice(b"\x01X1 4 N 0\r\n\x02");
@@ -59,7 +59,7 @@ fn long_object() -> arrayvec::ArrayVec<u8, 32_768> {
     object
 }
 
-/// Reads an object in one piece, or octet by octet, and answers where and why it is refused.
+/// Reads an object in one chunk, or octet by octet, and returns where and why it is rejected.
 fn read<S: StorySink>(
     object: &[u8],
     by_octets: bool,
@@ -81,7 +81,8 @@ fn read<S: StorySink>(
     }
 }
 
-/// Tells what a sink was told first of an object in one piece, and where and why the object is refused.
+/// Logs the first calls of a sink for an object in one chunk, and where and why the object is
+/// rejected.
 fn tell_calls(told: &mut Told, object: &[u8]) {
     let mut sink = Calls {
         first: arrayvec::ArrayVec::new(),
@@ -96,7 +97,7 @@ fn runs_of_messages_are_passed_on_whole(told: &mut Told) {
     tell_calls(told, &long_object());
 }
 
-/// Reads an object in one piece into lines, and once more where memory was refused.
+/// Reads an object in one chunk into lines, and once more if an allocation failed.
 fn read_lines(alloc: Global, object: &[u8], lines: &mut Lines) -> Option<(usize, MessageCause)> {
     let answer = read(object, false, lines);
     if !matches!(answer, Some((_, MessageCause::Sink))) {
@@ -106,7 +107,7 @@ fn read_lines(alloc: Global, object: &[u8], lines: &mut Lines) -> Option<(usize,
     read(object, false, lines)
 }
 
-/// Tells the line that is kept of an object.
+/// Logs the lines that are stored of an object.
 fn tell_kept(told: &mut Told, alloc: Global, object: &[u8]) {
     let trial = "a_long_line_is_kept";
     let mut lines = Lines::new(alloc);
@@ -120,7 +121,8 @@ fn a_long_line_is_kept(told: &mut Told, alloc: Global) {
     tell_kept(told, alloc, &long_object());
 }
 
-/// Reads an object into a writer that fails after `good` octets, and tells the answer and what is written then.
+/// Reads an object into a writer that fails after `good` octets, and logs the result and what was
+/// written.
 fn tell_stop(told: &mut Told, good: u64, by_octets: bool) {
     let target: TrialWriter<32> = TrialWriter::new(good, Trouble::Failure);
     let mut sink = LineWriter::new(target);

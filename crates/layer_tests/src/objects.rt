@@ -1,4 +1,4 @@
-//! Sinks of objects that stop, and objects that are written to devices that fail.
+//! Sinks of objects that stop, and objects that are written to failing writers.
 
 ghost use Rattle.std.specs.Prelude.{⊤};
 
@@ -9,7 +9,8 @@ use iim_dataset::Stop;
 use iim_object::{ObjectReader, ObjectSink};
 use std::alloc::Global;
 
-/// A sink that counts the runs and their octets, and refuses the octet after `room` of them and perhaps the end.
+/// A sink that counts the slices and their octets, and rejects the octet after `room` of them and
+/// perhaps the end.
 #[derive(Drop)]
 struct Counter {
     runs: usize,
@@ -59,7 +60,7 @@ fn make_counter(room: usize, refuses_end: bool) -> Counter {
     }
 }
 
-/// Tells how a reader answers a sink that stops in a run.
+/// Logs what a reader returns if its sink stops in a slice.
 fn stop_in_a_run(told: &mut Told, sink: &mut Counter) {
     let mut reader = ObjectReader::new();
     told.begin("stops_of_the_sink", " failed: ", &reader.is_failed());
@@ -67,7 +68,7 @@ fn stop_in_a_run(told: &mut Told, sink: &mut Counter) {
     told.end(", failed: ", &reader.is_failed());
 }
 
-/// Tells how a reader answers a sink that refuses the end.
+/// Logs what a reader returns if its sink rejects the end.
 fn stop_at_the_end(told: &mut Told, sink: &mut Counter) {
     let mut reader = ObjectReader::new();
     told.begin("stops_of_the_sink", " failed: ", &reader.is_failed());
@@ -81,7 +82,7 @@ fn stops_of_the_sink(told: &mut Told) {
     stop_at_the_end(told, &mut sink);
 }
 
-/// Tells how a reader answers a run, and what its sink counts so far.
+/// Logs what a reader returns for a slice, and what its sink has counted so far.
 fn tell_run(told: &mut Told, reader: &mut ObjectReader, sink: &mut Counter, run: &[u8]) {
     let trial = "runs_of_an_object";
     if reader.is_failed() {
@@ -93,7 +94,7 @@ fn tell_run(told: &mut Told, reader: &mut ObjectReader, sink: &mut Counter, run:
     told.end_words(" octets");
 }
 
-/// Each run of an object is told in one call.
+/// Checks that each slice of an object reaches the sink in one call.
 fn runs_of_an_object(told: &mut Told) {
     let mut reader = ObjectReader::new();
     let mut sink = make_counter(100, false);

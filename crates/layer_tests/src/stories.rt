@@ -1,4 +1,4 @@
-//! Sinks of stories that count calls, stop, and write to devices that fail.
+//! Sinks of stories that count calls, stop, and write to failing writers.
 
 ghost use Rattle.std.specs.Prelude.{◌≡◌, ◌++◌, OnOk};
 ghost use Rattle.wire_story.specs.Format.Texts.{AreLines, IsLine, delivered};
@@ -15,18 +15,18 @@ const RATES: &[u8] = b"Rates stay.\r\nNo change.";
 /// A line of ten octets.
 const TEN: &[u8] = b"0123456789";
 
-/// The name of trials that several functions tell.
+/// The name of tests that several functions log.
 const STOPPING: &str = "sinks_that_stop_at_a_call";
 
-/// A sink that stops, before a writer of lines.
+/// A sink that stops, in front of a writer of lines.
 type Stopping = TrialSink<LineWriter<TrialWriter<32>>>;
 
-/// A line of as many octets as stand in the text of a message of 32,768 octets.
+/// Returns a line as long as the text of a message of 32,768 octets.
 fn long_line() -> [u8; 32_754] {
     [b'a'; 32_754]
 }
 
-/// Counts the calls of a sink, and the octets that came.
+/// A sink that counts its calls, and the octets received.
 struct Calls {
     calls: u32,
     octets: usize,
@@ -53,7 +53,8 @@ impl StorySink for Calls {
     }
 }
 
-/// Reads a text that comes in two runs, for any sink: what the contracts of this crate say to the crate above.
+/// Reads a text in two slices, for any sink. Its contract follows from the contracts of the layer
+/// alone.
 fn read_in_two<S: StorySink>(front: &[u8], back: &[u8], sink: &mut S) -> Result<(), TextFault>
     ensures text { OnOk result (AreLines (front.now ++ back.now)) }
     ensures told { OnOk result (S.goes sink.old (delivered (front.now ++ back.now)) sink.new) }
@@ -65,7 +66,7 @@ fn read_in_two<S: StorySink>(front: &[u8], back: &[u8], sink: &mut S) -> Result<
     reader.close()
 }
 
-/// Reads a text octet by octet, with an empty run before each.
+/// Reads a text octet by octet, with an empty slice before each.
 fn read_by_octets<S: StorySink>(text: &[u8], sink: &mut S) -> Result<(), TextFault> {
     let mut reader = TextReader::new();
     for octet in text {
@@ -75,7 +76,8 @@ fn read_by_octets<S: StorySink>(text: &[u8], sink: &mut S) -> Result<(), TextFau
     reader.close()
 }
 
-/// Reads a text into lines. Where a growth is refused it reads once more, so that each test bears a refusal.
+/// Reads a text into lines. If an allocation fails it reads once more, so that each test tolerates
+/// one failure.
 fn read_lines(alloc: Global, text: &[u8], lines: &mut Lines) -> Result<(), TextFault> {
     let answer = read_in_two(text, b"", lines);
     if !matches!(
@@ -91,7 +93,7 @@ fn read_lines(alloc: Global, text: &[u8], lines: &mut Lines) -> Result<(), TextF
     read_in_two(text, b"", lines)
 }
 
-/// Tells how many octets each line has, and how many of them are an a.
+/// Logs how many octets each line has, and how many of them are an `a`.
 pub(crate) fn tell_lines(told: &mut Told, trial: &str, lines: &Lines) {
     for line in lines.iter() {
         told.begin(trial, " a line of ", &line.len());
@@ -100,7 +102,7 @@ pub(crate) fn tell_lines(told: &mut Told, trial: &str, lines: &Lines) {
     }
 }
 
-/// Tells what a sink counts of a text in one run, and how the text is answered.
+/// Logs what a sink counts of a text in one slice, and the result of reading the text.
 fn tell_calls(told: &mut Told, trial: &str, text: &[u8]) {
     let mut sink = Calls {
         calls: 0,
@@ -127,7 +129,8 @@ fn a_long_run_is_passed_on_whole(told: &mut Told, alloc: Global) {
     tell_lines(told, trial, &lines);
 }
 
-/// Tells the lines octets. A refused growth has to leave them as they were, and is asked once more: whether all was so.
+/// Appends octets to the lines. If the allocation fails, the lines must be unchanged, and a second
+/// call must succeed. Returns whether this was so.
 fn insists_on_text(lines: &mut Lines, line: &[u8]) -> bool
     requires { IsLine line.now }
 {
@@ -138,7 +141,8 @@ fn insists_on_text(lines: &mut Lines, line: &[u8]) -> bool
     }
 }
 
-/// Tells the lines the end of one, in the same way.
+/// Appends a line end to the lines. If the allocation fails, the lines must be unchanged, and a
+/// second call must succeed. Returns whether this was so.
 fn insists_on_line_end(lines: &mut Lines) -> bool {
     let before = text_len(lines);
     match lines.line_end() {
@@ -147,7 +151,7 @@ fn insists_on_line_end(lines: &mut Lines) -> bool {
     }
 }
 
-/// Tells the lines a hundred lines of ten octets: whether each refused growth was borne.
+/// Appends a hundred lines of ten octets, and returns whether each failed allocation was tolerated.
 fn grow(lines: &mut Lines) -> bool {
     let mut borne = true;
     for _ in 0..100 {
@@ -157,7 +161,7 @@ fn grow(lines: &mut Lines) -> bool {
     borne
 }
 
-/// How many lines have the ten octets.
+/// Counts the lines that are the ten octets.
 fn full_lines(lines: &Lines) -> usize {
     let mut count = 0usize;
     for line in lines.iter() {
@@ -185,7 +189,7 @@ fn lines_are_written_past_interruptions(told: &mut Told) {
     told.line_and_octets(trial, &answer, target.octets());
 }
 
-/// A target takes `good` octets, one a call, and then fails.
+/// Writes to a target that accepts `good` octets, one a call, and then fails.
 fn write_and_fail(told: &mut Told, good: u64) {
     let target: TrialWriter<32> = TrialWriter::new(good, Trouble::Failure);
     let mut sink = LineWriter::new(target);
@@ -194,7 +198,7 @@ fn write_and_fail(told: &mut Told, good: u64) {
     told.line_after("writes_that_fail", good, &answer, target.octets());
 }
 
-/// Tells a sink a run and the end of a line, and begins a line of what it answers.
+/// Passes a slice and the end of a line to a sink, and begins a line of the results.
 fn begin_calls<S: StorySink>(told: &mut Told, trial: &str, words: &str, sink: &mut S, run: &[u8])
     requires { IsLine run.now }
 {
@@ -202,7 +206,7 @@ fn begin_calls<S: StorySink>(told: &mut Told, trial: &str, words: &str, sink: &m
     told.answer(" ", &sink.line_end());
 }
 
-/// A target has room for three octets.
+/// Writes to a target with capacity for three octets.
 fn write_past_room(told: &mut Told) {
     let full: TrialWriter<3> = TrialWriter::new(100, Trouble::Failure);
     let mut sink = LineWriter::new(full);
@@ -217,20 +221,22 @@ fn writes_that_fail(told: &mut Told) {
     write_past_room(told);
 }
 
-/// A sink that stops after so many good calls, before a writer of so many octets.
+/// Returns a sink that stops after `good` good calls, in front of a writer that accepts `room`
+/// octets.
 fn trial_sink(good: u64, front: usize, room: u64) -> Stopping {
     let target = TrialWriter::new(room, Trouble::Failure);
     TrialSink::new(LineWriter::new(target), good, front)
 }
 
-/// Tells how often a sink has stopped, and the octets that it passed on.
+/// Logs how often a sink has stopped, and the octets that it passed on.
 fn tell_passed(told: &mut Told, trial: &str, sink: Stopping) {
     told.begin(trial, " ", &sink.failures());
     let target = sink.into_sink().into_writer();
     told.end_octets(" stops, ", target.octets());
 }
 
-/// Begins a line of how a text is answered with a sink of so many good calls, which passes on some octets of a later one.
+/// Begins a line of the result of reading a text with a sink of `good` good calls, which passes on
+/// `front` octets of a later one.
 fn stop_at_a_call<S: StorySink>(told: &mut Told, good: u64, front: usize, sink: &mut S) {
     let answer = read_in_two(RATES, b"", sink);
     told.begin(STOPPING, " ", &good);
@@ -238,7 +244,7 @@ fn stop_at_a_call<S: StorySink>(told: &mut Told, good: u64, front: usize, sink: 
     told.answer(": ", &answer);
 }
 
-/// Tells how a sink stops, and what it passed on.
+/// Logs how a sink stops, and what it passed on.
 fn tell_stop(told: &mut Told, good: u64, front: usize) {
     let mut sink = trial_sink(good, front, 100);
     stop_at_a_call(told, good, front, &mut sink);
@@ -246,13 +252,13 @@ fn tell_stop(told: &mut Told, good: u64, front: usize) {
     tell_passed(told, STOPPING, sink);
 }
 
-/// Tells how a sink answers calls after its good ones.
+/// Logs what a sink returns for calls after its good ones.
 fn tell_calls_after<S: StorySink>(told: &mut Told, sink: &mut S) {
     begin_calls(told, STOPPING, " then ", sink, b"ab");
     told.end(" ", &sink.text(b""));
 }
 
-/// Tells of a sink that takes the whole text, and stops then.
+/// Logs a sink that accepts the whole text, and stops then.
 fn stop_after_the_text(told: &mut Told) {
     let mut sink = trial_sink(3, 0, 100);
     stop_at_a_call(told, 3, 0, &mut sink);
@@ -262,7 +268,8 @@ fn stop_after_the_text(told: &mut Told) {
     tell_passed(told, STOPPING, sink);
 }
 
-/// Good calls, and the octets of a later one that are passed on.
+/// Stops sinks after different numbers of good calls, and of octets of a later one that are passed
+/// on.
 fn sinks_that_stop_at_a_call(told: &mut Told) {
     tell_stop(told, 0, 4);
     tell_stop(told, 1, 4);

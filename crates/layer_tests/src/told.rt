@@ -1,10 +1,11 @@
-//! The lines that trials tell, and what these count.
+//! The log of the tests.
 
 use std::alloc::Global;
 use std::fmt::{Debug, Display};
 use std::io::Write;
 
-/// The lines that the trials have told so far. Where memory is refused they have no text any more: no trial has to ask at each line.
+/// The lines that the tests have logged so far. If an allocation fails the log has no text any
+/// more, so that no test needs to check each line.
 #[derive(Drop)]
 pub struct Told {
     text: Vec<u8>,
@@ -12,7 +13,7 @@ pub struct Told {
 }
 
 impl Told {
-    /// No lines.
+    /// Creates an empty log.
     pub(crate) fn new(alloc: Global) -> Told {
         Told {
             text: Vec::new(alloc),
@@ -20,7 +21,7 @@ impl Told {
         }
     }
 
-    /// The text of the lines; None where memory was refused.
+    /// Returns the text of the lines, or `None` if an allocation failed.
     pub fn text(&self) -> Option<&[u8]> {
         if self.is_cut {
             return None;
@@ -28,14 +29,14 @@ impl Told {
         Some(self.text.as_slice())
     }
 
-    /// Adds words as they are.
+    /// Appends text.
     pub(crate) fn put(&mut self, words: &str) {
         if self.text.extend_from_slice(words.as_bytes()).is_err() {
             self.is_cut = true;
         }
     }
 
-    /// Adds words and then a value as it is printed.
+    /// Appends text and then a value as it is printed.
     fn show<T: Display>(&mut self, words: &str, value: &T) {
         self.put(words);
         if write!(self.text, "{value}").is_err() {
@@ -43,7 +44,7 @@ impl Told {
         }
     }
 
-    /// Adds words and then an answer.
+    /// Appends text and then a result.
     pub(crate) fn answer<A: Debug>(&mut self, words: &str, answer: &A) {
         self.put(words);
         if write!(self.text, "{answer:?}").is_err() {
@@ -51,79 +52,80 @@ impl Told {
         }
     }
 
-    /// Adds words and then octets.
+    /// Appends text and then octets.
     pub(crate) fn octets(&mut self, words: &str, octets: &[u8]) {
         self.show(words, &octets.escape_ascii());
     }
 
-    /// Begins a line of a trial with words and an answer.
+    /// Begins a line of a test with text and a result.
     pub(crate) fn begin<A: Debug>(&mut self, trial: &str, words: &str, answer: &A) {
         self.put(trial);
         self.put(":");
         self.answer(words, answer);
     }
 
-    /// Begins a line of a trial with words and octets.
+    /// Begins a line of a test with text and octets.
     pub(crate) fn begin_octets(&mut self, trial: &str, words: &str, octets: &[u8]) {
         self.put(trial);
         self.put(":");
         self.octets(words, octets);
     }
 
-    /// Ends a line with words.
+    /// Ends a line with text.
     pub(crate) fn end_words(&mut self, words: &str) {
         self.put(words);
         self.put("\n");
     }
 
-    /// Ends a line with words and an answer.
+    /// Ends a line with text and a result.
     pub(crate) fn end<A: Debug>(&mut self, words: &str, answer: &A) {
         self.answer(words, answer);
         self.put("\n");
     }
 
-    /// Ends a line with words and octets.
+    /// Ends a line with text and octets.
     pub(crate) fn end_octets(&mut self, words: &str, octets: &[u8]) {
         self.octets(words, octets);
         self.put("\n");
     }
 
-    /// Ends a line with words and a value as it is printed.
+    /// Ends a line with text and a value as it is printed.
     pub(crate) fn end_shown<T: Display>(&mut self, words: &str, value: &T) {
         self.show(words, value);
         self.put("\n");
     }
 
-    /// Adds a line of words and an answer.
+    /// Appends a line of text and a result.
     pub(crate) fn line<A: Debug>(&mut self, trial: &str, words: &str, answer: &A) {
         self.begin(trial, words, answer);
         self.put("\n");
     }
 
-    /// Adds a line of words and octets.
+    /// Appends a line of text and octets.
     pub(crate) fn line_of_octets(&mut self, trial: &str, words: &str, octets: &[u8]) {
         self.begin_octets(trial, words, octets);
         self.put("\n");
     }
 
-    /// Adds a line of a value as it is printed.
+    /// Appends a line of a value as it is printed.
     pub(crate) fn line_shown<T: Display>(&mut self, trial: &str, value: &T) {
         self.put(trial);
         self.end_shown(": ", value);
     }
 
-    /// Adds a line of words.
+    /// Appends a line of text.
     pub(crate) fn line_of_words(&mut self, trial: &str, words: &str) {
         self.line_shown(trial, &words);
     }
 
-    /// Adds a line of what a trial answers, and of the octets that it leaves.
+    /// Appends a line of a result, and of octets.
     pub(crate) fn line_and_octets<A: Debug>(&mut self, trial: &str, answer: &A, octets: &[u8]) {
         self.begin(trial, " ", answer);
         self.end_octets(" ", octets);
     }
 
-    /// Adds the same of a device that fails after so many good calls.
+    /// Appends a line for a writer that fails after `good` successful calls: the result, and
+    /// octets.
     pub(crate) fn line_after<A: Debug>(
         &mut self,
         trial: &str,
@@ -137,7 +139,7 @@ impl Told {
     }
 }
 
-/// How many of the octets are this one.
+/// Counts the octets that are this one.
 pub(crate) fn count_of(octet: u8, octets: &[u8]) -> usize {
     let mut count = 0usize;
     for other in octets {

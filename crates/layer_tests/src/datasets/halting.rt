@@ -1,11 +1,12 @@
-//! Readers and writers of std that are interrupted, and then break.
+//! Readers and writers of `std` that are interrupted, and then fail.
 
 use crate::told::{Told, count_of};
 use iim_dataset::{FromRead, FromWrite, Source, Target, put, take};
 use std::alloc::Global;
 use std::io::{Error, ErrorKind, Read, Result, Write};
 
-/// It is interrupted `waits` times before each octet, and breaks after `good` of them.
+/// A reader and writer that is interrupted `waits` times before each octet, and fails after `good`
+/// of them.
 #[derive(Drop)]
 struct Halting {
     waits: u32,
@@ -66,7 +67,7 @@ pub(crate) fn tell(told: &mut Told, alloc: Global) {
     a_long_piece_comes_at_once(told);
 }
 
-/// Only the standard's "interrupted" is one; every other error is a failure.
+/// Checks that only the kind `Interrupted` is an interruption; every other error is a failure.
 fn faults_of_a_reader_of_std(told: &mut Told) {
     let mut reader = FromRead::new(Halting::new(1, 1));
     let mut buffer = [0u8; 8];
@@ -75,7 +76,8 @@ fn faults_of_a_reader_of_std(told: &mut Told) {
     told.end(" ", &take(&mut reader, &mut buffer));
 }
 
-/// The same of a writer. A piece of which nothing was taken breaks at 0.
+/// Checks that only the kind `Interrupted` is an interruption of a writer; `put` then stops after 0
+/// octets.
 fn faults_of_a_writer_of_std(told: &mut Told) {
     let mut writer = FromWrite::new(Halting::new(1, 1));
     told.begin("faults_of_a_writer_of_std", " ", &writer.write(b"abcdef"));
@@ -83,7 +85,7 @@ fn faults_of_a_writer_of_std(told: &mut Told) {
     told.end(" ", &put(&mut writer, b"bcdef"));
 }
 
-/// A million interruptions are a fault in a row alone.
+/// Checks that a million interruptions are a fault only if they come in a row.
 fn interruptions_between_octets(told: &mut Told) {
     let mut writer = FromWrite::new(Halting::new(600_000, 3));
     told.begin(
@@ -94,14 +96,14 @@ fn interruptions_between_octets(told: &mut Told) {
     told.end(" ", &put(&mut writer, b"d"));
 }
 
-/// Writes a long piece twice, and begins a line of the answers.
+/// Writes a long slice twice, and begins a line of the results.
 fn write_twice<T: Target>(told: &mut Told, target: &mut T) {
     let piece = [b'x'; 32_768];
     told.begin("a_long_piece_goes_at_once", " ", &target.write(&piece));
     told.answer(" ", &put(target, &piece));
 }
 
-/// A long piece goes in one call where the writer takes it.
+/// Checks that a long slice is written in one call if the writer accepts it.
 fn a_long_piece_goes_at_once(told: &mut Told, alloc: Global) {
     let mut writer = FromWrite::new(Vec::new(alloc));
     write_twice(told, &mut writer);
@@ -111,7 +113,7 @@ fn a_long_piece_goes_at_once(told: &mut Told, alloc: Global) {
     told.end_words(" of them x");
 }
 
-/// Tells three reads of a source of two long pieces, and how many octets of the first are right.
+/// Logs three reads of a source of two long slices, and how many octets of the first are right.
 fn read_thrice<S: Source>(told: &mut Told, source: &mut S) {
     let mut buffer = [0u8; 32_768];
     told.begin("a_long_piece_comes_at_once", " ", &source.read(&mut buffer));
@@ -120,7 +122,7 @@ fn read_thrice<S: Source>(told: &mut Told, source: &mut S) {
     told.end(" ", &take(source, &mut buffer));
 }
 
-/// A long piece comes in one call where the reader gives it.
+/// Checks that a long slice is read in one call if the reader returns it.
 fn a_long_piece_comes_at_once(told: &mut Told) {
     let octets = [b'x'; 65_536];
     read_thrice(told, &mut FromRead::new(octets.as_slice()));

@@ -10,13 +10,14 @@ use iim_dataset::{DatasetSink, Fault, Head, HeadReader, Step, Stop};
 /// Three datasets: a standard count, an extended one, and no data; and an octet after them.
 const STREAM: &[u8] = b"\x1c\x01\x1e\x00\x03TST\x1c\x02\x05\x80\x01\x02ab\x1c\x07\x0a\x00\x00x";
 
-/// Writes down what it takes. The third dataset is the last one, and after it nothing is taken until it continues.
+/// A sink that records what it receives. The third dataset is the last one, and after it nothing is
+/// accepted until it continues.
 #[derive(Drop)]
 struct Recorder {
     record: ArrayVec<u8, 64>,
     runs: usize,
     ended: usize,
-    /// How many more events are taken before one is refused.
+    /// The number of events that are accepted before one is rejected.
     patience: usize,
 }
 
@@ -32,14 +33,14 @@ impl Recorder {
         }
     }
 
-    /// Counts the ends anew: after the last dataset it takes others.
+    /// Resets the count of ends: after the last dataset the sink accepts others.
     fn go_on(&mut self)
         ensures { self.new.ended ≡ 0 }
     {
         self.ended = 0;
     }
 
-    /// Takes an event, or refuses it.
+    /// Accepts an event, or rejects it.
     fn takes(&mut self, octets: &[u8]) -> bool
         ensures { self.new.ended ≡ self.old.ended }
     {
@@ -106,7 +107,8 @@ pub(crate) fn tell(told: &mut Told) {
     sinks_of_datasets_that_stop(told);
 }
 
-/// Feeds octets one by one up to the end of the last dataset, and answers how many were used. A call that uses no octet ends it too.
+/// Feeds octets one by one up to the end of the last dataset, and returns how many were consumed. A
+/// call that consumes no octet ends it, too.
 fn feed_by_octets(
     reader: &mut HeadReader,
     octets: &[u8],
@@ -132,7 +134,7 @@ fn feed_by_octets(
     Ok(octets.len())
 }
 
-/// Feeds octets in one piece, or one by one, and answers how many were used or the fault.
+/// Feeds octets in one chunk, or one by one, and returns how many were consumed, or the fault.
 fn feed(
     reader: &mut HeadReader,
     octets: &[u8],
@@ -149,7 +151,8 @@ fn feed(
     }
 }
 
-/// Feeds a piece to a reader whose sink takes others after its last dataset, and answers how many octets were used.
+/// Feeds a chunk to a reader whose sink accepts others after its last dataset, and returns how many
+/// octets were consumed.
 fn feed_on(reader: &mut HeadReader, octets: &[u8], sink: &mut Recorder) -> Option<usize>
     requires { TakesCalls reader.old }
     ensures { IfSome result (λ used. TakesCalls reader.new) }
@@ -161,7 +164,8 @@ fn feed_on(reader: &mut HeadReader, octets: &[u8], sink: &mut Recorder) -> Optio
     }
 }
 
-/// Feeds three datasets, then nothing, and then the beginning of a fourth, and answers how many octets each used.
+/// Feeds three datasets, then nothing, and then the beginning of a fourth, and returns how many
+/// octets of each were consumed.
 fn feed_four(reader: &mut HeadReader, sink: &mut Recorder) -> Option<(usize, usize, usize)>
     requires { TakesCalls reader.old }
     ensures { IfSome result (λ used. TakesCalls reader.new) }
@@ -172,7 +176,8 @@ fn feed_four(reader: &mut HeadReader, sink: &mut Recorder) -> Option<(usize, usi
     Some((three, none, fourth))
 }
 
-/// After the last dataset a reader continues where its sink does: what comes then is the next dataset.
+/// Checks that after the last dataset a reader continues if its sink does: what comes then is the
+/// next dataset.
 fn a_dataset_after_the_last(told: &mut Told) {
     let trial = "a_dataset_after_the_last";
     let mut reader = HeadReader::new();
@@ -186,7 +191,7 @@ fn a_dataset_after_the_last(told: &mut Told) {
     told.line_and_octets(trial, &answer, sink.record.as_slice());
 }
 
-/// Tells how many octets each of three pieces used, and the dataset that was named last.
+/// Logs how many octets of each of three chunks were consumed, and the dataset that was named last.
 fn tell_used(told: &mut Told, trial: &str, used: [usize; 3], named: (u8, u8)) {
     let [three, none, fourth] = used;
     told.begin(trial, " used ", &three);
@@ -201,13 +206,13 @@ fn tell_named(told: &mut Told, named: (u8, u8)) {
     told.end(":", &named.1);
 }
 
-/// Adds what a sink has taken, and whether its reader has failed.
+/// Adds what a sink has received, and whether its reader has failed.
 fn tell_state(told: &mut Told, reader: &HeadReader, sink: &Recorder) {
     told.octets(" ", sink.record.as_slice());
     told.answer(", failed: ", &reader.is_failed());
 }
 
-/// An octet after the last dataset that begins no tag is refused.
+/// Checks that an octet after the last dataset is rejected if it begins no tag.
 fn octets_after_the_last_dataset(told: &mut Told) {
     let trial = "octets_after_the_last_dataset";
     let mut reader = HeadReader::new();
@@ -223,7 +228,7 @@ fn octets_after_the_last_dataset(told: &mut Told) {
     told.end_words("");
 }
 
-/// Tells a sink that stops at an event, and how the octets are answered, in one piece or one by one.
+/// Logs the result of reading with a sink that stops at an event, in one chunk or one by one.
 fn tell_stop(told: &mut Told, event: usize, one_by_one: bool) {
     let mut sink = Recorder::new(event);
     let mut reader = HeadReader::new();
@@ -233,7 +238,7 @@ fn tell_stop(told: &mut Told, event: usize, one_by_one: bool) {
     tell_named(told, reader.named());
 }
 
-/// A sink that stops at an event: a head, octets of data, or an end.
+/// Stops a sink at each event: a head, octets of data, or an end.
 fn sinks_of_datasets_that_stop(told: &mut Told) {
     for event in 0..11 {
         tell_stop(told, event, false);

@@ -1,4 +1,4 @@
-//! Objects written at worked sizes, and to a target that fails at each call.
+//! Objects written with computed sizes, and to a target that fails at each call.
 
 use crate::told::Told;
 use iim_dataset::Target;
@@ -6,7 +6,7 @@ use iim_object::{PackCause, Plan, Size, StartFault, SubfileBuffer, SubfileWriter
 use std::alloc::Global;
 use trials::{TrialWriter, Trouble};
 
-/// Three octets in subfiles of two, where no size is known but a maximum.
+/// The expected octets of three octets in subfiles of two, with an unknown size and a maximum.
 const SMALL_OUT: &[u8] = b"\x1C\x07\x0A\x00\x01\x00\
 \x1C\x07\x14\x00\x04\x00\x00\x00\x02\
 \x1C\x07\x5F\x00\x04\x00\x00\x00\x05\
@@ -14,10 +14,10 @@ const SMALL_OUT: &[u8] = b"\x1C\x07\x0A\x00\x01\x00\
 \x1C\x08\x0A\x00\x01c\
 \x1C\x09\x0A\x00\x04\x00\x00\x00\x03";
 
-/// The target of these trials.
+/// The target of these tests.
 type Sink = TrialWriter<600>;
 
-/// The room of a plan.
+/// Returns the buffer of a plan.
 fn buffer(alloc: Global, subfile: u64, size: Size) -> Option<SubfileBuffer> {
     SubfileBuffer::reserve(alloc, Plan::new(subfile, size)?).ok()
 }
@@ -33,13 +33,13 @@ const PLANS: [(u64, Size); 7] = [
     (1024, Size::Unknown(None)),
 ];
 
-/// The name of a trial that several functions tell.
+/// The name of a test that several functions log.
 const CAUSES: &str = "causes_and_their_order";
 
-/// The name of another one.
+/// The name of another test that several functions log.
 const FAILING: &str = "writes_that_fail_at_each_call";
 
-/// How many octets a buffer of a plan has room for.
+/// Returns the capacity of the buffer of a plan.
 fn room(alloc: Global, subfile: u64, size: Size) -> Option<usize> {
     Some(buffer(alloc, subfile, size)?.room())
 }
@@ -56,20 +56,20 @@ fn buffers_have_room_for_the_lesser_of_subfile_and_bound(told: &mut Told, alloc:
     }
 }
 
-/// A writer of three octets in subfiles of two, to a target that doesn't fail.
+/// Returns a writer of three octets in subfiles of two, to a target that does not fail.
 fn writer_of_three(alloc: Global) -> Option<SubfileWriter<Sink>> {
     let buffer = buffer(alloc, 2, Size::Known(3))?;
     SubfileWriter::start(buffer, TrialWriter::new(1000, Trouble::Failure)).ok()
 }
 
-/// Tells how many octets are out, and how many the object has so far.
+/// Logs how many octets were written, and how many the object has so far.
 fn tell_counts<W: Target>(told: &mut Told, writer: &SubfileWriter<W>) {
     told.begin(CAUSES, " ", &writer.written());
     told.answer(" out, ", &writer.total());
     told.end(" taken, failed: ", &writer.is_failed());
 }
 
-/// Writes pieces, and tells each answer.
+/// Writes chunks, and logs each result.
 fn tell_writes<W: Target>(told: &mut Told, writer: &mut SubfileWriter<W>, pieces: &[&[u8]]) {
     for piece in pieces {
         told.begin_octets(CAUSES, " write '", piece);
@@ -84,14 +84,14 @@ fn write_before<W: Target>(told: &mut Told, writer: &mut SubfileWriter<W>) {
     tell_writes(told, writer, &[b"ab"]);
 }
 
-/// Writes on where less was written than was announced.
+/// Continues to write after less was written than was announced.
 fn write_after<W: Target>(told: &mut Told, writer: &mut SubfileWriter<W>) {
     tell_counts(told, writer);
     tell_writes(told, writer, &[b"cd", b"c", b"d"]);
     tell_counts(told, writer);
 }
 
-/// Tells the end that is refused, and continues after it.
+/// Logs the rejected end, and continues after it.
 fn finish_after(told: &mut Told, mut writer: SubfileWriter<Sink>, cause: PackCause) {
     told.line(CAUSES, " finish: ", &cause);
     write_after(told, &mut writer);
@@ -112,17 +112,18 @@ fn causes_and_their_order(told: &mut Told, alloc: Global) {
     }
 }
 
-/// How writing ended: in which call, with which cause, and how many octets the writer or the fault counts.
+/// How writing ended: in which call, with which cause, and how many octets the writer or the fault
+/// counts.
 #[derive(Clone, Copy)]
 struct End {
     call: &'static str,
     cause: Option<PackCause>,
     written: u64,
-    /// What each of three later calls answers, where there is a writer left: two pieces and the end.
+    /// What each of three later calls returns, if there is a writer left: two chunks and the end.
     later: [Option<PackCause>; 3],
 }
 
-/// Tells an end: the octets that are out are a front of the worked ones.
+/// Logs an end, and whether the octets that were written are a prefix of the expected ones.
 fn tell_end(told: &mut Told, end: &End, octets: &[u8]) {
     told.put(" good: in ");
     told.put(end.call);
@@ -133,7 +134,7 @@ fn tell_end(told: &mut Told, end: &End, octets: &[u8]) {
     told.line(FAILING, " then ", &end.later);
 }
 
-/// Tells the end at a call of a writer that failed there. It takes nothing more.
+/// Logs the end at a call of a writer that failed there. It accepts nothing more.
 fn tell_failed(
     told: &mut Told,
     call: &'static str,
@@ -159,7 +160,7 @@ fn tell_failed(
     }
 }
 
-/// Writes three octets, and tells how that ended.
+/// Writes three octets, and logs how that ended.
 fn tell_written(told: &mut Told, mut writer: SubfileWriter<Sink>) {
     if let Err(cause) = writer.write(b"abc") {
         return tell_failed(told, "write", cause, writer);
@@ -178,7 +179,7 @@ fn tell_written(told: &mut Told, mut writer: SubfileWriter<Sink>) {
     }
 }
 
-/// Tells how writing ended that was refused at its start.
+/// Logs how writing ended that failed at its start.
 fn tell_not_started(told: &mut Told, fault: &StartFault<Sink>) {
     let end = End {
         call: "start",
@@ -189,7 +190,7 @@ fn tell_not_started(told: &mut Told, fault: &StartFault<Sink>) {
     tell_end(told, &end, fault.writer.octets());
 }
 
-/// Writes three octets to a target that takes `good` octets, one a call, and then fails.
+/// Writes three octets to a target that accepts `good` octets, one a call, and then fails.
 fn write_three(told: &mut Told, alloc: Global, good: u64) {
     let Some(buffer) = buffer(alloc, 2, Size::Unknown(Some(5))) else {
         return told.line_of_words(FAILING, "no buffer");
@@ -209,7 +210,8 @@ fn writes_that_fail_at_each_call(told: &mut Told, alloc: Global) {
     }
 }
 
-/// A writer of three octets whose target is interrupted so often after 30 octets: whether it takes them, and how many are out.
+/// Returns whether a writer accepts three octets, and how many were written, if its target is
+/// interrupted `interruptions` times after 30 octets.
 fn interrupted(alloc: Global, interruptions: u32) -> Option<(bool, u64)> {
     let buffer = buffer(alloc, 2, Size::Unknown(Some(5)))?;
     let target: Sink = TrialWriter::new(30, Trouble::Interruptions(interruptions));
