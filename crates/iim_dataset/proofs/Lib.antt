@@ -5,7 +5,7 @@ pub mod Stopping
 pub mod OneHanding
 pub mod Deaths
 pub mod OneOctet
--- The lemmas that proofs of other crates cite.
+-- What proofs of other crates cite.
 pub mod Telling
 pub mod StoppedTexts
 pub mod WrittenNumbers

@@ -15,7 +15,7 @@ pub mod Copying
 pub mod Finish
 pub mod Wholes
 pub mod Subfiles
--- The lemmas that proofs of other crates cite.
+-- What proofs of other crates cite.
 pub mod Dies
 pub mod Follows
 pub mod Sections

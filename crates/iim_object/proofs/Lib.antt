@@ -19,7 +19,7 @@ pub mod Saved
 pub mod Leading
 pub mod Alike
 pub mod Within
--- The lemmas that proofs of other crates cite.
+-- What proofs of other crates cite.
 pub mod PlanParts
 pub mod Outputs
 pub mod Written

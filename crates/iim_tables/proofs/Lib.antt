@@ -3,6 +3,6 @@ pub mod InstantLemmas
 pub mod RowLemmas
 pub mod TimeLemmas
 pub mod WorkedRows
--- The lemmas that proofs of other crates cite.
+-- What proofs of other crates cite.
 pub mod GoodDatasets
 pub mod LaneLemmas

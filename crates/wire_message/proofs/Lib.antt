@@ -12,5 +12,5 @@ pub mod Reached
 pub mod Headers
 pub mod Saving
 pub mod Kept
--- The lemmas that proofs of other crates cite.
+-- What proofs of other crates cite.
 pub mod MessageOctets

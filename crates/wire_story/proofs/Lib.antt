@@ -6,7 +6,7 @@ pub mod Marked
 pub mod Words
 pub mod Blanks
 pub mod Fronts
--- The lemmas that proofs of other crates cite.
+-- What proofs of other crates cite.
 pub mod Collected
 pub mod Spans
 pub mod SoFar
