@@ -40,7 +40,7 @@ impl Display for IoFault {
 
 impl error::Error for IoFault {}
 
-/// How many interruptions in a row are retried before the call returns an error.
+/// The number of interruptions in a row at which a call returns an error instead of a retry.
 pub(crate) const MAX_INTERRUPTIONS: u32 = 1_000_000;
 
 /// Converts an error of `std`: kind `Interrupted` is an interruption, any other kind a failure.

@@ -57,8 +57,8 @@ pub(crate) struct HeadFault {
 /// The first octet of each tag.
 pub const TAG_MARKER: u8 = 0x1c;
 
-/// The first octet of an extended count. Its top bit is set, and the number that follows it is at
-/// most 255.
+/// The first octet of an extended count. Its top bit is set, and its other bits are 0, since the
+/// count has at most 255 octets.
 pub const EXTENDED: u8 = 0x80;
 
 /// The number of octets of a tag with a standard count.

@@ -34,9 +34,8 @@ pub trait Source {
     ghost leads_on: { (a b c : Self) → leads a b → leads b c → leads a c };
 }
 
-/// Reads once, and retries after an interruption, up to a million times in a row. Returns the
-/// number of octets at the start of the buffer. The number is 0 only at the end of the source, or
-/// if the buffer is empty.
+/// Reads once, and retries after an interruption. Returns the number of octets at the start of the
+/// buffer. The number is 0 only at the end of the source, or if the buffer is empty.
 ///
 /// **Errors:** the source failed, or was interrupted a million times in a row; no octet was read.
 pub fn take<R: Source>(reader: &mut R, buffer: &mut [u8]) -> Result<usize, IoFault>

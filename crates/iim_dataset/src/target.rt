@@ -23,7 +23,7 @@ pub trait Target {
         ensures err { IfErr result (Faulted (state self.old) (state self.new)) };
 }
 
-/// Writes once, and retries after an interruption, up to a million times in a row.
+/// Writes once, and retries after an interruption. The millionth interruption in a row is an error.
 fn send<W: Target>(writer: &mut W, piece: &[u8]) -> Result<usize, IoFault>
     requires { 0 < length piece.now }
     ensures within { IfOk result (λ n. n ≤ length piece.now) }

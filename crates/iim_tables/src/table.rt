@@ -108,9 +108,9 @@ pub fn line(rec: u8, set: u8) -> Option<&'static Row>
     row_in_table!((rec, set))
 }
 
-/// Returns the row of the dataset with that record and number, or `None` if it has no row. Numbers
-/// that the table lacks have none in records 7, 8 and 9, and neither has any number of a record
-/// that the standard does not name here.
+/// Returns the row of the dataset with that record and number, or `None` if it has no row. Records
+/// 1 and 2 have a row for every number; records 7, 8 and 9 only for those of the table; and other
+/// records have none.
 ///
 /// The table has the datasets of the Envelope Record (1), the Application Record (2), the
 /// pre-ObjectData Descriptor Record (7), the ObjectData Record (8) and the post-ObjectData

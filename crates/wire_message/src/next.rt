@@ -18,7 +18,8 @@ use iim_dataset::octets::EOT;
 use std::mem;
 
 /// Returns the state after an octet that does not extend the part that is being read, or `None` if
-/// no message can have it there. The part is the info, or one before or after the header.
+/// no message can have it there. The part must not be the text, or a part of the header before its
+/// info.
 fn next_part(place: Place, rest: &[u8]) -> Option<Place>
     requires place { IsPlace place }
     requires outside { (head : Header) (text : TextReader) → place ≡ Place.Text head text → ⊥ }
