@@ -1,4 +1,4 @@
--- A stream has one answer: what is refused, what is open and what is an envelope exclude one another.
+-- A stream has one result: rejected octets, incomplete octets and envelopes exclude one another.
 use Rattle.std.proofs.Common.{◌≡◌, ◌≢◌, ℕ, zero, suc, ◌<◌, ◌≤◌, ◌⊎◌, false, nat_eq, List, [], ◌∷◌, ◌++◌, length, take, slice_index, refl, ap, sym, subst, ◌∙◌, inl, inr, arith, append-nil, append_assoc, length-append}
 use Rattle.iim_places.proofs.Words.{cases_lt, ne_eqb, same_Some, map-append, take-length, Dataset, SpellsTag, count_octets, Begun, InTag, InData, IsBegun, Reads, BeginsNoTag, Head, AreSections, data_of, SectionsLive, section_after, Limits, AreSized, Holds, Octet, MessageLanguage, MessageLivesWith, MessageDiesAt, StoryLivesIn, text_so_far, HasCause, MessageCause, Value, Admits, object_of, begun_record, begun_number, tag_cause, refusal_at, IsTextOf, message_on, Kills, AdmittedOctetsHaveOneValue, NoTagBeginsAnother, NoDatasetBeginsAnother, NoSectionsBeginOthers, compare, object_so_far, AllCanContinue, IsUnfinished, Answer, RefusesByTests, RefusesNext, truncated_in, IsRefusedHead, IsRefusedValue, OpenOctetsBeginWithNoEnvelope, IsEnvelopeWithin, CanContinue, NothingContinuesFromRefusedOctets, RefusalsAreDetermined, StreamsHaveOneAnswer, Answers, Finished, Refused, Truncated, IsFinished, TokenFault, LowerLaws, IsPlaceOf, place_of, LeadsToSaved, IsOpen, MessagePlace, AreOpenOrWhole, DiesAtValue, Layer}
 use Rattle.iim_places.proofs.{ObjectOctets.lives_whole, Fronts.begun_none, Lasts.last_sections, Lasts.all_of, Places.lives_after, Places.no_dead_head}
@@ -15,19 +15,19 @@ use Rattle.iim_places.specs.declared.refusal.Layer.TheVariants as layers
 use Rattle.iim_places.specs.declared.refusal.Cause.TheVariants.{Message}
 use Rattle.wire_message.specs.declared.fault.MessageCause.TheVariants.{Sink}
 
--- Every layer can continue from the octets, within the limits.
+-- Every layer can continue after the octets, within the limits.
 pub record Lives (limits : Limits) (octets : List ℕ) : Type 0 where
   pub whole : List Dataset
   pub begun : Begun
   pub reads : Reads count_octets octets whole begun
   pub leads_on : AllCanContinue limits whole begun
 
--- ---- open octets and envelopes live
+-- ---- in incomplete octets and envelopes every layer can continue
 
 pub lives_open : (limits : Limits) (octets : List ℕ) → IsOpen limits octets → Lives limits octets
 lives_open limits octets is = record { whole = is.whole; begun = is.begun; reads = is.reads; leads_on = is.leads_on }
 
--- an envelope's object leads to the end of its message
+-- The object of an envelope reaches the end of its message.
 pub leads_to : (octets : List ℕ) (v : Value) → (a : Admits octets v)
     → LeadsTo (object_of a.datasets) a.text (AfterEnd v.head (record { items = v.trailer }) (length a.message.after))
 leads_to octets v a =
@@ -36,7 +36,7 @@ leads_to octets v a =
 pub nothing_held : IsBegun count_octets (InTag []) []
 nothing_held = held_of nothing_begun refl
 
--- every layer can continue from whole datasets of an envelope
+-- Every layer can continue after complete datasets of an envelope.
 pub goes_envelope : LowerLaws → (limits : Limits) (octets : List ℕ) (v : Value) → (is : IsEnvelopeWithin limits octets v)
     → AllCanContinue limits is.admits.datasets (InTag [])
 goes_envelope laws limits octets v is =
@@ -53,11 +53,11 @@ goes_envelope laws limits octets v is =
       story = both.1;
     }
 
--- no octets have no text
+-- the empty input has no text
 pub no_text : IsTextOf [] []
 no_text = ([], InTag [], whole_read [] [] refl, refl)
 
--- what an envelope's octets read
+-- how the octets of an envelope are read
 pub reads_envelope : (octets : List ℕ) (v : Value) → (a : Admits octets v) → Reads count_octets octets a.datasets (InTag [])
 reads_envelope octets v a = whole_read octets a.datasets a.spelled
 
@@ -78,9 +78,9 @@ octet_dead : (cause : MessageCause) (o : List ℕ) (next : ℕ) → cause ≢ me
     → StoryLivesIn (o ++ next ∷ []) → ⊥
 octet_dead cause o next other has message story = grind (arith, message_dead o next message)
 
--- ---- before a head or a value that is refused
+-- ---- before a head or a value that is rejected
 
--- data that are no subfile's change no layer
+-- Data of other datasets than subfiles change no layer.
 pub fewer_data : (limits : Limits) (ds : List Dataset) (h : Head) (x y : List ℕ) → (h.rec ≡ 8 → ⊥) → AllCanContinue limits ds (InData h x)
     → AllCanContinue limits ds (InData h y)
 fewer_data limits ds h x y other all =
@@ -102,7 +102,7 @@ before_it laws limits ds h held other unfinished all =
 
 -- ---- the refusal is determined
 
--- octets split in one way into whole datasets and a begun one
+-- Octets are split in one way into complete datasets and a partial one.
 pub record SameReading (whole other : List Dataset) (b c : Begun) : Type 0 where
   pub whole_is : whole ≡ other
   pub begun_is : b ≡ c
@@ -113,7 +113,7 @@ one_reading laws octets whole other b c r s =
     let way = laws.one_way octets _ _ b c (record { whole = whole; reads = r; handed = refl }) (record { whole = other; reads = s; handed = refl }) in
     record { whole_is = (laws.events_tell whole other b c way.0).0; begun_is = way.1 }
 
--- the octets of the place are read so
+-- the octets of the position are read so
 pub record Coming (place : Place) (whole : List Dataset) (begun : Begun) : Type 0 where
   pub text : List ℕ
   pub message : MessagePlace
@@ -127,14 +127,14 @@ coming laws place octets is whole begun reads =
     let told = is.is_place ∙ (λ i. place_of (same.whole_is i) (same.begun_is i) is.message) in
     record { text = is.text; message = is.message; leads = rw (same.whole_is, same.begun_is) at is.leads; is_place = told }
 
--- with what open octets read every layer can continue, and it is no envelope
+-- After what incomplete octets read, every layer can continue, and they are not an envelope.
 pub open_at : LowerLaws → (limits : Limits) (octets : List ℕ) (ds : List Dataset) (b : Begun) → Reads count_octets octets ds b → IsOpen limits octets
     → AllCanContinue limits ds b × (AreSections ds → ⊥)
 open_at laws limits octets ds b reads is =
     let same = one_reading laws octets is.whole ds is.begun b is.reads reads in
     (rw (same.whole_is, same.begun_is) at is.leads_on, λ sections. is.unfinished (rw (← same.whole_is) at sections))
 
--- a head that is refused, and one with which all continues
+-- a head that is rejected, and one with which every layer continues
 not_both : LowerLaws → {A : Type 0} → (limits : Limits) (whole : List Dataset) (h : Head) (given : List ℕ) (fault : TokenFault)
     → AllCanContinue limits whole (InData h given) → IsRefusedHead limits whole h fault ⊎ IsUnfinished limits whole h fault → A
 not_both laws limits whole h given fault all (inl refused) = absurd (no_dead_head fault.layer limits whole h all.sizes refused.dead)
@@ -152,17 +152,17 @@ one_cause laws a b o next h k = grind (arith, h, k, message_dead o next, laws.on
 
 -- ---- one step
 
--- the fault of a tag that no octet continues
+-- the error of a tag that no octet continues
 abbrev pub tag_fault : List ℕ → TokenFault
 tag_fault held = record { layer = layers.Dataset; rec = begun_record (InTag held); set = begun_number (InTag held); cause = tag_cause held }
 
--- A head that has come is refused, or its value of no octets.
+-- The head here is rejected, or its empty value is.
 abbrev pub IsRefusedWith : Limits → List Dataset → Head → TokenFault → Type 0
 IsRefusedWith limits ds h fault =
     (IsRefusedHead limits ds h fault ⊎ IsUnfinished limits ds h fault)
     ⊎ ((h.rec ≡ 8 → ⊥) × (h.count ≡ 0) × AllCanContinue limits ds (InData h []) × IsRefusedValue ds (data_of h []) fault)
 
--- The octet is refused after these datasets and what is begun.
+-- The octet is rejected after these complete datasets and the partial one.
 abbrev pub IsRefusedAt : Limits → List Dataset → Begun → ℕ → TokenFault → Type 0
 IsRefusedAt limits ds (InTag held) next fault =
     (BeginsNoTag count_octets (held ++ next ∷ []) × (fault ≡ tag_fault held))
@@ -171,7 +171,7 @@ IsRefusedAt limits ds (InData h taken) next fault =
     ((h.rec ≡ 8) × (cause : MessageCause) × HasCause cause (object_of ds ++ taken) next × (fault ≡ message_on h cause))
     ⊎ ((h.rec ≡ 8 → ⊥) × (length (taken ++ next ∷ []) ≡ h.count) × IsRefusedValue ds (data_of h (taken ++ next ∷ [])) fault)
 
--- what octets read, where they are open, and the step with which the next one is refused
+-- how incomplete octets are read, and the step with which the next one is rejected
 abbrev pub Refuses : Limits → List ℕ → ℕ → TokenFault → Type 0
 Refuses limits octets next fault =
     (ds : List Dataset) × (b : Begun) × Reads count_octets octets ds b × AllCanContinue limits ds b × (AreSections ds → ⊥) × IsRefusedAt limits ds b next fault
@@ -236,14 +236,14 @@ one_refusal laws tests limits octets next f g a b =
     let same = one_reading laws octets ds es c d reads are in
     one_step laws limits es d next f g (rw (same.whole_is, same.begun_is) at bad) dead
 
--- ---- with a refused octet nothing lives
+-- ---- after a rejected octet no layer accepts a continuation
 
--- a value that is refused, and with which all continues
+-- a value that is rejected, and one with which every layer continues
 no_dead_value : (layer : Layer) (limits : Limits) (ds : List Dataset) (d : Dataset) → CanContinue limits (ds ++ d ∷ []) → DiesAtValue layer ds d → ⊥
 no_dead_value layer limits ds d goes dead = grind (arith, goes.records, goes.object, dead)
 
 module _ (laws : LowerLaws) (limits : Limits) (octets more : List ℕ) (next : ℕ) (lives : Lives limits (octets ++ next ∷ more)) where
-  -- what the octet is followed by, in a tag or in data
+  -- what follows the octet, in a tag or in data
   tag_follows : (ds : List Dataset) (held : List ℕ) (h : Head) → Reads count_octets octets ds (InTag held) → SpellsTag count_octets h (held ++ next ∷ [])
       → Follows ds h more lives.whole lives.begun
   tag_follows ds held h reads tag =
@@ -280,7 +280,7 @@ module _ (laws : LowerLaws) (limits : Limits) (octets more : List ℕ) (next : �
   none_lives fault ds (InData h taken) reads (inr (value, many, bad)) other =
       no_value ds h (taken ++ next ∷ []) fault (data_follows ds h taken reads) many bad
 
--- no octets live that begin with a refused one
+-- Octets with a rejected prefix are not viable.
 no_life : LowerLaws → RefusalsTellTheLowestCause → {limits : Limits} {octets : List ℕ} (more : List ℕ) {next : ℕ} {fault : TokenFault}
     → Kills limits octets next fault → Lives limits (octets ++ next ∷ more) → ⊥
 no_life laws tests {limits} {octets} more {next} {fault} kills lives =
@@ -293,16 +293,16 @@ nothing_continues laws tests limits octets more next fault kills = (
   (λ v is. no_life laws tests more kills (lives_envelope laws limits (octets ++ next ∷ more) v is)),
 )
 
--- ---- one answer
+-- ---- one result
 
--- a front of a stream that has the octet at a place
+-- a prefix of a stream that has the octet at an index
 front_at : (stream : List ℕ) (k n : ℕ) → k < n → n ≤ length stream → (more : List ℕ) × (take n stream ≡ take k stream ++ slice_index stream k ∷ more)
 front_at [] k n less fits = absurd (omega (arith, less, fits))
 front_at (b ∷ stream) k zero less fits = absurd (omega (arith, less))
 front_at (b ∷ stream) zero (suc n) less fits = (take n stream, refl)
 front_at (b ∷ stream) (suc k) (suc n) less fits = let (more, is) = front_at stream k n (omega (arith, less)) (omega (arith, fits)) in (more, λ i. b ∷ is i)
 
--- Open octets begin with no admitted ones.
+-- No prefix of incomplete octets is an envelope.
 pub no_front : NoTagBeginsAnother → NoDatasetBeginsAnother → NoSectionsBeginOthers → OpenOctetsBeginWithNoEnvelope
 no_front tags one law limits octets front rest v open' parts admits =
     let r = open'.reads in
@@ -314,20 +314,20 @@ no_front tags one law limits octets front rest v open' parts admits =
       | inr n ↦ begun_none tags open'.begun r.rest r.is_rest n.dataset n.p (n.q ++ rest) n.spelled n.agree
     ]
 
--- after how many octets of the stream the answer is told
+-- the number of octets of the stream after which the result is determined
 abbrev reach : List ℕ → Answer → ℕ
 reach stream (Finished n v) = n
 reach stream (Refused e) = e.octet
 reach stream (Truncated e) = length stream
 
 module _ (laws : LowerLaws) (tests : RefusalsTellTheLowestCause) (value : AdmittedOctetsHaveOneValue) (limits : Limits) (stream : List ℕ) where
-  -- Before it the octets are open or an envelope.
+  -- Before that number the octets are incomplete or an envelope.
   led : (x : Answer) → Answers limits stream x → (reach stream x ≤ length stream) × AreOpenOrWhole limits (take (reach stream x) stream)
   led (Finished n v) a = (a.fits, inr (v, a.envelope))
   led (Refused e) a = (omega (arith, a.0.fits), inl a.0.refuses.before)
   led (Truncated e) a = (omega arith, inl (rw take-length a.is_open))
 
-  -- With another octet they are neither.
+  -- With one more octet they are neither.
   past : (x : Answer) → Answers limits stream x → reach stream x < length stream → (more : List ℕ)
       → AreOpenOrWhole limits (take (reach stream x) stream ++ slice_index stream (reach stream x) ∷ more) → ⊥
   past (Finished n v) a less more (inl open') = no_front laws.one_tag laws.one_dataset laws.sections limits _ (take n stream) _ v open' refl a.envelope.admits

@@ -1,4 +1,4 @@
--- Readers at a place: the message that a ticket tells, and what the record layer can continue with.
+-- Readers at a position: the message of a ticket, and what the record layer can continue with.
 use Rattle.std.proofs.Common.{◌≡◌, ℕ, ◌+◌, ◌↔◌, Bool, true, false, cond, IsTrue, IsSome, IfNone, OnOk, Option, Result, Ok, Err, is_ok, List, [], ◌∷◌, length, map, get_or, refl, sym, subst, ◌∙◌, arith, Bor}
 use Rattle.iim_places.proofs.Words.{same_Some, Dataset, Head, DatasetPlace, SectionsLive, SectionsLiveAt, HasChecked, HasTaken, kept, IsWithin, Limits, RecordPlace, FieldFault, head_alive, taken_alive, LeadsToSaved, MessagePlace, AreNumbers, RecordsLive, head_of_numbers, number_list, AreKept, CanContinueWithin, IsMessageOf, numbers_told, told_datasets, Phase, DataBegun}
 use Rattle.iim_places.proofs.{Fitting.message_told, Plain.plain_kept}
@@ -26,7 +26,7 @@ live_alive section other ds lives = lives.1
 pub four_back : (numbers : List (Option ℕ)) → length numbers ≡ 4 → numbers ≡ number_list (numbers_told numbers)
 four_back numbers is = grind arith
 
--- the told datasets keep the fields
+-- the datasets that determine the state store the fields
 pub kept_told : (fields : List Dataset) (numbers : List (Option ℕ)) (some ended : Bool) → AreNumbers numbers → AreKept fields
     → kept (told_datasets fields numbers some ended) ≡ fields
 kept_told fields numbers some ended fit each = plain_kept fields (numbers_told numbers) (cond some 1 0) [] ended each
@@ -44,11 +44,11 @@ pub texts_seven : (texts : List (Bor (List ℕ))) (z : Bor (List ℕ)) → lengt
 texts_seven (a ∷ b ∷ c ∷ d ∷ e ∷ f ∷ g ∷ []) z is = refl
 texts_seven texts z is = absurd (omega (arith, is))
 
--- What a ticket tells of a message is one place.
+-- A ticket encodes one position in a message.
 pub same_message : (part counter flag : ℕ) (texts : List (List ℕ)) (m n : MessagePlace) → IsMessageOf part counter flag texts m
     → IsMessageOf part counter flag texts n → m ≡ n
 same_message part counter flag texts m n is are = grind (arith, message_told)
 
--- Octets that lead to where the reader stands lead to its place as it is saved.
+-- Octets that reach the reader's state reach the position that it saves.
 pub leads_saved : (reader : Option Message) (octets text : List ℕ) (m : MessagePlace) → IsAt reader m → StandsAt reader octets text → LeadsToSaved octets text m
 leads_saved reader octets text m at stands = (at.0, subst (LeadTo octets text) (same_Some _ _ (sym stands.1 ∙ at.1)) stands.2, at.2)

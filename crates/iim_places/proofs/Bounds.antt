@@ -1,4 +1,4 @@
--- How many octets are open, or an envelope, at most.
+-- The maximum length of incomplete octets, and of an envelope.
 use Rattle.std.proofs.Common.{◌≡◌, ◌∙◌, nat_eq, cond, append-nil, ℕ, ◌+◌, ◌*◌, ◌<◌, ◌≤◌, ◌⊎◌, ◌^◌, ◌-◌, true, List, [], ◌∷◌, ◌++◌, length, map, sum, Option, Some, None, refl, ap, sym, subst, inl, inr, arith, append_assoc, length-append, ◌&&◌}
 use Rattle.std.proofs.Math.Nat.{pow-le-pow_right}
 use Rattle.iim_places.proofs.Words.{tells_number, or_cases, eqb-true, front_alive, section_after, last_more, head_of, ne_eqb, filter-append, AllByRecursion, Octets, number, greatest_size, all_append, all_front, all_back, all_map, Meets, Dataset, LowerLaws, SpellsStream, count_octets, of_record, tag_octets, Begun, InTag, InData, Reads, Head, sum_cons, sum_append, number-lt, AreRecords, records, IsGoodDataset, SectionsLive, SectionsLiveAt, kept, is_kept, Limits, ObjectToken, NumberRead, SubfileBegun, ObjectEnded, Confirmed, number_tokens, ending_tokens, place_after, place_after_datasets, lengths_of, Stated, AreOnce, InRow, number_at, MayContinue, ObjectLives, OpenOctetsAreBounded, EnvelopesAreBounded, kept_octets, length-map, within, nat_tests}
@@ -9,7 +9,7 @@ use Rattle.iim_dataset.proofs.Spelled.{tag_length}
 use Rattle.iim_fields.specs.Format.Causes.{joined}
 use Rattle.iim_object.specs.Format.Objects.{Place}
 
--- what the good datasets of each record have, all of them have
+-- What holds of the valid datasets of each record holds of all of them.
 pub each_in : (P : Dataset → Type 0) (rs : List ℕ) (ds : List Dataset) → AllByRecursion (λ r. (d : Dataset) → d.rec ≡ r → IsGoodDataset d → P d) rs
     → AreRecords rs ds → AllByRecursion P ds
 each_in P [] ds has none = subst (AllByRecursion P) (sym none) tt
@@ -19,7 +19,7 @@ each_in P (r ∷ rs) ds has (run, rest, parts, good, more) =
 
 -- ---- the tokens of the object
 
--- how many numbers of record 7 the tokens have, and how many octets the subfiles that begin with them
+-- how many numbers of record 7 the tokens have, and the octets of the subfiles that they begin with
 abbrev tally : List ObjectToken → ℕ × ℕ
 tally [] = (0, 0)
 tally (NumberRead set n ∷ ts) = (1 + (tally ts).0, (tally ts).1)
@@ -32,20 +32,20 @@ tally_of [] [] ts = (omega arith, omega arith)
 tally_of [] (l ∷ ls) ts = grind (arith, tally_of [] ls ts, sum_cons l ls)
 tally_of (p ∷ ps) ls ts = grind (arith, tally_of ps ls ts)
 
--- What the object has so far is no more than what it has as a whole.
+-- The object so far is no longer than the complete object.
 pub part_of_whole : (p : Place) → (lives : ObjectLives p) → (length p.stated ≤ length lives.1.stated) × (sum p.lengths ≤ sum lives.1.lengths)
 part_of_whole p (rest, is) =
     let same = ap tally (simp append_assoc at is.tokens_are) in
     let part = tally_of p.stated p.lengths (ending_tokens p.ending ++ rest) in
     grind (arith, same, part, tally_of is.stated is.lengths (ObjectEnded ∷ Confirmed is.confirmed ∷ []))
 
--- The subfiles have at most the greatest size together.
+-- The subfiles together have at most the greatest size.
 pub object_fits : (p : Place) → ObjectLives p → sum p.lengths ≤ greatest_size
 object_fits p (rest, is) = omega (arith, (part_of_whole p (rest, is)).1, is.agree.total_fits)
 
 -- ---- record 9
 
--- What holds of no datasets, and with one more where it did before, holds of all that can continue.
+-- What holds of no datasets, and is preserved by one more, holds of all that can continue.
 pub by_last : (P : List Dataset → Type 0) → P [] → ((xs : List Dataset) (d : Dataset) → SectionsLive (xs ++ d ∷ []) → P xs → P (xs ++ d ∷ []))
     → (ds : List Dataset) → SectionsLive ds → P ds
 by_last P none step ds alive = on [] ds alive none
@@ -57,7 +57,7 @@ by_last P none step ds alive = on [] ds alive none
         let longer = subst SectionsLive (sym parts) alive in
         subst P parts (on (xs ++ d ∷ []) ys longer (step xs d (front_alive (xs ++ d ∷ []) ys longer) is))
 
--- Datasets that can continue have one of record 9 where it is the last, and else none.
+-- Datasets that can continue have one of record 9 if that is the last record, and otherwise none.
 pub nines : LowerLaws → (ds : List Dataset) → SectionsLive ds → length (of_record 9 ds) ≡ cond (nat_eq (section_after ds) 9) 1 0
 nines laws =
     by_last (λ (ds : List Dataset). length (of_record 9 ds) ≡ cond (nat_eq (section_after ds) 9) 1 0) refl
@@ -80,7 +80,7 @@ slots : (ps : List Stated) → AllByRecursion InRow ps → AreOnce ps
 slots [] each once = omega arith
 slots (p ∷ ps) each once = grind (arith, slots ps each.1 once.1, each.0, once.0)
 
--- Record 7 has four datasets at most.
+-- Record 7 has at most four datasets.
 few_numbers : (p : Place) → ObjectLives p → length p.stated ≤ 4
 few_numbers p (rest, is) = grind (arith, slots is.stated is.are_stated.each is.are_stated.once, (part_of_whole p (rest, is)).0)
 
@@ -89,13 +89,13 @@ few_numbers p (rest, is) = grind (arith, slots is.stated is.are_stated.each is.a
 pub low : (n : ℕ) (xs : List ℕ) → Octets xs → length xs ≤ n → number xs < 256 ^ n
 low n xs all fits = let most' : 256 ^ length xs ≤ 256 ^ n = pow-le-pow_right (omega arith) fits in omega (arith, number-lt xs all, most')
 
--- ---- how long data are
+-- ---- the lengths of data
 
--- what the rows of records 7 and 9 allow
+-- the bounds of the rows of records 7 and 9
 abbrev pub IsSized : List ℕ → Type 0
 IsSized xs = (length xs ≤ size_octets) × (number xs ≤ greatest_size)
 
--- records 7 and 9 tell numbers
+-- records 7 and 9 encode numbers
 pub told_in : (r : ℕ) → tells_number r ≡ true → (r ≡ 7) ⊎ (r ≡ 9)
 told_in r is = elim (or_cases (nat_eq r 7) (nat_eq r 9) is) [ inl seven ↦ inl (eqb-true r 7 seven) | inr nine ↦ inr (eqb-true r 9 nine) ]
 
@@ -110,7 +110,7 @@ sized_nine set xs = grind (arith, nat_tests)
 pub sized : (r set : ℕ) (xs : List ℕ) → tells_number r ≡ true → Octets xs → Meets r set xs → IsSized xs
 sized r set xs told all = grind (arith, told_in, sized_seven, sized_nine)
 
--- A dataset is kept, or a subfile, or a short one of record 7 or 9.
+-- A dataset is stored, or a subfile, or a short one of record 7 or 9.
 abbrev pub Counted : Dataset → Type 0
 Counted d = (is_kept d.rec ≡ true) ⊎ ((d.rec ≡ 8) ⊎ ((tells_number d.rec ≡ true) × (length d.octets ≤ size_octets)))
 
@@ -128,7 +128,8 @@ last_counted xs d alive = (all_back Counted xs (d ∷ []) (alive_counted (xs ++ 
 pub is_one : (ds : List Dataset) (h : Head) → SectionsLiveAt ds h → (is_kept h.rec ≡ true) ⊎ ((h.rec ≡ 8) ⊎ (h.count ≤ size_octets))
 is_one ds h (d, is, alive) = grind (arith, is, last_counted ds d alive)
 
--- How many octets datasets take: thirteen at most for each tag, and the data, of which those of records 7 and 9 are short.
+-- The length of encoded datasets: at most thirteen octets for each tag, and the data, of which
+-- those of records 7 and 9 are short.
 stream_fits : (ds : List Dataset) (xs : List ℕ) → AllByRecursion Counted ds → SpellsStream count_octets ds xs
     → length xs ≤ (tag_octets * length (kept ds) + kept_octets ds) + (tag_octets + size_octets) * (length (of_record 7 ds) + length (of_record 9 ds))
     + (tag_octets * length (of_record 8 ds) + sum (lengths_of (of_record 8 ds)))
@@ -141,7 +142,7 @@ stream_fits (d ∷ ds) xs all (first, rest, one, more, parts) =
 
 -- ---- all of it
 
--- where every layer can continue from datasets: how many octets they have but for their subfiles
+-- If every layer can continue after datasets: their length, except the subfiles.
 whole_fits : LowerLaws → (limits : Limits) → limits.octets < 2 ^ 32 → limits.fields < 2 ^ 32 → (ds : List Dataset) (c : Begun) (xs : List ℕ)
     → SpellsStream count_octets ds xs → MayContinue limits ds c → length xs < 2 ^ 38 + sum (lengths_of (of_record 8 ds))
 whole_fits laws limits less few ds c xs spelled goes =
@@ -152,7 +153,7 @@ whole_fits laws limits less few ds c xs spelled goes =
     let stream = stream_fits ds xs (alive_counted ds alive) spelled in
     omega (arith, stream, within.kept.octets_in, within.kept.fields_in, within.subfiles, numbers, count, few_nines laws ds alive)
 
--- and with a begun one
+-- and with a partial one
 read_fits : LowerLaws → (limits : Limits) → limits.octets < 2 ^ 32 → limits.fields < 2 ^ 32 → (octets : List ℕ) (ds : List Dataset) (c : Begun)
     → Reads count_octets octets ds c → MayContinue limits ds c → length octets < 2 ^ 64 - 1
 read_fits laws limits less few octets ds (InTag held) r goes =

@@ -1,4 +1,4 @@
--- A place is possible exactly where each layer alone can be there.
+-- A position is possible if and only if each layer by itself can reach it.
 use Rattle.std.proofs.Common.{◌≡◌, ℕ, zero, suc, ◌+◌, ◌-◌, ◌<◌, ◌≤◌, nat_eq, cond, if◌then◌else◌, Bool, true, false, List, [], ◌∷◌, ◌++◌, length, Some, None, refl, ap, sym, subst, ◌∙◌, inl, inr, arith, append-nil, length-append, ◌*◌, sum, take, drop, length-drop, IfSome}
 use Rattle.iim_places.proofs.Words.{IsLongField, eqb-true, eqb_tells, Octets, Dataset, count_octets, of_record, Begun, InTag, InData, Reads, Head, sum_append, SectionsLive, SectionsLiveAt, kept, section_after, Limits, place_after_datasets, place_ended, ending_of, ObjectEnded, SubfileBegun, NotEnded, ConfirmedAs, place_after, max_subfiles, lengths_of, numbers_of, IsPossible, stated_numbers, MessagePlace, object_of, LeadsByLayers, TagsLead, RecordsLive, ObjectLeads, record_datasets, begun_subfiles, one_of_some, are_ended, object_so_far, section, plain, Possible, widest, Phase, TagBegun, AllEnded, phase_of, place_of, ObjectLives, CanContinueAt, MayContinue, LowerLaws, AllByRecursion, unwrap_or, length-take, take-append-drop, nil_from_length, greatest_size, HasSpellings, IsBegun, all_append, all_front, all_back, front_are, sum_fits, IsGoodDataset, head_alive, Confirmed, Ending, IsSize, head_of_numbers, AreWithin, Numbers, number_list, plain_end, DataBegun, place_at, eq-eqb, CanContinue, place_in, IsWithin, AreHeadsWithin, LimitsAreToldByPlace, subfile_datasets, filled, AreKept, IsOctet, heads_of, ne_eqb, numbers_told, number_back}
 use Rattle.iim_places.proofs.{Following.within_of, AfterEnd.after_end, Lasts.last_sections, Lasts.not_all, SameTold.Continues, SameTold.plain_like, SameTold.alive_at_as}
@@ -28,7 +28,7 @@ few_subfiles n = grind arith
 one_same : (n : ℕ) → one_of_some n ≡ one_of_some (one_of_some n)
 one_same n = grind arith
 
--- What the layer says after datasets it says after the few by which it is told.
+-- The state of the layer after datasets is its state after the few that determine it.
 pub fewer : LowerLaws → (ds : List Dataset) → SectionsLive ds → length (of_record 8 ds) ≤ max_subfiles → (some : ℕ) (ended : Bool)
     → length (of_record 8 ds) ≡ some → nat_eq (section_after ds) 9 ≡ ended
     → Continues ds (plain (kept ds) (numbers_in (numbers_of (of_record 7 ds))) (one_of_some some) [] ended)
@@ -39,7 +39,7 @@ fewer laws ds alive few some ended some_is ended_is =
 pub begun_same : (n : ℕ) (b : Bool) → (n + (if b then 1 else 0)) - (if b then 1 else 0) ≡ n
 begun_same n b = grind arith
 
--- datasets after which a head may stand have not ended
+-- datasets after which a head is allowed have not ended
 still_open : LowerLaws → (ds : List Dataset) (h : Head) → SectionsLiveAt ds h → nat_eq (section_after ds) 9 ≡ false
 still_open laws ds h at = ne_eqb (section_after ds) 9 (λ nine. not_all laws.sections ds h at (last_sections laws.last_record ds (head_alive ds h at) nine))
 
@@ -62,20 +62,20 @@ records_lead laws ds (InData h taken) m goes =
 
 -- ---- the object layer
 
--- the place where the subfiles have come, and not the end
+-- the position after the subfiles, before the end
 abbrev pub opened : List Dataset → objects.Place
 opened ds = record (place_after_datasets ds) { ending = NotEnded }
 
 pub nine_ended : LowerLaws → (ds : List Dataset) → SectionsLive ds → nat_eq (section_after ds) 9 ≡ false → ending_of (of_record 9 ds) ≡ NotEnded
 nine_ended laws ds alive open' = ap ending_of (nil_from_length (of_record 9 ds) (nines laws ds alive ∙ ap (λ (b : Bool). cond b 1 0) open'))
 
--- the place of the object by its end, of which the size is confirmed
+-- the position of the object after its end, whose size is confirmed
 pub ended_place : LowerLaws → (ds : List Dataset) (b : Bool) → nat_eq (section_after ds) 9 ≡ b → SectionsLive ds → length (of_record 8 ds) ≤ max_subfiles
     → ObjectLives (place_after_datasets ds)
     → record (place_after_datasets ds) { ending = if b then ConfirmedAs (length (object_of ds)) else NotEnded } ≡ place_after_datasets ds
 ended_place laws ds b is alive few lives = grind (arith, ending_after)
 
--- with no subfile begun, all octets of the object have come
+-- If no subfile is partial, all octets of the object were received.
 pub whole_at : (ds : List Dataset) (taken heads : ℕ) → taken ≡ length (object_of ds) → heads ≡ length (of_record 8 ds)
     → IsAt (stated_numbers (numbers_of (of_record 7 ds))) taken None heads (opened ds)
 whole_at ds taken heads octets many = grind (arith, total_of, count_of)
@@ -84,7 +84,8 @@ pub possible_in : LowerLaws → (ds : List Dataset) (b : Begun) → MayContinue 
 possible_in laws ds (InTag held) goes = possible_after laws ds goes.records goes.within.subfiles goes.object
 possible_in laws ds (InData h taken) goes = possible_at laws ds h goes.records goes.within.subfiles goes.room.subfiles goes.object
 
--- in data there is a place that the numbers tell, and with what came last it is that of the datasets and the head
+-- In data there is a position with these numbers, and with the last token it is that of the
+-- datasets and the head.
 pub led_at : LowerLaws → (limits : Limits) (ds : List Dataset) (h : Head) (taken : List ℕ) → CanContinueAt limits ds h
     → ending_of (of_record 9 ds) ≡ NotEnded → length taken < h.count
     → (p : objects.Place)
@@ -143,8 +144,8 @@ within_by : (limits : Limits) (ds : List Dataset) (b : Begun) (m : MessagePlace)
     → MayContinue limits ds b
 within_by limits ds b m goes within = grind arith
 
--- Octets that are open or an envelope under the widest limits are so under others exactly where the heads that their place tells
--- are within these.
+-- Octets that are incomplete or an envelope under the widest limits are so under others if and only
+-- if the heads of their position are within these.
 pub limits_told : LowerLaws → LimitsAreToldByPlace
 limits_told laws limits octets place is comes = (
   (λ at. subst (AreHeadsWithin limits) (sym is.is_place) (told_by limits is.whole is.begun is.message (goes_at laws limits octets place is at).sizes)),
@@ -165,7 +166,7 @@ limits_told laws limits octets place is comes = (
       ]),
 )
 
--- At a possible place each layer can be.
+-- Each layer can reach a possible position.
 pub leads_by_layers : LowerLaws → (place : Place) → Possible place → LeadsByLayers place
 leads_by_layers laws place p =
     let l = p.leads in
@@ -186,26 +187,27 @@ leads_by_layers laws place p =
       within = told_by widest ds l.begun l.message goes.sizes;
     })
 
--- ---- plain datasets of a place
+-- ---- witness datasets for a position
 
 part_small : (size count : ℕ) (xs : List ℕ) → AllByRecursion (λ n. n ≤ size) (lengths_of (subfile_datasets (filled size count xs)))
 part_small size zero xs = tt
 part_small size (suc count) xs = (omega (arith, length-take size xs), part_small size count (drop size xs))
 
--- the fields of sections can be spelled, where they have few octets
+-- The fields of sections can be encoded if they have few octets.
 have_spellings : (ds : List Dataset) → AreKept ds → AllByRecursion IsGoodDataset ds → AllByRecursion IsLongField ds → AllByRecursion HasSpellings ds
 have_spellings [] keeps good few = tt
 have_spellings (d ∷ ds) keeps good few = grind (arith, have_spellings ds keeps.1 good.1 few.1, keeps.0, good.0, few.0)
 
--- how many subfiles have ended
+-- the number of complete subfiles
 abbrev pub ended_heads : Place → ℕ
 ended_heads place = place.heads - begun_subfiles place.section place.phase
 
--- the plain datasets of the place, with these octets in the subfiles that have ended
+-- The witness datasets for the position, with these octets in the complete subfiles.
 abbrev pub plain_of : (place : Place) → LeadsByLayers place → List ℕ → List Dataset
 plain_of place l object = plain place.fields l.numbers (ended_heads place) object (are_ended place.phase)
 
--- Plain datasets and what is begun after them lead to the place, and every layer can continue from there.
+-- Witness datasets and the partial one after them reach the position, and every layer can continue
+-- from there.
 pub record Opens (place : Place) (l : LeadsByLayers place) : Type 0 where
   pub object : List ℕ
   pub begun : Begun
@@ -218,7 +220,8 @@ pub record Opens (place : Place) (l : LeadsByLayers place) : Type 0 where
   pub goes : MayContinue widest (plain_of place l object) begun
   pub last : are_ended place.phase ≡ true → begun ≡ InTag []
 
--- A place at which each layer can be, and octets of its object: the data of all subfiles that have ended.
+-- A position that each layer can reach, and octets of its object: the data of all complete
+-- subfiles.
 module _ (laws : LowerLaws) (place : Place) (l : LeadsByLayers place) (object : List ℕ) where
   abbrev heads : ℕ
   heads = ended_heads place
@@ -229,7 +232,8 @@ module _ (laws : LowerLaws) (place : Place) (l : LeadsByLayers place) (object : 
   abbrev made : List Dataset
   made = plain_of place l object
 
-  -- The plain datasets have the first subfiles of a possible place of the object, and it lives with the others after them.
+  -- The witness datasets have the first subfiles of a possible position of the object, and it is
+  -- viable with the others after them.
   record Filling (p : objects.Place) (ks : List ℕ) : Type 0 where
     tell : Tell made place.fields l.numbers heads object ended
     few : length object ≤ greatest_size
@@ -313,11 +317,11 @@ module _ (laws : LowerLaws) (place : Place) (l : LeadsByLayers place) (object : 
     last = last;
   }
 
--- the octets of the object are octets
+-- The octets of the object are octets.
 object_in : LowerLaws → (place : Place) (l : LeadsByLayers place) → Octets l.message.0
 object_in laws place l = living_octets l.message.0 (laws.living l.message.0 l.message.1 l.message.2.0 l.message.2.1).0
 
--- the plain datasets where no subfile is begun
+-- the witness datasets if no subfile is partial
 between : (laws : LowerLaws) (place : Place) (l : LeadsByLayers place) (p : objects.Place) → number_list l.numbers ≡ stated_numbers p.stated → IsPossible p
     → place.heads ≡ length p.lengths
     → sum p.lengths ≡ place.taken → begun_subfiles place.section place.phase ≡ 0 → SectionsLive (record_datasets place l.numbers)
@@ -351,12 +355,12 @@ lead_by laws place (DataBegun set count left given) l = by (nat_eq place.section
     alive : SectionsLive (record_datasets here l.numbers)
     alive = head_alive (record_datasets here l.numbers) h l.records
 
-    -- the object as the place has it after these datasets and the head
+    -- the object's position after these datasets and the head
     StandsAt : objects.Place → List ℕ → Type 0
     StandsAt q ks = (ds : List Dataset) → ending_of (of_record 9 ds) ≡ NotEnded
         → place_at ds h ≡ record { stated = numbers_of (of_record 7 ds); lengths = lengths_of (of_record 8 ds) ++ ks; ending = q.ending }
 
-    -- with the data of the subfiles that have ended, and of what is begun
+    -- with the data of the complete subfiles, and of the partial one
     lead : (object data' : List ℕ) (q : objects.Place) (ks : List ℕ) → Filling laws here l object q ks
         → object ++ (if nat_eq place.section 8 then data' else []) ≡ l.message.0 → place.heads ≡ ended_heads here + (if nat_eq place.section 8 then 1 else 0)
         → given ≡ (if nat_eq place.section 8 then [] else data') → length data' + left ≡ count
@@ -419,6 +423,6 @@ lead_by laws place AllEnded l =
     led laws here l o p [] f (InTag []) [] nothing_held f.tell.object_is (l.records.0 ∙ sym (eqb-true (section_after (plain_of here l o)) 9 ended))
     (rw ended refl) (omega (arith, f.tell.heads_are)) (goes_on laws here l o p f confirmed) (λ e. refl)
 
--- Plain datasets lead to a place where each layer can be.
+-- Witness datasets reach a position that each layer can reach.
 pub layers_open : LowerLaws → (place : Place) (l : LeadsByLayers place) → Opens place l
 layers_open laws place l = lead_by laws place place.phase l

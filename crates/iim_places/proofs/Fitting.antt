@@ -1,4 +1,4 @@
--- The ticket of a possible place has the form of a ticket: each number fits its octets.
+-- The ticket of a possible position has the form of a ticket: each number fits into its octets.
 use Rattle.std.proofs.Common.{◌≡◌, ℕ, ◌-◌, ◌<◌, ◌≤◌, ◌^◌, nat_eq, cond, if◌then◌else◌, Bool, true, false, List, [], ◌∷◌, ◌++◌, length, sum, get_or, Option, ◌↔◌, rules, Some, None, refl, ap, sym, subst, ◌∙◌, inl, inr, arith, append_assoc, append-nil, length-append}
 use Rattle.iim_places.proofs.Words.{InRow, IsPlaceOf, AreOpenOrWhole, AllByRecursion, all_map, nat_tests, Octets, Dataset, SpellsStream, SpellsTag, count_octets, of_record, Begun, InTag, InData, Reads, kept, Head, BeginsTag, numbers_of, stated_numbers, Stated, number_at, MessagePlace, LowerLaws, object_so_far, section, AllCanContinue, ObjectLives, MayContinue, present_version, phase_of, heads_of, place_of, ticket_in, part_number, IsLongField, IsSizeIn, AreTexts, IsSize, IsVersion, IsPhase, HasForm, Split, SplitsTicket, split_octets, place_in, IsSmall, IsSmallPhase, IsSmallPlace, widest, SmallPlacesWerePossible, TicketsTellOnePlace, TicketsOfPlacesAreSplit, texts_of, split_of, Limits, max_subfiles, greatest_size_before, CanContinueAt, IsBegun, canonical_stream}
 use Rattle.iim_places.proofs.{Answering.lives_as, Answering.one_reading, Bounds.object_fits, Bounds.is_one, SameRecords.stated_after_all, Splitting.one_split}
@@ -10,9 +10,9 @@ use Rattle.wire_message.specs.declared.saved.MessagePart.TheVariants as part
 use Rattle.iim_places.specs.Format.Tickets.{Place}
 use Rattle.iim_dataset.proofs.Counts.{tag-lt}
 
--- ---- what is read
+-- ---- how octets are read
 
--- Where octets lead to the place, every layer can continue.
+-- If octets reach the position, every layer can continue.
 pub goes_at : LowerLaws → (limits : Limits) (octets : List ℕ) (place : Place) → (is : IsPlaceOf octets place) → AreOpenOrWhole limits octets
     → AllCanContinue limits is.whole is.begun
 goes_at laws limits octets place is comes =
@@ -22,7 +22,7 @@ goes_at laws limits octets place is comes =
 
 -- ---- datasets
 
--- each has no more octets than all have together
+-- no dataset is longer than all together
 pub each_fits : (ds : List Dataset) → length (joined ds) < 2 ^ 32 → AllByRecursion IsLongField ds
 each_fits [] few = tt
 each_fits (d ∷ ds) few = let both = length-append d.octets (joined ds) in (omega (arith, few, both), each_fits ds (omega (arith, few, both)))
@@ -33,7 +33,7 @@ each_octets (d ∷ ds) xs (first, rest, one, more, parts) = (one.data_octets, ea
 
 -- ---- the numbers of record 7
 
--- what holds of each number that is stated, and where none is, holds of those that are told
+-- What holds of each number that is stated, and of its absence, holds of the encoded ones.
 pub told_at : (Q : Option ℕ → Type 0) (set : ℕ) (ps : List Stated) → Q None → AllByRecursion (λ p. Q (Some p.number)) ps → Q (number_at set ps)
 told_at Q set [] none all = none
 told_at Q set (p ∷ ps) none all =
@@ -47,7 +47,7 @@ fit_in_rows ps all = four_at IsSize ps tt (all_map _ _ ps (λ p row. omega (arit
 
 -- ---- the object
 
--- the octets of the object so far are no more than its subfiles have
+-- The octets of the object so far are no more than its subfiles have.
 pub so_far_fits : (counts : ℕ) (octets : List ℕ) (ds : List Dataset) (b : Begun) → Reads counts octets ds b
     → length (object_so_far ds b) ≤ sum (place_in ds b).lengths
 so_far_fits counts octets ds (InTag held) reads = omega (arith, total_of (of_record 8 ds))
@@ -60,19 +60,19 @@ lives_in ds b goes = grind arith
 heads_few : (limits : Limits) (ds : List Dataset) (b : Begun) → MayContinue limits ds b → heads_of ds b ≤ max_subfiles
 heads_few limits ds b goes = grind (arith, nat_tests)
 
--- ---- what is begun
+-- ---- the partial dataset
 
 pub begins_tag : (counts : ℕ) (octets : List ℕ) (ds : List Dataset) (held : List ℕ) → Reads counts octets ds (InTag held) → BeginsTag counts held
 begins_tag counts octets ds held reads =
     let (same, h, tag, spelled, (more, some, parts)) = reads.is_rest in
     record { head = h; more = more; some_more = some; whole = subst (SpellsTag counts h) (sym parts) spelled }
 
--- canonical octets read so, with those of what is begun
+-- canonical octets that are read so, with those of the partial dataset
 pub reads_of : (limit : ℕ) (ds : List Dataset) (b : Begun) (rest : List ℕ) → SpellsStream limit ds (canonical_stream ds) → IsBegun limit b rest
     → Reads limit (canonical_stream ds ++ rest) ds b
 reads_of limit ds b rest spelled is = record { front = canonical_stream ds; rest = rest; is_front = spelled; is_rest = is; parts = refl }
 
--- the data that are given are those that have come, where they are no subfile's
+-- The stored data are those received, if they are not a subfile's.
 pub given_fits : (b : Bool) (count : ℕ) (taken : List ℕ) → length taken < count
     → length (if b then [] else taken) ≡ (if b then 0 else count - (count - length taken))
 given_fits true count taken less = refl
@@ -88,14 +88,14 @@ texts_fit m short = record { each = search (rules, arith); seven = refl }
 
 -- ---- version 1
 
--- a begun dataset counts no more octets than version 1 tells, where it was possible then
+-- A partial dataset that was possible in version 1 has a count that fits its tickets.
 pub low_count : (ds : List Dataset) (h : Head) → CanContinueAt widest ds h → (h.rec ≡ 8 → h.count ≤ greatest_size_before) → h.count < 2 ^ 32
 low_count ds h goes small = elim (is_one ds h goes.records) [
   | inl keeps ↦ let room = (goes.room.kept keeps).octets_in in omega (arith, room)
   | inr few ↦ grind arith
 ]
 
--- the sizes of version 1 are those that its octets tell
+-- The sizes of version 1 are those that fit into its octets.
 pub small_size : (o : Option ℕ) → IsSmall o ↔ IsSizeIn 1 o
 small_size o = grind arith
 
@@ -142,7 +142,7 @@ form_of laws version octets place l leads_on is small =
       | inr two ↦ rw two present
     ]
 
--- The ticket of a possible place has the form of a ticket, with the parts of the place.
+-- The ticket of a possible position has the form of a ticket, with the parts of the position.
 pub tickets_split : LowerLaws → SmallPlacesWerePossible → TicketsOfPlacesAreSplit
 tickets_split laws scales version place is p =
     let l = p.0.leads in
@@ -153,12 +153,12 @@ tickets_split laws scales version place is p =
       spelled = spelled version place;
     }
 
--- ---- one place
+-- ---- one position
 
 pub part_told : (p q : MessagePart) → part_number p ≡ part_number q → p ≡ q
 part_told p q e = grind arith
 
--- the numbers and the texts of a message's place tell it
+-- the numbers and the texts of a message's position determine it
 pub message_told : (m n : MessagePlace) → part_number m.part ≡ part_number n.part → m.counter ≡ n.counter → m.flag ≡ n.flag → texts_of m ≡ texts_of n → m ≡ n
 message_told m n parts counter flag texts =
     let at = part_told m.part n.part parts in
@@ -189,7 +189,7 @@ same_place version p q e =
       message = message i;
     }
 
--- A ticket tells one possible place.
+-- A ticket encodes one possible position.
 pub one_told : LowerLaws → SmallPlacesWerePossible → TicketsTellOnePlace
 one_told laws scales version p q told is are e =
     same_place version p q

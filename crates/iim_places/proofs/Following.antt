@@ -1,4 +1,4 @@
--- What octets that every layer can continue from say of each token among them.
+-- The tokens among octets after which every layer can continue.
 use Rattle.std.proofs.Common.{◌≡◌, ℕ, ◌<◌, ◌≤◌, ◌⊎◌, nat_eq, if◌then◌else◌, List, [], ◌∷◌, ◌++◌, length, map, refl, ap, sym, subst, ◌∙◌, inl, inr, arith, append-nil, append_assoc, length-append}
 use Rattle.iim_places.proofs.Words.{flat_map-append, filter-append, eqb_tells, IsAlive, Dataset, SpellsTag, SpellsStream, head_of, count_octets, of_record, Begun, InTag, InData, IsBegun, Reads, Head, AreSections, SectionsLive, data_of, Limits, last_more, front_alive, head_alive, ObjectLanguage, place_after, head_token, tokens_of, AreSized, place_after_datasets, Octet, End, MessageLivesWith, StoryLivesIn, object_of, MayContinue, CanContinue, CanContinueAt, ObjectLives, place_at, AreWithin, object_so_far, section, message_tokens, AllCanContinue, compare, LowerLaws}
 use Rattle.iim_places.proofs.{Fronts.begun_none, Fronts.no_longer, Lasts.not_all, Lasts.nine_ends, Limits.leaves_room, Limits.within_front}
@@ -9,15 +9,16 @@ use Rattle.iim_fields.specs.Format.Causes.{joined}
 
 -- ---- lists
 
--- equal lists whose one front is no longer than the other
+-- Equal lists, one prefix of which is no longer than the other.
 pub longer_front : (x y u v : List ℕ) → x ++ y ≡ u ++ v → length x ≤ length u → (m : List ℕ) × (u ≡ x ++ m)
 longer_front [] y u v e le = (u, refl)
 longer_front (a ∷ x) y [] v e le = absurd (omega (arith, le))
 longer_front (a ∷ x) y (b ∷ u) v e le = let (m, is) = longer_front x y u v (cc) (omega (arith, le)) in (m, cc)
 
--- ---- which token follows
+-- ---- the next token
 
--- What follows whole datasets and a tag: a dataset of its head is whole, or it is begun and no more has come.
+-- What follows complete datasets and a tag: a dataset with its head is complete, or it is partial
+-- and nothing else was received.
 abbrev pub Follows : List Dataset → Head → List ℕ → List Dataset → Begun → Type 0
 Follows whole head z W c =
     ((d : Dataset) × (ws : List Dataset) × (tail : List ℕ) × (W ≡ whole ++ d ∷ ws) × (head_of d ≡ head) × (z ≡ d.octets ++ tail))
@@ -58,7 +59,7 @@ alive_of limits W (InData h taken) goes = head_alive W h goes.records
 pub within_of : (limits : Limits) (W : List Dataset) (c : Begun) → MayContinue limits W c → AreWithin limits W
 within_of limits W c goes = grind (arith, goes)
 
--- where a token of a head has led, the layer can continue from before it
+-- If a token is a head, the layer can continue after what precedes it.
 before_head : LowerLaws → (W : List Dataset) (h : Head) → HeadLeads W h → ObjectLives (place_at W h) → ObjectLives (place_after_datasets W)
 before_head laws W h leads lives =
     let token = head_token h.rec h.count in
@@ -90,7 +91,7 @@ so_far_both ds xs c = grind (arith, objects_append ds xs, append_assoc)
 pub with_data : (ds : List Dataset) (h : Head) (taken : List ℕ) → h.rec ≡ 8 → object_so_far ds (InData h taken) ≡ object_of ds ++ taken
 with_data ds h taken eight = ap (λ (r : ℕ). object_of ds ++ (if nat_eq r 8 then taken else [])) eight
 
--- the octets of the object that data bring
+-- the octets that data add to the object
 abbrev pub brought : Head → List ℕ → List ℕ
 brought h z = if nat_eq h.rec 8 then z else []
 
@@ -100,7 +101,7 @@ more_object ds h t z = grind (arith, append_assoc (object_of ds) t z, append-nil
 pub closed_object : (ds : List Dataset) (h : Head) (t z : List ℕ) → object_of (ds ++ data_of h (t ++ z) ∷ []) ≡ object_so_far ds (InData h t) ++ brought h z
 closed_object ds h t z = object_of_more ds (data_of h (t ++ z)) ∙ more_object ds h t z
 
--- A message can continue from the octets of the object so far, and so can its story.
+-- A message can continue after the octets of the object so far, and so can its story.
 pub message_of : (limits : Limits) (W : List Dataset) (c : Begun) → AllCanContinue limits W c → (x tail : List ℕ) → object_so_far W c ≡ x ++ tail
     → MessageLivesWith x
 message_of limits W c all x tail is = message_front x tail _ (rw is at all.message)
@@ -112,12 +113,12 @@ story_of limits W c all x tail is = story_front x tail (rw is at all.story)
 pub ends_tokens : (ds : List Dataset) (h : Head) (taken : List ℕ) → h.rec ≡ 9 → message_tokens ds (InData h taken) ≡ map Octet (object_of ds) ++ End ∷ []
 ends_tokens ds h taken nine = rw (nine, append-nil) refl
 
--- ---- every layer can continue from fewer
+-- ---- every layer can continue after fewer
 
 pub same_data : (d : Dataset) (head : Head) (given : List ℕ) → head_of d ≡ head → d.octets ≡ given → d ≡ data_of head given
 same_data d head given h o = λ i. record { rec = (h i).rec; set = (h i).set; octets = o i }
 
--- from fewer of the data
+-- after fewer of the data
 fewer : (limits : Limits) {V : List Dataset} {b : Begun} (ds : List Dataset) (h : Head) (taken z : List ℕ) → AllCanContinue limits V b
     → CanContinueAt limits ds h → object_so_far V b ≡ object_so_far ds (InData h taken) ++ brought h z → section V b ≡ h.rec
     → AllCanContinue limits ds (InData h taken)
@@ -133,7 +134,7 @@ fewer limits {V} {b} ds h taken z all goes object rec =
     }
 
 module _ (laws : LowerLaws) (limits : Limits) (W : List Dataset) (c : Begun) (all : AllCanContinue limits W c) where
-  -- from the first of the datasets
+  -- after the first of the datasets
   pub front_goes : (ds ws : List Dataset) (d : Dataset) → W ≡ ds ++ d ∷ ws → AllCanContinue limits (ds ++ d ∷ []) (InTag [])
   front_goes ds ws d is = elim (eqb_tells d.rec 9) [
     | inl nine ↦
@@ -166,7 +167,7 @@ module _ (laws : LowerLaws) (limits : Limits) (W : List Dataset) (c : Begun) (al
       let lives = lives_at laws ds d front.records ((laws.live (ds ++ d ∷ []) (records_alive (ds ++ d ∷ []) front.records)).1 front.object) room.subfiles in
       record { records = (d, refl, front.records); within = within_front limits ds (d ∷ ws) within; room = room; object = lives }
 
-  -- with a head that has come, and some of its data
+  -- after a head, and some of its data
   pub led_in : (ds : List Dataset) (h : Head) (taken more : List ℕ) → length taken ≤ h.count → Follows ds h (taken ++ more) W c
       → AllCanContinue limits ds (InData h taken)
   led_in ds h taken more fits (inr (same, begun, less)) =
@@ -177,7 +178,7 @@ module _ (laws : LowerLaws) (limits : Limits) (W : List Dataset) (c : Begun) (al
       let closed = rw (same_data d h (taken ++ z) head octets) at (front_goes ds ws d is) in
       fewer limits ds h taken z closed (rw head at (goes_at ds ws d is)) (closed_object ds h taken z) (last_more 0 ds (data_of h (taken ++ z)))
 
-  -- with a value that has come
+  -- after a value
   pub value_goes : (ds : List Dataset) (h : Head) (given more : List ℕ) → length given ≡ h.count → Follows ds h (given ++ more) W c
       → CanContinue limits (ds ++ data_of h given ∷ [])
   value_goes ds h given more many (inl (d, ws, tail, is, head, rest)) =

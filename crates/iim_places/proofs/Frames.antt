@@ -1,4 +1,5 @@
--- Framed and admitted octets: none are empty, none begin others, and they have one value.
+-- Framed octets and envelopes: none are empty, none are prefixes of others, and they have one
+-- value.
 use Rattle.std.proofs.Common.{◌≡◌, ℕ, true, false, List, [], ◌∷◌, ◌++◌, ap, sym, subst, ◌∙◌, inl, inr}
 use Rattle.iim_places.proofs.Words.{append-nil, Dataset, SpellsStream, count_octets, NoDatasetBeginsAnother, compare, AreSections, NoSectionsBeginOthers, NoEnvelopeIsEmpty, of_record, kept, RecordsAreByNumber, AreSized, SizesAreDetermined, MessagesHaveOneReading, Value, Admits, object_of, AdmittedOctetsHaveOneValue, NoAdmittedOctetsBeginOthers, AdmittedOctetsAreFramed}
 use Rattle.iim_places.proofs.Objects.{are_records}
@@ -20,9 +21,9 @@ no_envelope_is_empty limits framed = none framed.datasets framed.spelled framed.
     none (d ∷ ds) (first, rest, spelled, later, parts) sections =
         let bad = parts ∙ ap (λ l. l ++ rest) (spelled.parts ∙ ap (λ l. l ++ d.octets) spelled.is_tag.parts) in cc
 
--- ---- no envelope begins another
+-- ---- no envelope is a prefix of another
 
--- datasets of an envelope that begin those of another are all of it
+-- Datasets of an envelope that are a prefix of those of another are all of it.
 pub envelope_alone : NoDatasetBeginsAnother → NoSectionsBeginOthers → (ds es : List Dataset) (f z : List ℕ) → SpellsStream count_octets ds f → AreSections ds
     → SpellsStream count_octets es (f ++ z) → AreSections es → (ds ≡ es) × (z ≡ [])
 envelope_alone one ends ds es f z s a t b =

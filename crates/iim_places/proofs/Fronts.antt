@@ -1,20 +1,20 @@
--- What the tag at the front says of the datasets there.
+-- The tag that octets begin with determines the datasets there.
 use Rattle.std.proofs.Common.{◌≡◌, ℕ, ◌<◌, List, [], ◌∷◌, ◌++◌, length, refl, ap, sym, subst, ◌∙◌, arith, append_assoc, length-append}
 use Rattle.iim_places.proofs.Words.{append-nil, Dataset, SpellsTag, SpellsDataset, head_of, count_octets, Begun, InTag, InData, IsBegun, NoTagBeginsAnother, Head}
 
--- where nothing stands, nothing stands in front
+-- an empty list has only empty prefixes
 pub empty_front : {X : Type 0} (xs ys : List X) → xs ++ ys ≡ [] → xs ≡ []
 empty_front [] ys e = refl
 empty_front (x ∷ xs) ys e = absurd cc
 
--- a tag is no longer tag
+-- a complete tag is no longer a partial one
 pub no_longer : NoTagBeginsAnother → (h k : Head) (tag x more : List ℕ) → SpellsTag count_octets h tag → 0 < length more
     → SpellsTag count_octets k ((tag ++ x) ++ more) → ⊥
 no_longer one_tag h k tag x more s long t =
     let same = one_tag count_octets h k tag ((tag ++ x) ++ more) (x ++ more) [] s t (sym (append_assoc tag x more) ∙ sym (append-nil ((tag ++ x) ++ more))) in
     omega (arith, simp length-append at (ap length same.2))
 
--- no whole dataset begins a begun one
+-- no complete dataset is a prefix of a partial one
 pub begun_none : NoTagBeginsAnother → (c : Begun) (y : List ℕ) → IsBegun count_octets c y → (d : Dataset) (x w : List ℕ) → SpellsDataset count_octets d x
     → y ≡ x ++ w → ⊥
 begun_none one (InTag held) y b d x w s e =

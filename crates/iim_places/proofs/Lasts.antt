@@ -1,4 +1,4 @@
--- The last record of whole datasets.
+-- The last record of complete datasets.
 use Rattle.std.proofs.Common.{◌≡◌, ◌⊎◌, List, [], ◌∷◌, ◌++◌, refl, sym, subst, inl, inr, arith, append_assoc}
 use Rattle.iim_places.proofs.Words.{Dataset, Head, AreSections, SectionsLive, SectionsLiveAt, section_after, EnvelopesEndWithTheLastRecord, NoSectionsBeginOthers, last_more, front_alive}
 use Rattle.iim_places.proofs.{Frames.no_sections, Fronts.empty_front}
@@ -29,7 +29,7 @@ last_sections ends ds alive nine = elim (split_last ds) [
 pub all_of : NoSectionsBeginOthers → (ds more : List Dataset) → AreSections ds → SectionsLive (ds ++ more) → more ≡ []
 all_of law ds more sections (later, are) = empty_front more later (law ds (more ++ later) sections (rw append_assoc at are))
 
--- datasets after which a head may stand are no envelope
+-- datasets after which a head is allowed are not an envelope
 pub not_all : NoSectionsBeginOthers → (ds : List Dataset) (h : Head) → SectionsLiveAt ds h → AreSections ds → ⊥
 not_all law ds h (d, head, alive) sections = let bad : d ∷ [] ≡ [] = all_of law ds (d ∷ []) sections alive in cc
 

@@ -1,4 +1,4 @@
--- What datasets after others add to the limits.
+-- What further datasets add to the limits.
 use Rattle.std.proofs.Common.{◌≡◌, ◌+◌, nat_eq, List, ◌∷◌, ◌++◌, length, ap, ◌∙◌, arith, length-append}
 use Rattle.iim_places.proofs.Words.{filter-append, flat_map-append, Dataset, head_of, of_record, kept, kept_octets, is_kept, Limits, AreWithin, HaveRoom}
 use Rattle.iim_fields.specs.Format.Causes.{joined}
@@ -16,7 +16,7 @@ kept_octets_append ds es =
 pub kept_length_append : (ds es : List Dataset) → length (kept (ds ++ es)) ≡ length (kept ds) + length (kept es)
 kept_length_append ds es = ap length (kept_append ds es) ∙ length-append (kept ds) (kept es)
 
--- what datasets have together the first of them have
+-- Bounds of all datasets hold of the first of them.
 pub within_front : (limits : Limits) (ds es : List Dataset) → AreWithin limits (ds ++ es) → AreWithin limits ds
 within_front limits ds es within = grind (
   arith,
@@ -27,7 +27,7 @@ within_front limits ds es within = grind (
   length-append (of_record 8 ds) (of_record 8 es),
 )
 
--- what all datasets have leaves room for each
+-- Bounds of all datasets hold of each.
 pub leaves_room : (limits : Limits) (ds : List Dataset) (d : Dataset) (more : List Dataset) → AreWithin limits (ds ++ d ∷ more) → HaveRoom limits ds (head_of d)
 leaves_room limits ds d more within =
     let octets = length-append d.octets (joined (kept more)) in

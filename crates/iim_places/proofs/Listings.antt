@@ -5,7 +5,7 @@ use Rattle.iim_places.proofs.{Following.longer_front, Frames.framed_of, Frames.n
 use Rattle.iim_places.specs.Format.Streams.{joined, Listed, IsListed, InputEnding, Whole, RefusedBy, TooMany, EndsBy, Divides, IsListing}
 use Rattle.iim_places.specs.Laws.{InputsHaveOneListing, ListingsAreLongest}
 
--- ---- one envelope more
+-- ---- one more envelope
 
 pub joined_more : (es : List Listed) (e : Listed) → joined (es ++ e ∷ []) ≡ joined es ++ e.octets
 joined_more [] e = append-nil e.octets
@@ -15,13 +15,13 @@ pub admitted_more : (limits : Limits) (es : List Listed) (e : Listed) → AllByR
     → AllByRecursion (IsListed limits) (es ++ e ∷ [])
 admitted_more limits es e all one = all_append (IsListed limits) es (e ∷ []) all (one, tt)
 
--- the ending that an answer makes
+-- the ending for a result
 abbrev ending_of : Answer → InputEnding
 ending_of (Finished used value) = TooMany
 ending_of (Refused e) = RefusedBy e
 ending_of (Truncated e) = RefusedBy e
 
--- Nothing stands after the envelopes, or the octets there have an answer.
+-- Nothing follows the envelopes, or the octets there have a result.
 abbrev IsTold : Limits → List ℕ → InputEnding → Type 0
 IsTold limits rest x = ((rest ≡ []) × (x ≡ Whole)) ⊎ ((rest ≢ []) × (answer : Answer) × Answers limits rest answer × (ending_of answer ≡ x))
 
@@ -29,14 +29,14 @@ module _ (one_value : AdmittedOctetsHaveOneValue) (one_end : NoAdmittedOctetsBeg
     {limits : Limits} (octets_less : limits.octets < 2 ^ 32) (fields_less : limits.fields < 2 ^ 32) where
   -- ---- two lists of envelopes
 
-  -- an envelope that begins another is all of it
+  -- An envelope that is a prefix of another is all of it.
   begins_none : (e f : Listed) (x y : List ℕ) → IsListed limits e → IsListed limits f → e.octets ++ x ≡ f.octets ++ y → length e.octets ≤ length f.octets
       → e.octets ≡ f.octets
   begins_none e f x y is_e is_f at le =
       let (r, more) = longer_front e.octets x f.octets y at le in
       let none = one_end e.octets r e.value f.value is_e.admits (rw more at is_f.admits) in cc (append-nil e.octets)
 
-  -- Envelopes that equal lists begin with are equal.
+  -- Envelopes that are prefixes of equal lists are equal.
   same_front : (e f : Listed) (x y : List ℕ) → IsListed limits e → IsListed limits f → e.octets ++ x ≡ f.octets ++ y → (e ≡ f) × (x ≡ y)
   same_front e f x y is_e is_f at =
       let same : e.octets ≡ f.octets = elim (cases_lt (length e.octets) (length f.octets)) [
@@ -46,7 +46,7 @@ module _ (one_value : AdmittedOctetsHaveOneValue) (one_end : NoAdmittedOctetsBeg
       let value = one_value f.octets e.value f.value (rw same at is_e.admits) is_f.admits in
       ((λ i. record { octets = same i; value = value i }), append_cancel_left e.octets x y (cc))
 
-  -- A list of envelopes that is no shorter is the other and more.
+  -- A list of envelopes that is no shorter extends the other.
   further : (es fs : List Listed) (x y : List ℕ) → AllByRecursion (IsListed limits) es → AllByRecursion (IsListed limits) fs → length es ≤ length fs
       → joined es ++ x ≡ joined fs ++ y → (more : List Listed) × (fs ≡ es ++ more) × AllByRecursion (IsListed limits) more × (x ≡ joined more ++ y)
   further [] fs x y all_e all_f le e = (fs, refl, all_f, e)
@@ -58,7 +58,7 @@ module _ (one_value : AdmittedOctetsHaveOneValue) (one_end : NoAdmittedOctetsBeg
 
   -- ---- endings
 
-  -- what begins with an envelope
+  -- octets that begin with an envelope
   begins : (rest : List ℕ) (f : Listed) (more : List ℕ) → IsListed limits f → rest ≡ f.octets ++ more → IsTold limits rest TooMany
   begins rest f more is at =
       let framed = framed_of limits f.octets f.value is.admits is.within in
@@ -86,7 +86,7 @@ module _ (one_value : AdmittedOctetsHaveOneValue) (one_end : NoAdmittedOctetsBeg
   one_told rest x y (inr a) (inl b) = absurd (a.0 b.0)
   one_told rest x y (inr a) (inr b) = sym a.3 ∙ ap ending_of (one_answer limits rest a.1 b.1 a.2 b.2) ∙ b.3
 
-  -- After a listing no envelope stands, unless it is one too many.
+  -- No envelope follows a listing, unless it is one too many.
   longest_under : (input : List ℕ) (es others : List Listed) (x : InputEnding) (rest : List ℕ)
       → IsListing limits input es x → Divides limits input others rest → length others ≤ length es
   longest_under input es others x rest l d = elim (cases_lt (length es) (length others)) [
@@ -114,7 +114,7 @@ module _ (one_value : AdmittedOctetsHaveOneValue) (one_end : NoAdmittedOctetsBeg
         one_told m.rest x y (rw same at (told (length es) l.rest x l.ends)) (told (length fs) m.rest y m.ends),
       )
 
--- ---- the laws
+-- ---- the lemmas
 
 pub longest : AdmittedOctetsHaveOneValue → NoAdmittedOctetsBeginOthers → StreamsHaveOneAnswer → OpenOctetsAreBounded → ListingsAreLongest
 longest value ends answer bounded limits input es others x rest octets fields = longest_under value ends answer bounded octets fields input es others x rest

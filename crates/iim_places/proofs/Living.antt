@@ -1,18 +1,18 @@
--- What is alive with octets is alive with fewer of them.
+-- Each prefix of a viable prefix is a viable prefix.
 use Rattle.std.proofs.Common.{inl, inr, ◌≡◌, ℕ, ◌+◌, ◌<◌, Bool, true, false, ◌==◌, if◌then◌else◌, List, [], ◌∷◌, ◌++◌, length, take, drop, map, refl, ap, sym, subst, ◌∙◌, arith, append-nil, append_assoc}
 use Rattle.iim_places.proofs.Words.{cases_Bool, IsAlive, list_any, position_or_len, before_first, after_first, drop-append-le, take-append-le, map-append, list_any-append, drop-append-add, take-append-add, take-length, OctetOrEnd, Octet, End, StoryLanguage, MessageLanguage, MessageLivesWith, StoryLivesIn, after_stx}
 
 pub alive_front : {T : Type 0} (L : List T → Type 0) (xs ys : List T) → IsAlive L (xs ++ ys) → IsAlive L xs
 alive_front L xs ys alive = (ys ++ alive.0, subst L (append_assoc xs ys alive.0) alive.1)
 
--- ---- the first octet of a kind, in octets and more
+-- ---- the first octet of a kind, in octets and in more of them
 
--- where octets have one of the kind, it stands first among more of them too
+-- If octets have one of the kind, it is the first among more of them too.
 first_found : (p : ℕ → Bool) (x y : List ℕ) → list_any p x ≡ true → (position_or_len p (x ++ y) ≡ position_or_len p x) × (position_or_len p x < length x)
 first_found p [] y found = absurd (let bad : false ≡ true = found in cc)
 first_found p (b ∷ x) y found = grind (arith, first_found p x y, cases_Bool (p b))
 
--- where they have none, it stands first among those that follow
+-- If they have none, it is the first among those that follow.
 first_none : (p : ℕ → Bool) (x y : List ℕ) → list_any p x ≡ false
     → (position_or_len p (x ++ y) ≡ length x + position_or_len p y) × (position_or_len p x ≡ length x)
 first_none p [] y none = (omega arith, refl)
@@ -48,7 +48,7 @@ is_etx b = b == 3
 abbrev pub is_stx : ℕ → Bool
 is_stx b = b == 2
 
--- the story's tokens of what stands after STX
+-- the story's tokens in what follows STX
 abbrev pub tokens_after_stx : List ℕ → List OctetOrEnd
 tokens_after_stx x = map Octet (before_first is_etx x) ++ (if list_any is_etx x then End ∷ [] else [])
 
@@ -62,14 +62,14 @@ after_front x y alive = elim (cases_Bool (list_any is_etx x)) [
       rw (before_all is_etx x none, none, append-nil) (alive_front StoryLanguage (map Octet x) later whole)
 ]
 
--- The story of fewer octets can continue.
+-- The story can continue after fewer octets.
 pub story_front : (x y : List ℕ) → StoryLivesIn (x ++ y) → StoryLivesIn x
 story_front x y alive = elim (cases_Bool (list_any is_stx x)) [
   | inl found ↦ after_front (after_stx x) y (rw (after_found is_stx x y found) at alive)
   | inr none ↦ rw (after_none is_stx x none) (alive_front StoryLanguage [] (tokens_after_stx (after_stx (x ++ y))) alive)
 ]
 
--- A message can continue from fewer octets.
+-- A message can continue after fewer octets.
 pub message_front : (x y : List ℕ) (ts : List OctetOrEnd) → IsAlive MessageLanguage (map Octet (x ++ y) ++ ts) → MessageLivesWith x
 message_front x y ts alive =
     alive_front MessageLanguage (map Octet x) (map Octet y ++ ts)

@@ -1,4 +1,4 @@
--- A refusal tells the lowest cause of its layer exactly where tests find it first.
+-- A refusal reports the lowest cause of its layer if and only if the tests find it first.
 use Rattle.std.proofs.Common.{◌≡◌, ◌≢◌, ℕ, ◌+◌, ◌<◌, ◌≤◌, ◌⊎◌, ◌↔◌, Bool, true, false, ◌&&◌, ◌||◌, nat_eq, if◌then◌else◌, List, [], ◌∷◌, map, ◌++◌, length, replicate, Option, Some, None, refl, ap, sym, ◌∙◌, inl, inr, arith, length-append, append-nil}
 use Rattle.iim_places.proofs.Words.{option_or, option_map, eqb-true, le-ltb, same_Some, map-append, filter-append, length-replicate, zeros_are, or_cases, all_front, all_back, Head, IsOctet, Octets, IsProperPrefix, number, Dataset, SpellsTag, SpellsCount, head_of, of_record, count_octets, Dies, InTag, InData, Begun, Reads, BeginsNoTag, SectionsLive, SectionsLiveAt, first_fault, value_fault, data_of, Limits, tells_number, FieldFault, cause_at, max_subfiles, SizeCause, Octet, MessageLanguage, text_so_far, HasCause, Token, MessageCause, object_of, AtOctet, AtHead, AtValue, IsNoCount, Names, TellsTheLowest, rule_of, AreWithin, AllCanContinue, IsUnfinished, IsOpen, RefusesByTests, RefusesNext, Completes, layer_of, layer_of_message, of_field, size_on, too_many_on, LowerLaws, message_on, DiesAtHead, DiesAtValue, IsRefusedHead, IsRefusedValue, subfile_fault, TokenFault, Layer, eq-eqb, limits_fault, nat_tests, StoryLanguage, MessageLivesWith, StoryLivesIn, tag_cause, begun_record, begun_number, HaveRoom, octets_append, place_after_datasets, ObjectToken, head_token, value_token, numbers_of, place_at}
 use Rattle.iim_places.proofs.Answering.{not_held, message_dead, refuses_by, IsRefusedAt, tag_fault, tests_of}
@@ -21,7 +21,7 @@ use Rattle.iim_places.specs.declared.refusal.Cause.TheVariants as causes
 
 -- ---- the causes of a layer
 
--- a lower cause in the layer of one of fields is one of fields
+-- a lower cause in the layer of a field's cause is a field's cause
 lower_field : (f : FieldCause) (c : Cause) → (rule_of c).layer ≡ layer_of f → (rule_of c).number < number_of_cause f → (g : FieldCause) × (c ≡ causes.Field g)
 lower_field f c same less = grind arith
 
@@ -35,7 +35,7 @@ object_size c same = grind arith
 numbered : {c d : Cause} → c ≡ d → (rule_of c).number ≡ (rule_of d).number
 numbered is = ap (λ (x : Cause). (rule_of x).number) is
 
--- ---- causes of fields and sizes, as their layers have them
+-- ---- causes of fields and sizes, as in their layers
 
 -- a token of the record layer, as one of all layers
 abbrev here : records.Token → Token
@@ -57,12 +57,12 @@ size_number s = grind arith
 message_layer : (c : MessageCause) → (rule_of (causes.Message c)).layer ≡ layer_of_message c
 message_layer c = grind arith
 
--- The object layer is asked at the head of a subfile or of 9:10, and at a number of record 7 or 9.
+-- The object layer examines the head of a subfile or of 9:10, and a number of record 7 or 9.
 abbrev is_asked : records.Token → Bool
 is_asked (HeadToken h) = nat_eq h.rec 8 || nat_eq h.rec 9
 is_asked (ValueToken d) = tells_number d.rec
 
--- the token that it is asked about
+-- the token that it examines
 abbrev token_asked : records.Token → ObjectToken
 token_asked (HeadToken h) = head_token h.rec h.count
 token_asked (ValueToken d) = value_token d.rec d.set (number d.octets)
@@ -84,7 +84,7 @@ record_low c same = grind arith
 
 -- ---- tags
 
--- no tag that has this count has these in front
+-- no tag that has this count has this prefix
 no_tag : (front more : List ℕ) (r s n : ℕ) (count : List ℕ) → BeginsNoTag count_octets front → IsOctet r → IsOctet s → SpellsCount count_octets n count
     → front ++ more ≡ 28 ∷ r ∷ s ∷ count → ⊥
 no_tag front more r s n count dead hr hs is_count is =
@@ -118,7 +118,7 @@ count_dies a b c d next r s n (e ∷ held) (x ∷ rest) (high ∷ second ∷ mor
     (inr (refl, long, omega (arith, five, extended.2), omega (arith, five, extended.3), octets, refl)) (cc (extended.0)))
 count_dies a b c d next r s n held rest count hr hs low bad is some dead = absurd bad
 
--- the count of a dataset without octets
+-- the count of an empty dataset
 no_data : SpellsCount count_octets (number (0 ∷ 0 ∷ [])) (0 ∷ 0 ∷ [])
 no_data = inl (omega arith, omega arith, refl, refl)
 
@@ -127,7 +127,7 @@ module _ (limits : Limits) (ds : List Dataset) where
   abbrev Holds' : Token → Cause → Type 0
   Holds' token c = (rule_of c).holds limits ds token
 
-  -- what is told of a token
+  -- what is reported of a token
   record IsTold (token : Token) (fault : TokenFault) : Type 0 where
     pub tells : TellsTheLowest limits ds token fault
     pub names : Names fault.cause ds token fault.rec fault.set
@@ -149,7 +149,7 @@ module _ (limits : Limits) (ds : List Dataset) where
 
   -- ---- heads and values
 
-  -- the first fault of a field
+  -- the first error of a field
   abbrev first_of : records.Token → Option FieldFault
   first_of (HeadToken h) = first_fault limits ds h
   first_of (ValueToken d) = value_fault d
@@ -159,30 +159,30 @@ module _ (limits : Limits) (ds : List Dataset) where
   many_of (HeadToken h) = subfile_fault ds h
   many_of (ValueToken d) = None
 
-  -- the place at which it is asked
+  -- the position at which it is examined
   abbrev place_asked : records.Token → Place
   place_asked (HeadToken h) = place_after_datasets ds
   place_asked (ValueToken d) = place_at ds (head_of d)
 
-  -- the first fault on sizes
+  -- the first error on sizes
   abbrev size_of : records.Token → Option TokenFault
   size_of t = if is_asked t then option_map (size_on (records.head_at t)) (cause_at (place_asked t) (token_asked t)) else None
 
-  -- the fault that tests find
+  -- the error that the tests find
   abbrev fault_of : records.Token → Option TokenFault
   fault_of t = option_or (option_map of_field (first_of t)) (option_or (many_of t) (size_of t))
 
-  -- The layer dies, and those that are asked before are alive.
+  -- The layer cannot continue, and those examined before it can.
   abbrev DiesBy : Layer → records.Token → Type 0
   DiesBy layer (HeadToken h) = DiesAtHead layer limits ds h
   DiesBy layer (ValueToken d) = DiesAtValue layer ds d
 
-  -- what is stated with one number more, which is that of the dataset
+  -- the numbers with one more, which is that of the dataset
   more_stated : (d : Dataset) → d.rec ≡ 7
       → numbers_of (of_record 7 (ds ++ d ∷ [])) ≡ numbers_of (of_record 7 ds) ++ record { set = d.set; number = number d.octets } ∷ []
   more_stated d seven = simp (filter-append, map-append, eq-eqb d.rec 7 seven)
 
-  -- a condition on sizes as the object layer has it
+  -- a condition on sizes, as in the object layer
   abbrev OfSize : SizeCause → records.Token → Type 0
   OfSize cause t = (is_asked t ≡ true) × objects_format.HasCause cause (place_asked t) (token_asked t)
 
@@ -200,18 +200,18 @@ module _ (limits : Limits) (ds : List Dataset) where
   of_table sizes.ConfirmedWrong (ValueToken d) (nine, other) = rw nine (refl, (number d.octets, refl, other))
   of_table s (ValueToken d) has = absurd has
 
-  -- one subfile too many, and what the test says
+  -- one subfile too many, and its test
   many_told : (h : Head) {fault : TokenFault} → subfile_fault ds h ≡ Some fault
       → (too_many_on h ≡ fault) × (h.rec ≡ 8) × (max_subfiles ≤ length (of_record 8 ds))
   many_told h e = grind (arith, nat_tests)
 
-  -- the limits' faults have high numbers, and there is no room
+  -- the limits' errors have high numbers, and the limit is reached
   limits_high : (h : Head)
       → (limits_fault limits ds h ≡ None)
       ⊎ ((f : FieldFault) × (limits_fault limits ds h ≡ Some f) × (50 ≤ number_of_cause f.cause) × (HaveRoom limits ds h → ⊥))
   limits_high h = grind (arith, nat_tests)
 
-  -- no layer before the message's dies for a cause of the message
+  -- No layer before the message's rejects a token for a cause of the message.
   no_message : (m : MessageCause) (t : records.Token) (l : Layer) → (rule_of (causes.Message m)).layer ≡ l
       → DiesBy l t → Holds' (here t) (causes.Message m) → ⊥
   no_message m t l same dead has = grind arith
@@ -224,7 +224,7 @@ module _ (limits : Limits) (ds : List Dataset) where
     tells_of (HeadToken h) = laws.heads_tell limits ds h
     tells_of (ValueToken d) = laws.values_tell limits ds d
 
-    -- the object layer tells the first of its causes
+    -- the object layer reports the first of its causes
     first_cause : (t : records.Token) (s : SizeCause) → DiesBy layers.Object t → is_asked t ≡ true
         → (cause_at (place_asked t) (token_asked t) ≡ Some s) ↔ objects.IsFirstCause (place_asked t) (token_asked t) s
     first_cause (HeadToken h) s dead on =
@@ -237,7 +237,7 @@ module _ (limits : Limits) (ds : List Dataset) where
         laws.first_cause _ _ s (stated_at laws ds (head_of d) (d, refl, dead.0) within.subfiles (λ eight. let bad : false ≡ true = rw eight at on in cc)).stated
         (number_leads laws ds d dead.0 on).0
 
-    -- ---- what tests find first is the lowest
+    -- ---- the first error that tests find is the lowest
 
     many_is_told : (t : records.Token) (s : TokenFault) → many_of t ≡ Some s → records.HasNoFault limits ds t → IsTold (here t) s
     many_is_told (ValueToken d) s e none = cc
@@ -271,9 +271,10 @@ module _ (limits : Limits) (ds : List Dataset) where
             omega (arith, less, low, size_number s, numbered at, size_number r))
             (own_names s t))
 
-    -- ---- what is told as the lowest is found first
+    -- ---- the error reported as the lowest is found first
 
-    -- Where the record layer can continue with a head, conditions on fields are those of the limits, and hold where there is no room.
+    -- If the record layer can continue after a head, conditions on fields are those of the limits,
+    -- and hold if the limit is reached.
     limited : (h : Head) → SectionsLiveAt ds h → (g : FieldCause) → records.HasCause g limits ds (HeadToken h)
         → (50 ≤ number_of_cause g) × (HaveRoom limits ds h → ⊥)
     limited h at g has =
@@ -286,7 +287,7 @@ module _ (limits : Limits) (ds : List Dataset) where
               (omega (arith, low, high), full)
         ]
 
-    -- a lower cause of fields, of the layer that is told
+    -- a lower cause of fields, of the layer that is reported
     own : (t : records.Token) {fault : TokenFault} → IsTold (here t) fault → (g : FieldCause) → records.HasCause g limits ds t
         → layer_of g ≡ fault.layer → (rule_of fault.cause).number ≤ number_of_cause g
     own t {fault} told g has at =
@@ -294,7 +295,8 @@ module _ (limits : Limits) (ds : List Dataset) where
         told.tells.lowest (causes.Field g) (field_layer g ∙ at) less ((field_holds g t).1 has) in
         omega (arith, field_number g, low)
 
-    -- Where a layer dies, no condition on fields holds of a lower number than what is told; and where the object layer does, none at all.
+    -- If a layer cannot continue, no condition on fields holds of a lower number than the reported
+    -- one; if it is the object layer, none at all.
     quiet : (l : Layer) (t : records.Token) {fault : TokenFault} → fault.layer ≡ l → DiesBy l t → IsTold (here t) fault
         → (g : FieldCause) → records.HasCause g limits ds t → ((rule_of fault.cause).number ≤ number_of_cause g) × (l ≢ layers.Object)
     quiet layers.Record t {fault} same dead told g has = elim (side g) [
@@ -360,12 +362,12 @@ module _ (limits : Limits) (ds : List Dataset) where
             (refl, refl),
       )
 
-  -- an octet's causes are told of the begun dataset
+  -- the causes of an octet are reported of the partial dataset
   octet_names : (b : Begun) (octet : ℕ) (c : Cause) (rec set : ℕ) → Holds' (AtOctet b octet) c
       → Names c ds (AtOctet b octet) rec set → (rec ≡ begun_record b) × (set ≡ begun_number b)
   octet_names b octet c rec set has names = grind arith
 
-  -- a cause that stands at an octet of data is one of the message
+  -- a cause at an octet of data is one of the message
   of_message : (h : Head) (taken : List ℕ) (b : ℕ) (c : Cause) → Holds' (AtOctet (InData h taken) b) c → (m : MessageCause) × (c ≡ causes.Message m)
   of_message h taken b c has = grind arith
 
@@ -413,7 +415,7 @@ module _ (limits : Limits) (ds : List Dataset) where
         let has = by c (rw same at dead) (rw same at told.tells) in
         (has.0, c, has.1, same)
       where
-        -- message and story can continue from the octets before
+        -- message and story can continue after the octets before
         live : h.rec ≡ 8 → MessageLivesWith (object_of ds ++ taken) × StoryLivesIn (object_of ds ++ taken)
         live eight =
             let is = with_data ds h taken eight ∙ sym (append-nil (object_of ds ++ taken)) in
@@ -430,7 +432,7 @@ module _ (limits : Limits) (ds : List Dataset) where
             let (eight, (text, which)) = tells.holds in
             let story = (live eight).1 in
             let (held, holds) = (laws.stories_live (text_so_far (object_of ds ++ taken))).0 (alive_front StoryLanguage _ _ story) in
-            -- a held CR would be told first
+            -- a pending CR would be reported first
             let lone = λ (some : 0 < held). tells.lowest (causes.Message messages.LoneReturn) refl (omega arith)
             (eight, (text, (held, holds, some, omega (arith, which), omega (arith, which)))) in
             let none : held ≡ 0 = omega (arith, lone) in
@@ -457,7 +459,7 @@ module _ (limits : Limits) (ds : List Dataset) where
   tag_holds (a ∷ b ∷ c ∷ d ∷ held) next rest low h tag s some is dead =
       count_dies a b c d next h.rec h.set h.count held rest s.count s.rec s.set low s.is_count is some dead
 
-  -- what is wrong with an octet of a tag
+  -- the error of an octet of a tag
   of_tag : (held : List ℕ) (next : ℕ) (c : Cause) → Holds' (AtOctet (InTag held) next) c → (c ≡ tag_cause held) × ((rule_of c).layer ≡ layers.Dataset)
   of_tag held next c has = grind arith
 
@@ -476,7 +478,7 @@ module _ (limits : Limits) (ds : List Dataset) where
       let same : fault.layer ≡ layers.Dataset = sym told.tells.layer ∙ layer in
       (rw same at dead, same_fault same named.0 named.1 is)
 
-  -- ---- what is told is what tests find
+  -- ---- what is reported is what tests find
 
   value_dies : (l : Layer) (d : Dataset) → Dies l limits ds (AtValue d) → DiesAtValue l ds d
   value_dies l d dead = grind arith
@@ -485,7 +487,7 @@ module _ (limits : Limits) (ds : List Dataset) where
   head_dies l h dead = grind arith
 
   module _ (laws : LowerLaws) (next : ℕ) (fault : TokenFault) where
-    -- the token that the octet completes, and what is told of it
+    -- the token that the octet completes, and what is reported of it
     told_at : (octets : List ℕ) → IsOctet next → (b : Begun) → Reads count_octets octets ds b → AllCanContinue limits ds b → IsRefusedAt limits ds b next fault
         → (token : Token) × Completes limits ds b next token × (Dies fault.layer limits ds token × IsTold token fault)
     told_at octets low (InTag held) reads all (inl (dead, is)) =
@@ -512,7 +514,7 @@ module _ (limits : Limits) (ds : List Dataset) where
         let dead = value_dies fault.layer d dies in
         record { first = token_back laws alive within (ValueToken d) fault.layer fault.rec fault.set fault.cause dead told; dead = dead }
 
-    -- The layers up to the object's refuse the head, or no message ends there.
+    -- The layers up to the object's reject the head, or no message ends there.
     head_back : (held : List ℕ) (h : Head) → AllCanContinue limits ds (InTag held) → Dies fault.layer limits ds (AtHead h)
         → IsTold (AtHead h) fault → IsRefusedHead limits ds h fault ⊎ IsUnfinished limits ds h fault
     head_back held h all dies told = elim (head_dies fault.layer h dies) [
@@ -543,7 +545,7 @@ module _ (limits : Limits) (ds : List Dataset) where
     found_at (InData h taken) (AtOctet b octet) all (is, same) dies told =
         inl (octet_back laws h taken next all fault (rw (is, same) at dies) (rw (is, same) at told))
 
--- ---- the law
+-- ---- the lemma
 
 pub told_by_table : LowerLaws → (limits : Limits) (octets : List ℕ) (next : ℕ) (fault : TokenFault) → IsOctet next → RefusesByTests limits octets next fault
     → RefusesNext limits octets next fault

@@ -1,4 +1,4 @@
--- The octets of the object: with one dataset more, and with its end.
+-- The octets of the object: with one more dataset, and with its end.
 use Rattle.std.proofs.Common.{◌≡◌, ℕ, Bool, true, false, nat_eq, if◌then◌else◌, List, [], ◌++◌, ap, ◌∙◌, append-nil, ◌<◌, ◌≤◌, cond, ◌∷◌, length, refl, arith, map, sym, subst}
 use Rattle.iim_places.proofs.Words.{ne_eqb, IsAlive, Dataset, of_record, InData, Head, object_of, object_so_far, flat_map-append, filter-append, max_subfiles, End, Octet, with_end, MessageLanguage, MessageLivesWith, IsOctet, Octets, all_front}
 use Rattle.iim_places.proofs.Places.{one_more}
@@ -20,7 +20,7 @@ pub few_more : (ds : List Dataset) (d : Dataset) → length (of_record 8 ds) ≤
     → length (of_record 8 (ds ++ d ∷ [])) ≤ max_subfiles
 few_more ds d few room = grind (arith, one_more ds d, room)
 
--- a whole message, with or without its end
+-- a complete message, with or without its end
 pub lives_whole : (o : List ℕ) (b : Bool) → MessageLivesWith o → (b ≡ true → MessageLanguage (with_end o))
     → IsAlive MessageLanguage (map Octet o ++ (if b then End ∷ [] else []))
 lives_whole o true lives whole = ([], subst MessageLanguage (sym (append-nil (map Octet o ++ End ∷ []))) (whole refl))

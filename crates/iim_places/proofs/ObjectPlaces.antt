@@ -1,4 +1,4 @@
--- Places of the object at its end, and before it.
+-- Positions of the object after its end, and before it.
 use Rattle.std.proofs.Common.{◌≡◌, ℕ, [], ◌∷◌, ◌++◌, Option, refl, subst, arith}
 use Rattle.iim_places.proofs.Words.{nil_from_length, IsAlive, TokensFollow, ObjectToken, ObjectEnded, Confirmed, ObjectLanguage, NotEnded, Ended, ConfirmedAs, MayFollow, place_after, tokens_of, IsPossible, State}
 use Rattle.iim_places.proofs.Living.{alive_front}
@@ -8,7 +8,7 @@ use Rattle.iim_object.specs.declared.reading.fault.ObjectFault.TheVariants.{Size
 use Rattle.iim_places.specs.Nowhere.{goes_nowhere, stops_nowhere}
 use Rattle.iim_places.specs.declared.ticket.object.Nowhere.{Nowhere}
 
--- the end may follow at a place after which it is possible
+-- the end is allowed at a position after which it is possible
 pub may_end : (p : Place) → p.ending ≡ NotEnded → IsPossible (place_after p ObjectEnded) → MayFollow p ObjectEnded
 may_end p open' is = (open', grind (arith, nil_from_length p.lengths, is.subfiles))
 
@@ -27,7 +27,7 @@ before_size law p n is =
     let some : p.lengths ≡ [] → Ended ≡ NotEnded = λ none. absurd (let bad : ConfirmedAs n ≡ NotEnded = is.subfiles none in cc) in
     record { stated = is.stated; subfiles = some; duties = is.duties; few = is.few; alive = alive }
 
--- what dies with a token is not possible with it
+-- after a token that the layer rejects, no position is possible
 pub not_possible : TokensFollow → (p : Place) (token : ObjectToken) → MayFollow p token → (IsAlive ObjectLanguage (tokens_of p ++ token ∷ []) → ⊥)
     → IsPossible (place_after p token) → ⊥
 not_possible law p token may dead is = dead (subst (IsAlive ObjectLanguage) (law p token may) is.alive)

@@ -1,4 +1,5 @@
--- Octets that lead to one place read on and continue alike, and the same octet is refused, for the same fault.
+-- Octets that reach one position have the same continuations, and the same octet is rejected with
+-- the same error.
 use Rattle.std.proofs.Common.{◌≡◌, ℕ, nat_eq, if◌then◌else◌, Bool, true, false, List, [], ◌∷◌, ◌++◌, length, Some, refl, ap, sym, subst, ◌∙◌, inl, inr, arith, append-nil, ◌&&◌, ◌||◌, not, nat_lt, None, map, append_assoc, ◌<◌, length-append}
 use Rattle.iim_places.proofs.Words.{append_cancel_left, Dataset, count_octets, of_record, Begun, InTag, InData, IsBegun, Reads, Head, section_after, AreSections, Limits, HaveSizes, Sizes, text_so_far, Value, object_of, AreAlike, PlacesContinueAlike, AllCanContinue, object_so_far, IsTextOf, IsEnvelopeWithin, IsPlaceOf, heads_of, place_of, LowerLaws, ne_eqb, option_or, option_map, number, head_of, head_fault, room_fault, occurs, data_of, place_after_datasets, cause_at, number_cause, NumberRead, ObjectToken, head_token, value_token, max_subfiles, End, PlacesRefuseAlike, of_field, size_on, too_many_on, DiesAtHead, DiesAtValue, CanContinueAt, IsRefusedValue, fault_at_head, fault_at_value, place_at, TokenFault, Layer, Octet, with_end, MessageLanguage, MessageLivesWith, MessageDiesAt, message_tokens, LivingOctetsAreOpen, section, AreOpenOrWhole, same_Some, NotEnded, ConfirmedAs, IsAlive, MayContinue, compare, eqb_tells, IsOctet, Octets, SpellsStream, all_back, octets_append, last_more, Meets, IsGoodDataset, good_elsewhere}
 use Rattle.iim_places.proofs.Answering.{goes_envelope, leads_to, one_reading, reads_envelope, IsRefusedAt, IsRefusedWith, refuses_by, tests_of, lives_as}
@@ -21,9 +22,9 @@ use Rattle.iim_tables.specs.Format.Rows.{table, row_of}
 use Rattle.iim_fields.proofs.Dies.{good_value}
 use Rattle.iim_dataset.proofs.Spelled.{with_data as spelled_data, stream_more, whole_read}
 
--- ---- what has been read
+-- ---- what was read
 
--- Octets read these and others read those, at one place.
+-- Two inputs are read so, and reach one position.
 pub record Pair (limits : Limits) (ds es : List Dataset) (c d : Begun) : Type 0 where
   pub section_is : section ds c ≡ section es d
   pub begun : SameBegun c d
@@ -32,28 +33,28 @@ pub record Pair (limits : Limits) (ds es : List Dataset) (c d : Begun) : Type 0 
   pub here : AllCanContinue limits ds c
   pub there : AllCanContinue limits es d
 
--- Both read on to one place, with as much text after the one as after the other.
+-- Both continue to one position, and add the same text.
 pub record Onto (limits : Limits) (o r : List ℕ) (W V : List Dataset) (c d : Begun) : Type 0 where
   pub pair : Pair limits W V c d
   pub added : List ℕ
   pub here : text_so_far (object_so_far W c) ≡ text_so_far o ++ added
   pub there : text_so_far (object_so_far V d) ≡ text_so_far r ++ added
 
--- Other octets read on so.
+-- Other octets continue so.
 pub record ReadAlike (limits : Limits) (q o r : List ℕ) (W : List Dataset) (c : Begun) : Type 0 where
   pub whole : List Dataset
   pub begun : Begun
   pub reads : Reads count_octets q whole begun
   pub on : Onto limits o r W whole c begun
 
--- first so far, and then on
+-- what was read so far, and then the rest
 further : {limits : Limits} {o r : List ℕ} {W V X Y : List Dataset} {c d b e : Begun} → Onto limits o r W V c d
     → Onto limits (object_so_far W c) (object_so_far V d) X Y b e → Onto limits o r X Y b e
 further first later =
     let added = first.added ++ later.added in
     record { pair = later.pair; added = added; here = rw (later.here, first.here, append_assoc) refl; there = rw (later.there, first.there, append_assoc) refl }
 
--- what is begun after the one, told by what is begun after the other
+-- the partial dataset after the one, given that after the other
 begun_tag : {x : List ℕ} (d : Begun) → SameBegun (InTag x) d → d ≡ InTag x
 begun_tag d same = grind (arith, same)
 
@@ -65,14 +66,15 @@ message_as : LowerLaws → {o r : List ℕ} → SameMessage o r → (b : Bool) �
 message_as laws {o} {r} m true alive = (laws.message_ends r m.other m.at m.there).1 ((laws.message_ends o m.text m.at m.here).0 alive)
 message_as laws {o} {r} m false alive = rw append-nil (laws.living r m.other m.at m.there).0
 
--- Every layer can continue from the one, if all but message and story can from the other and these are at one place.
+-- Every layer can continue after the one, if all but message and story can after the other and
+-- these are in one position.
 pub all_as : LowerLaws → {limits : Limits} {ds es : List Dataset} {c d : Begun} → AllCanContinue limits ds c → MayContinue limits es d
     → section ds c ≡ section es d → SameMessage (object_so_far ds c) (object_so_far es d) → AllCanContinue limits es d
 all_as laws {limits} {ds} {es} {c} {d} goes sizes same m =
     let message : IsAlive MessageLanguage (message_tokens es d) = rw (← same) (message_as laws m (nat_eq (section ds c) 9) goes.message) in
     record { sizes = sizes; message = message; story = (laws.living (object_so_far es d) m.other m.at m.there).1 }
 
--- Datasets that tell the same lead on alike, where the same octets of the object follow.
+-- Equivalent datasets continue equally, if the same octets of the object follow.
 onto : LowerLaws → {limits : Limits} {o r : List ℕ} {W V : List Dataset} {c d : Begun} (e : List ℕ) → SameMessage o r → TellTheSame W V → SameBegun c d
     → section W c ≡ section V d → object_so_far W c ≡ o ++ e → object_so_far V d ≡ r ++ e → MayContinue limits V d → AllCanContinue limits W c
     → Onto limits o r W V c d
@@ -95,7 +97,7 @@ pub bounded_of : LowerLaws → (limits : Limits) (ds : List Dataset) (c : Begun)
 bounded_of laws limits ds c goes =
     bounded_after laws ds (alive_of limits ds c goes) (within_of limits ds c goes).subfiles (object_lives_after laws limits ds c goes)
 
--- ---- in a tag after whole datasets
+-- ---- in a tag after complete datasets
 
 same_itself : (c : Begun) → SameBegun c c
 same_itself c = grind arith
@@ -109,7 +111,7 @@ stream_both [] es x y s t = rw s t
 stream_both (d ∷ ds) es x y (first, rest, spelled, later, parts) t =
     (first, rest ++ y, spelled, stream_both ds es rest y later t, ap (λ (l : List ℕ). l ++ y) parts ∙ append_assoc first rest y)
 
--- What follows octets of a tag is read alike after others.
+-- What follows octets of a tag is read equally after others.
 tag_on : LowerLaws → {limits : Limits} {p q held : List ℕ} {ds es : List Dataset} (more : List ℕ) → Reads count_octets p ds (InTag held)
     → Reads count_octets q es (InTag held) → Pair limits ds es (InTag held) (InTag held) → {W : List Dataset} {c : Begun} → Reads count_octets (p ++ more) W c
     → AllCanContinue limits W c → ReadAlike limits (q ++ more) (object_of ds) (object_of es) W c
@@ -135,7 +137,7 @@ tag_on laws {limits} {p} {q} {held} {ds} {es} more here there pair {W} {c} w goe
 
 -- ---- inside data
 
--- whether a subfile is as its row says is told by its length
+-- whether a subfile is within its row depends only on its length
 good_as : (h : Head) (xs ys : List ℕ) → SameData h xs h ys → IsGoodDataset (data_of h xs) → Octets ys → IsGoodDataset (data_of h ys)
 unfolding row_of table
 good_as h xs ys same good octets = elim (eqb_tells h.rec 8) [
@@ -156,7 +158,7 @@ tail_as h a b same =
 data_more : {h : Head} {t v : List ℕ} (z : List ℕ) → SameData h t h v → SameData h (t ++ z) h (v ++ z)
 data_more {h} {t} {v} z same = grind (arith, same, length-append t z, length-append v z)
 
--- where more octets of a dataset have come, the last of them or not
+-- where more octets of a dataset follow, the last of them or not
 closes : {p : List ℕ} {ds : List Dataset} {h : Head} {t : List ℕ} (z : List ℕ) → Reads count_octets p ds (InData h t) → length (t ++ z) ≡ h.count → Octets z
     → Reads count_octets (p ++ z) (ds ++ data_of h (t ++ z) ∷ []) (InTag [])
 closes {p} {ds} {h} {t} z r many octets =
@@ -189,7 +191,7 @@ closed_on laws {limits} {ds} {es} {h} {t} {v} z pair many octets goes =
     let sizes = may_as laws limits (ds ++ d ∷ []) (es ++ x ∷ []) (InTag []) alive present same_told goes.sizes in
     onto laws (brought h z) pair.message same_told refl present (closed_object ds h t z) (closed_object es h v z) sizes goes
 
--- What follows octets inside data is read alike after others.
+-- What follows octets inside data is read equally after others.
 data_on : LowerLaws → {limits : Limits} {p q : List ℕ} {ds es : List Dataset} {h : Head} {t v : List ℕ} (more : List ℕ) → Reads count_octets p ds (InData h t)
     → Reads count_octets q es (InData h v) → Pair limits ds es (InData h t) (InData h v) → {W : List Dataset} {c : Begun} → Reads count_octets (p ++ more) W c
     → AllCanContinue limits W c → ReadAlike limits (q ++ more) (object_so_far ds (InData h t)) (object_so_far es (InData h v)) W c
@@ -220,14 +222,14 @@ data_on laws {limits} {p} {q} {ds} {es} {h} {t} {v} more r s pair {W} {c} w goes
           rw (same, begun) (record { whole = es; begun = InData h (v ++ more); reads = reads; on = on }))
     ]
 
--- ---- where both stand
+-- ---- the states of both
 
--- how many subfiles have ended, and how many octets they have
+-- the number of complete subfiles, and their octets
 counts_as : (ds es : List Dataset) (c d : Begun) → SameBegun c d → heads_of ds c ≡ heads_of es d → length (object_so_far ds c) ≡ length (object_so_far es d)
     → (length (of_record 8 ds) ≡ length (of_record 8 es)) × (length (object_of ds) ≡ length (object_of es))
 counts_as ds es c d same heads octets = grind (arith, same, heads, octets, length-append)
 
--- Every layer can continue from what is read, and if the last dataset has ended, nothing is begun.
+-- Every layer can continue after what was read, and if the last dataset has ended, none is partial.
 ends_of : LowerLaws → (limits : Limits) (p : List ℕ) (ds : List Dataset) (c : Begun) → Reads count_octets p ds c → AreOpenOrWhole limits p
     → AllCanContinue limits ds c × (nat_eq (section_after ds) 9 ≡ true → c ≡ InTag [])
 ends_of laws limits p ds c reads (inl opens) =
@@ -237,7 +239,7 @@ ends_of laws limits p ds c reads (inr (v, whole)) =
     let same = one_reading laws p whole.admits.datasets ds (InTag []) c (reads_envelope p v whole.admits) reads in
     (rw (same.whole_is, same.begun_is) at (goes_envelope laws limits p v whole), λ nine. sym same.begun_is)
 
--- What octets of one place read, each open or an envelope, tells the same.
+-- Octets of one position, each incomplete or an envelope, are read as equivalent datasets.
 pair_of : LowerLaws → (limits : Limits) (p q : List ℕ) (place : Place) (is : IsPlaceOf p place) (are : IsPlaceOf q place) → AreOpenOrWhole limits p
     → AreOpenOrWhole limits q → Pair limits is.whole are.whole is.begun are.begun
 pair_of laws limits p q place is are opens goes =
@@ -276,7 +278,7 @@ pair_of laws limits p q place is are opens goes =
       there = now.0;
     }
 
--- ---- what follows is read alike
+-- ---- what follows is read equally
 
 on_pair : LowerLaws → {limits : Limits} {p q : List ℕ} {ds es : List Dataset} (c d : Begun) → Reads count_octets p ds c → Reads count_octets q es d
     → Pair limits ds es c d → (more : List ℕ) {W : List Dataset} {b : Begun} → Reads count_octets (p ++ more) W b → AllCanContinue limits W b
@@ -285,7 +287,7 @@ on_pair laws (InTag x) d r s pair more w goes = let is = begun_tag d pair.begun 
 on_pair laws (InData h t) d r s pair more w goes =
     let (v, is, same) = begun_data d pair.begun in rw is (data_on laws more r (rw is at s) (rw is at pair) w goes)
 
--- ---- open octets
+-- ---- incomplete octets
 
 unfinished_as : LowerLaws → {limits : Limits} {ds es : List Dataset} (c d : Begun) → Pair limits ds es c d → (AreSections ds → ⊥) → AreSections es → ⊥
 unfinished_as laws {ds = ds} {es = es} (InTag x) (InTag y) pair none sections =
@@ -304,7 +306,7 @@ sizes_as {s = s} {t = t} same_told here there =
     let subfile = same_Some _ _ (sym here.largest ∙ same.largest ∙ there.largest) in
     grind (arith, here, there, known, subfile, same.announced, same.maximum, heads_same same_told, same_told.object.octets)
 
--- what is read after the one as an envelope is read after the other as one
+-- what completes the one to an envelope completes the other to one
 envelope_as : LowerLaws → {limits : Limits} {p q o r : List ℕ} {v : Value} (is : IsEnvelopeWithin limits p v)
     → ReadAlike limits q o r is.admits.datasets (InTag []) → (w : Value) × IsEnvelopeWithin limits q w × AreAlike v w
 envelope_as laws {limits} {p} {q} {v = v} is read =
@@ -358,7 +360,7 @@ continue_alike laws limits p q place is are opens goes more =
           (more_text, (read.whole, read.begun, read.reads, (λ i. parts i ++ same i) ∙ sym read.on.there), spoken);
     }
 
--- ---- the first fault of a head
+-- ---- the first error of a head
 
 cause_as : (p q : objects.Place) → SameObject p q → (token : ObjectToken) → cause_at p token ≡ cause_at q token
 cause_as p q same (NumberRead set n) =
@@ -378,7 +380,7 @@ head_fault_as limits ds es h present same_told =
     (option_or (if (nat_eq h.rec 8) && not (nat_lt (heads i) max_subfiles) then Some (too_many_on h) else None)
     (if (nat_eq h.rec 8) || (nat_eq h.rec 9) then option_map (size_on h) (cause i) else None))
 
--- ---- where a head is refused
+-- ---- a head that is rejected
 
 module _ (laws : LowerLaws) {limits : Limits} {ds es : List Dataset} {x : List ℕ} (pair : Pair limits ds es (InTag x) (InTag x)) where
   head_dies_as : (h : Head) (layer : Layer) → DiesAtHead layer limits ds h → DiesAtHead layer limits es h
@@ -392,11 +394,11 @@ module _ (laws : LowerLaws) {limits : Limits} {ds es : List Dataset} {x : List �
       (alive, room, (λ lives. dies.2 (at_as laws es ds h alive dies.0 pair.there.sizes.within.subfiles room.subfiles (flip pair.same_told) lives)))
   head_dies_as h rest dies = absurd dies
 
-  -- every layer that is asked before the message can continue with a head
+  -- every layer that is examined before the message can continue after a head
   goes_as : (h : Head) → CanContinueAt limits ds h → CanContinueAt limits es h
   goes_as h goes = may_as laws limits ds es (InData h []) pair.there.sizes.records pair.section_is pair.same_told goes
 
--- ---- where a value is refused
+-- ---- a value that is rejected
 
 value_fault_as : (ds es : List Dataset) (d : Dataset) → TellTheSame ds es → fault_at_value ds d ≡ fault_at_value es d
 value_fault_as ds es d same_told =
@@ -415,7 +417,7 @@ module _ (laws : LowerLaws) {limits : Limits} (ds es : List Dataset) (same_told 
       (alive, λ lives. dies.1 (after_as laws (es ++ d ∷ []) (ds ++ d ∷ []) alive dies.0 few (back (bounded lives)) lives))
   value_dies_as d other here there rest dies = absurd dies
 
-  -- a value, where every layer can continue with its data
+  -- a value, if every layer can continue after its data
   value_at : (fault : TokenFault) (h : Head) (given : List ℕ) → (h.rec ≡ 8 → ⊥) → length given ≡ h.count → CanContinueAt limits ds h
       → CanContinueAt limits es h → IsRefusedValue ds (data_of h given) fault → IsRefusedValue es (data_of h given) fault
   value_at fault h given other many here there bad =
@@ -423,7 +425,7 @@ module _ (laws : LowerLaws) {limits : Limits} (ds es : List Dataset) (same_told 
       let dead = value_dies_as (data_of h given) other (rw head here) (rw head there) fault.layer bad.dead in
       record { first = sym (value_fault_as ds es (data_of h given) same_told) ∙ bad.first; dead = dead }
 
--- ---- where an octet is refused
+-- ---- an octet that is rejected
 
 with_as : LowerLaws → {limits : Limits} {ds es : List Dataset} {x : List ℕ} (h : Head) (fault : TokenFault) → Pair limits ds es (InTag x) (InTag x)
     → IsRefusedWith limits ds h fault → IsRefusedWith limits es h fault
@@ -471,7 +473,7 @@ refuse_alike laws tests limits p q place is are opens goes more next fault bad =
     let step = step_as laws c read.begun next fault read.on.pair dead in
     (tests limits (q ++ more) next fault).1 (low, tests_of limits (q ++ more) next fault (read.whole, read.begun, read.reads, read.on.pair.there, none, step))
 
--- ---- living octets are open where no envelope begins them
+-- ---- viable octets are incomplete if no prefix is an envelope
 
 pub open_where_none : LowerLaws → (start : Message) → LeadsTo [] [] start → LivingOctetsAreOpen
 open_where_none laws start begins limits octets whole begun reads all none =

@@ -1,10 +1,10 @@
--- Where heads and values lead the object.
+-- Positions of the object after heads and values.
 use Rattle.std.proofs.Common.{◌≡◌, ℕ, ◌+◌, ◌<◌, ◌⊎◌, true, false, if◌then◌else◌, nat_eq, List, [], ◌∷◌, ◌++◌, length, refl, ap, sym, subst, ◌∙◌, inl, inr, rules, arith, length-append}
 use Rattle.iim_places.proofs.Words.{AllByRecursion, filter-append, or_cases, eqb-true, ne_eqb, number, Dataset, head_of, of_record, Head, all_append, all_front, all_back, all_map, SectionsLive, SectionsLiveAt, tells_number, max_subfiles, MayFollow, place_after, head_token, value_token, AreObjectRecords, AreSized, place_after_datasets, DatasetsLiveWithTheirTokens, place_at, ObjectLives, LowerLaws, IsAlive, Limits, CanContinueAt, DiesAtHead, Layer}
 use Rattle.iim_places.proofs.{Objects.records_alive, Living.alive_front}
 use Rattle.iim_places.specs.declared.refusal.Layer.TheVariants as layers
 
--- ---- the records of datasets that are alive
+-- ---- the records of datasets that are viable
 
 -- the record is one before 7, or 7, 8 or 9
 abbrev IsOne : ℕ → Type 0
@@ -21,9 +21,9 @@ pub is_one : (ds : List Dataset) (d : Dataset) → SectionsLive (ds ++ d ∷ [])
 is_one ds d alive = let r = records_alive (ds ++ d ∷ []) alive in (all_back (λ (x : Dataset). IsOne x.rec) ds (d ∷ [])
     (all_front (λ (x : Dataset). IsOne x.rec) (ds ++ d ∷ []) r.0 (all_ones ((ds ++ d ∷ []) ++ r.0) r.1))).0
 
--- ---- the place at a head
+-- ---- the position at a head
 
--- It is told by the head's record and its count.
+-- It is determined by the head's record and its count.
 at_record : (r : ℕ) (ds : List Dataset) (h : Head) → h.rec ≡ r → place_at ds h ≡ place_at ds (record h { rec = r })
 at_record r ds h is = ap (λ (k : ℕ). place_at ds (record h { rec = k })) is
 
@@ -35,7 +35,7 @@ at_other ds h less = rw (ne_eqb h.rec 8 (λ e. omega (arith, e, less)), ne_eqb h
 
 -- ---- heads
 
--- what a head leads to
+-- the position after a head
 abbrev pub HeadLeads : List Dataset → Head → Type 0
 HeadLeads ds h = MayFollow (place_after_datasets ds) (head_token h.rec h.count)
     × (place_after (place_after_datasets ds) (head_token h.rec h.count) ≡ place_at ds h)
@@ -49,7 +49,7 @@ end_leads laws ds h (d, is, alive) nine = rw nine (laws.ends_lead ds d (records_
 
 -- ---- values
 
--- what the number of a value leads to
+-- the position after the number of a value
 abbrev pub ValueLeads : List Dataset → Dataset → Type 0
 ValueLeads ds d = MayFollow (place_at ds (head_of d)) (value_token d.rec d.set (number d.octets))
     × (place_after (place_at ds (head_of d)) (value_token d.rec d.set (number d.octets)) ≡ place_after_datasets (ds ++ d ∷ []))
@@ -64,7 +64,7 @@ number_leads laws ds d alive tells =
       | inr nine ↦ let is = eqb-true d.rec 9 nine in rw (at_record 9 ds (head_of d) is, token 9 is) (laws.ends_lead ds d whole is).1
     ]
 
--- a value that tells no number leads nowhere else than its head
+-- a value that encodes no number reaches the same position as its head
 pub silent_leads : LowerLaws → (ds : List Dataset) (d : Dataset) → SectionsLive (ds ++ d ∷ []) → tells_number d.rec ≡ false
     → (d.rec ≡ 8 → length (of_record 8 ds) < max_subfiles)
     → place_at ds (head_of d) ≡ place_after_datasets (ds ++ d ∷ [])
@@ -79,12 +79,12 @@ pub one_more : (ds : List Dataset) (d : Dataset) → length (of_record 8 (ds ++ 
 one_more ds d =
     grind (arith, ap length (filter-append (λ (x : Dataset). nat_eq x.rec 8) ds (d ∷ [])), length-append (of_record 8 ds) (of_record 8 (d ∷ [])))
 
--- ---- what continues to sized datasets
+-- ---- what continues to datasets with sizes
 
 pub lives_after : DatasetsLiveWithTheirTokens → (ds : List Dataset) → SectionsLive ds → IsAlive AreSized ds → ObjectLives (place_after_datasets ds)
 lives_after live ds alive sized = (live ds (records_alive ds alive)).0 sized
 
--- the object layer can continue with the head of a dataset that continues to sized ones
+-- the object layer can continue after the head of a dataset that continues to datasets with sizes
 pub lives_at : LowerLaws → (ds : List Dataset) (d : Dataset) → SectionsLive (ds ++ d ∷ [])
     → IsAlive AreSized (ds ++ d ∷ []) → (d.rec ≡ 8 → length (of_record 8 ds) < max_subfiles) → ObjectLives (place_at ds (head_of d))
 lives_at laws ds d alive sized few =
@@ -100,7 +100,7 @@ lives_at laws ds d alive sized few =
       | inr (inr (inr nine)) ↦ subst ObjectLives (sym (at_record 9 ds (head_of d) nine)) ((laws.ended ds d whole nine).0 (d, nine, sized))
     ]
 
--- ---- no layer dies with what all can continue with
+-- ---- no layer rejects what all can continue with
 
 pub no_dead_head : (layer : Layer) (limits : Limits) (ds : List Dataset) (h : Head) → CanContinueAt limits ds h → DiesAtHead layer limits ds h → ⊥
 no_dead_head layers.Record limits ds h goes dead = search rules

@@ -1,4 +1,4 @@
--- The place that the parts of a ticket tell, and whether an envelope can be there.
+-- The position that the parts of a ticket encode, and whether an envelope can reach it.
 use Rattle.std.proofs.Common.{◌≡◌, ℕ, ◌+◌, ◌-◌, ◌≤◌, cond, if◌then◌else◌, Bool, List, [], ◌∷◌, length, refl, ap, sym, ◌∙◌, subst, arith, ◌++◌, codes, rules, get_or}
 use Rattle.iim_places.proofs.Words.{AllByRecursion, all_map, Dataset, kept, kept_octets, IsWithin, Limits, LeadsToSaved, MessagePlace, LeadsByLayers, plain, PlacesArePossibleByLayers, RecordsLive, are_ended, begun_subfiles, one_of_some, record_datasets, Numbers, number_list, TicketsOfPlacesAreSplit, split_of, TicketsHaveOneSplit, IsSmall, IsSmallPhase, Split, IsSmallPlace, greatest_size_before, AreHeadsWithin, begun_count, begun_fields, widest, SmallPlacesWerePossible, IsTicketAt, IsLimitFault, IsRestoreFault, AreKept, IsMessageOf, numbers_told, told_datasets, IsSizeIn, HasForm, SplitsTicket, TicketsTellOnePlace, PossiblePlacesAreTaken, IsVersion, ticket_in, TicketForm, TicketVersion, Impossible, OutOfMemory, split_octets, HeaderFull, TooManyFields}
 use Rattle.iim_places.proofs.{Fitting.small_size, Fitting.spelled, Plain.kept_fields}
@@ -13,7 +13,7 @@ pub told_same : (place : Place) (numbers : Numbers) (some : Bool) → place.numb
     → told_datasets place.fields place.numbers some (are_ended place.phase) ≡ record_datasets place numbers
 told_same place numbers some are one = λ i. plain place.fields (numbers_told (are i)) (one i) [] (are_ended place.phase)
 
--- ---- where no envelope can be
+-- ---- positions that no envelope reaches
 
 pub no_records : (s : Split) (some : Bool) → cond some 1 0 ≡ one_of_some (s.heads - begun_subfiles s.section s.phase)
     → (AreKept s.fields → IsWithin widest (kept_octets s.fields) (length s.fields)
@@ -33,16 +33,16 @@ no_message s none place is l =
     let (octets, text, leads, count, ended) = l.message in
     none place.message octets text (rw (← is) (record { part_is = refl; counter_is = refl; flag_is = refl; texts_are = refl })) leads (rw (← is) count)
 
--- ---- where one can be
+-- ---- positions that an envelope reaches
 
--- the place of these parts, and of a message's place
+-- the position of these parts, and of a message's position
 abbrev pub place_told : Split → MessagePlace → Place
 place_told s m = record { section = s.section; phase = s.phase; fields = s.fields; numbers = s.numbers; taken = s.taken; heads = s.heads; message = m }
 
 pub place_is : (s : Split) (m : MessagePlace) → IsMessageOf s.part s.counter s.flag s.texts m → split_of s.version (place_told s m) ≡ s
 place_is s m is = λ i. record s { part = is.part_is i; counter = is.counter_is i; flag = is.flag_is i; texts = is.texts_are i }
 
--- The place of a ticket of version 1 keeps to the sizes of that time where what is begun does.
+-- The position of a ticket of version 1 is within the sizes of that time if its partial dataset is.
 pub small_told : (s : Split) (place : Place) → HasForm s → split_of s.version place ≡ s → s.version ≡ 1 → IsSmallPhase s.section s.taken s.phase
     → IsSmallPlace place
 small_told s place form is one small = record {
@@ -52,7 +52,7 @@ small_told s place form is one small = record {
   begun = subst (λ (t : Split). IsSmallPhase t.section t.taken t.phase) (sym is) small;
 }
 
--- ---- why the ticket of a possible place is refused
+-- ---- why the ticket of a possible position is rejected
 
 parts_of : TicketsOfPlacesAreSplit → (ticket : List ℕ) (place : Place) → (is : IsTicketAt ticket place) → SplitsTicket ticket (split_of is.version place)
 parts_of split ticket place is = rw (← is.spelled) at (split is.version place is.is_version is.possible)
@@ -74,7 +74,7 @@ taken split one limits ticket place TooManyFields is (there, are, low, over) =
 taken split one limits ticket place OutOfMemory is (there, are, heads) =
     let within = rw (same_place one ticket place there is are) at heads in search (rules, arith)
 
--- ---- the ticket of a place
+-- ---- the ticket of a position
 
 pub ticket_at : PlacesArePossibleByLayers → SmallPlacesWerePossible → (ticket : List ℕ) (s : Split) (place : Place) → SplitsTicket ticket s
     → split_of s.version place ≡ s → LeadsByLayers place → (s.version ≡ 1 → IsSmallPlace place) → IsTicketAt ticket place
@@ -85,7 +85,7 @@ ticket_at law scales ticket s place splits is leads small = record {
   spelled = splits.spelled ∙ ap split_octets (sym is) ∙ sym (spelled s.version place);
 }
 
--- Octets whose parts lead nowhere are the ticket of no place.
+-- Octets whose parts no input reaches are the ticket of no position.
 pub no_ticket : PlacesArePossibleByLayers → SmallPlacesWerePossible → TicketsOfPlacesAreSplit → TicketsHaveOneSplit → (ticket : List ℕ) (s : Split)
     → SplitsTicket ticket s → LeadsNowhereIn s → (place : Place) → IsTicketAt ticket place → ⊥
 no_ticket law scales split one ticket s splits nowhere place is =
@@ -96,7 +96,7 @@ no_ticket law scales split one ticket s splits nowhere place is =
 pub heads_within : (limits : Limits) (s : Split) (r : Readers) (at : AreAt s r) → IsWithin limits r.octets r.fields → AreHeadsWithin limits at.place
 heads_within limits s r at within = rw (at.octets_are, at.fields_are) at within
 
--- A limit that the readers' counts pass is passed by the ticket's place.
+-- A limit that the readers' counts exceed is exceeded by the ticket's position.
 pub limit_told : (limits : Limits) (ticket : List ℕ) (s : Split) (r : Readers) (at : AreAt s r) → IsTicketAt ticket at.place → (fault : TicketFault)
     → IsLimitFault limits r.octets r.fields fault → IsRestoreFault limits ticket fault
 limit_told limits ticket s r at is HeaderFull bad = (at.place, is, rw at.octets_are at bad)

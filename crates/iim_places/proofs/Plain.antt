@@ -1,11 +1,11 @@
--- Plain datasets tell what they are made of, and can be spelled.
+-- Witness datasets have the contents they are made of, and can be encoded.
 use Rattle.std.proofs.Common.{sym, ◌≡◌, ℕ, zero, suc, ◌*◌, ◌<◌, ◌≤◌, nat_eq, cond, Bool, true, false, List, [], ◌∷◌, ◌++◌, length, take, drop, Option, Some, subst, None, refl, ap, ◌∙◌, arith, append-nil, length-drop, IfSome}
 use Rattle.iim_places.proofs.Words.{nil_from_length, option_or, AllByRecursion, filter, unwrap_or, ne_eqb, take-append-drop, length-take, filter-append, few_octets, AreKept, IsOctet, Octets, number, greatest_size, Dataset, of_record, all_append, all_map, front_are, HasSpellings, kept, is_kept, last_record, section_after, numbers_of, number_dataset, subfile_datasets, stated_numbers, Stated, number_at, object_of, IsSize, Numbers, number_list, mode_dataset, one_dataset, plain_numbers, filled, plain_end, plain, last_of_joined, map-append}
 use Rattle.iim_dataset.proofs.WrittenNumbers.{number_octets}
 use Rattle.iim_fields.specs.Format.Causes.{joined}
 use Rattle.iim_object.specs.Format.Packing.{subfile_dataset}
 
--- The datasets tell these fields, numbers, object octets and heads.
+-- The datasets have these fields, numbers, object octets and heads.
 pub record Tell (ds fields : List Dataset) (numbers : Numbers) (heads : ℕ) (object : List ℕ) (ended : Bool) : Type 0 where
   pub kept_are : kept ds ≡ fields
   pub numbers_are : stated_numbers (numbers_of (of_record 7 ds)) ≡ number_list numbers
@@ -15,7 +15,7 @@ pub record Tell (ds fields : List Dataset) (numbers : Numbers) (heads : ℕ) (ob
   pub eights_are : of_record 8 ds ≡ subfile_datasets (filled (unwrap_or numbers.largest 0) heads object)
   pub nines_are : of_record 9 ds ≡ plain_end ended object
 
--- ---- which datasets are of which records
+-- ---- the records of the datasets
 
 abbrev pub AreOf : ℕ → List Dataset → Type 0
 AreOf r ds = AllByRecursion (λ (d : Dataset). d.rec ≡ r) ds
@@ -41,7 +41,7 @@ run_by p s ds all = grind (arith, filter_all, all_map, none_by)
 pub none_in_fields : (r : ℕ) (ds : List Dataset) → is_kept r ≡ false → AreKept ds → of_record r ds ≡ []
 none_in_fields r ds is all = grind (arith, filter_none, all_map, ne_eqb)
 
--- ---- what holds of each
+-- ---- what holds of each dataset
 
 pub back_octets : (k : ℕ) (xs : List ℕ) → Octets xs → Octets (drop k xs)
 back_octets zero xs all = all
@@ -119,7 +119,7 @@ told_by : (test : Dataset → Bool) (a b c d : List Dataset) {w x y z : List Dat
     → filter test d ≡ z → filter test (a ++ (b ++ (c ++ d))) ≡ w ++ (x ++ (y ++ z))
 told_by test a b c d e f g h = simp (filter-append, e, f, g, h)
 
--- without datasets of a record the last is of another
+-- without datasets of a record the last is of another record
 pub last_none : (r k : ℕ) (ds : List Dataset) → nat_eq k r ≡ false → of_record r ds ≡ [] → nat_eq (last_record k ds) r ≡ false
 last_none r k [] other none = other
 last_none r k (d ∷ ds) other none = grind (arith, last_none r d.rec ds, none)
@@ -131,7 +131,7 @@ module _ (fields : List Dataset) (numbers : Numbers) (heads : ℕ) (object : Lis
   abbrev eights : List Dataset
   eights = subfile_datasets (filled (unwrap_or numbers.largest 0) heads object)
 
-  -- the datasets of the records that a test tells
+  -- the datasets of the records that pass a test
   of_each : (p : ℕ → Bool) (w : List Dataset) → filter (λ (d : Dataset). p d.rec) fields ≡ w
       → filter (λ (d : Dataset). p d.rec) made
       ≡ w ++ (cond (p 7) (plain_numbers numbers) [] ++ (cond (p 8) eights [] ++ cond (p 9) (plain_end ended object) []))
@@ -148,12 +148,13 @@ module _ (fields : List Dataset) (numbers : Numbers) (heads : ℕ) (object : Lis
   pub plain_kept : AreKept fields → kept made ≡ fields
   plain_kept keeps = of_each is_kept fields (kept_fields fields keeps) ∙ append-nil fields
 
-  -- The plain datasets tell what they are made of, where each number fits its octets, and the subfiles have room for the object.
+  -- The witness datasets have the contents they are made of, if each number fits into its octets,
+  -- and the subfiles are large enough for the object.
   pub plain_told : AreKept fields → AllByRecursion IsSize (number_list numbers) → length object ≤ heads * unwrap_or numbers.largest 0
       → Tell made fields numbers heads object ended
   plain_told keeps fit room = grind (arith, no_field, append-nil, plain_kept, are_told, four_told, filled_all, filled_count)
 
-  -- ---- spellings
+  -- ---- encodings
 
   one_spelled : (rec set n : ℕ) → rec < 256 → set < 256 → HasSpellings (number_dataset rec set n)
   one_spelled rec set n r s = record { rec = r; set = s; octets = number_octets n; few = let few = few_octets n in omega (arith, few) }

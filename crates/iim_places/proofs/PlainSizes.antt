@@ -1,4 +1,4 @@
--- What an object's numbers and lengths tell: the object layer lives alike with others that tell the same.
+-- The numbers and lengths of an object determine whether the object layer can continue.
 use Rattle.std.proofs.Common.{◌≡◌, ℕ, ◌<◌, ◌≤◌, ◌↔◌, nat_eq, cond, Bool, true, false, List, [], ◌∷◌, ◌++◌, length, map, sum, Some, IfSome, refl, ap, sym, subst, ◌∙◌, arith, append-nil, if◌then◌else◌, ◌-◌, Option}
 use Rattle.iim_places.proofs.Words.{AllByRecursion, unwrap_or, IsOctet, Dataset, of_record, some_of, kept, is_kept, SubfileBegun, ObjectLanguage, number_tokens, ending_tokens, place_after_datasets, numbers_of, Stated, InRow, number_at, object_of, ObjectLives, Numbers, plain_end, ending_of, SectionsLive, section_after, number, mode_known, IsAlive, Ending, NotEnded, Ended, ConfirmedAs, HasBoth, AreStated, LowerLaws, max_subfiles, IsPossible, HaveSizes, Sizes, nil_from_length, Head, SectionsLiveAt, place_at, lengths_of}
 use Rattle.iim_places.proofs.{SamePlace.SameObject, Tickets.total_of, Tickets.count_of, Tickets.heads_by}
@@ -12,7 +12,7 @@ use Rattle.iim_object.specs.Format.Objects as objects
 abbrev pub numbers_in : List Stated → Numbers
 numbers_in ps = record { mode = number_at 10 ps; largest = number_at 20 ps; announced = number_at 90 ps; maximum = number_at 95 ps }
 
--- a number that is stated is as its row says
+-- a number that is stated is within its row
 pub row_at : (set : ℕ) (ps : List Stated) (n : ℕ) → AllByRecursion InRow ps → number_at set ps ≡ Some n → InRow (record { set = set; number = n })
 row_at set [] n all is = absurd cc
 row_at set (p ∷ ps) n all is = let more = row_at set ps n all.1 in grind arith
@@ -24,12 +24,12 @@ pub all_kept : (ds : List Dataset) → AllByRecursion (λ (d : Dataset). is_kept
 all_kept [] = tt
 all_kept (d ∷ ds) = let more = all_kept ds in grind arith
 
--- ---- when the object layer lives
+-- ---- when the object layer can continue
 
 pub end_length : (ended : Bool) (object : List ℕ) → length (plain_end ended object) ≡ cond ended 1 0
 end_length ended object = grind arith
 
--- mode and largest subfile, where both are stated
+-- mode and largest subfile, if both are stated
 pub record Duties (ps : List Stated) : Type 0 where
   pub known : Bool
   pub size : ℕ
@@ -45,7 +45,7 @@ duties_of ps stated both =
 abbrev pub SizesLive : List Stated → List ℕ → Ending → Type 0
 SizesLive ps ls e = IsAlive ObjectLanguage (number_tokens ps ++ (map SubfileBegun ls ++ ending_tokens e))
 
--- the subfiles are as whole as the ending says
+-- the subfiles are complete as the ending requires
 abbrev Ends : Ending → List Stated → List ℕ → Type 0
 Ends NotEnded ps ls = Unit {0}
 Ends Ended ps ls = MeetsAnnounced ps ls
@@ -61,7 +61,7 @@ lives_fit laws (ConfirmedAs n) known size ps ls d some =
 
 -- ---- subfiles are no longer than 7:20
 
--- no subfile is longer than 7:20, or has octets where that is not stated
+-- no subfile is longer than 7:20, or non-empty if that is not stated
 abbrev pub AreBounded : List Stated → List ℕ → Type 0
 AreBounded ps ls = AllByRecursion (λ n. n ≤ unwrap_or (number_at 20 ps) 0) ls
 
@@ -75,7 +75,7 @@ bounded_at laws p is = by p.lengths refl
         let d = duties_of p.stated is.stated (is.duties some) in
         subst (AreBounded p.stated) parts (rw d.has.largest ((lives_fit laws p.ending d.known d.size p.stated p.lengths d.has some).0 is.alive).0.each)
 
--- ---- objects that tell the same
+-- ---- equivalent objects
 
 clash_like : (ps qs : List Stated) → SameNumbers ps qs → NoClash ps → NoClash qs
 clash_like ps qs same none = grind arith
@@ -101,8 +101,8 @@ lives_like laws ps qs (l ∷ ls) (k ∷ ks) e are goes same both none many total
     (fit_like d.known d.size ps qs (l ∷ ls) (k ∷ ks) same total each' fit, whole_like e ps qs (l ∷ ls) (k ∷ ks) same total whole)
 lives_like laws ps qs ls ks e are goes same both none many total each lives = absurd (omega (arith, many))
 
--- Places of an object whose numbers, whose ends and whose subfiles in number and in octets are the same are possible alike, where no
--- subfile is longer than 7:20.
+-- Positions of an object with equal numbers, ends, numbers of subfiles and octets in them are
+-- equally possible, if no subfile is longer than 7:20.
 pub possible_like : LowerLaws → (p q : objects.Place) → IsPossible p → AreStated q.stated → SameObject p q → AreBounded q.stated q.lengths → p.ending ≡ q.ending
     → IsPossible q
 possible_like laws p q is goes same each end =
@@ -113,7 +113,7 @@ possible_like laws p q is goes same each end =
 pub possible_of : (p : objects.Place) → IsStated p → length p.lengths ≤ max_subfiles → ObjectLives p → IsPossible p
 possible_of p is few lives = record { stated = is.stated; subfiles = is.subfiles; duties = is.duties; few = few; alive = lives }
 
--- where every layer can continue, the place of the object is possible
+-- if every layer can continue, the position of the object is possible
 pub possible_after : LowerLaws → (ds : List Dataset) → SectionsLive ds → length (of_record 8 ds) ≤ max_subfiles → ObjectLives (place_after_datasets ds)
     → IsPossible (place_after_datasets ds)
 possible_after laws ds alive few lives =
@@ -129,7 +129,7 @@ possible_at laws ds h alive few room lives = grind (arith, heads_by, possible_of
 some_subfile : (p : objects.Place) (n : ℕ) → (p.lengths ≡ [] → p.ending ≡ NotEnded) → p.ending ≡ ConfirmedAs n → 0 < length p.lengths
 some_subfile p n none ends = some_there p.lengths (λ zero. let bad : ConfirmedAs n ≡ NotEnded = sym ends ∙ none (nil_from_length p.lengths zero) in cc)
 
--- where record 9 has come, the end is confirmed as what the subfiles have
+-- after record 9, the end is confirmed with the size of the subfiles
 ending_by : LowerLaws → (p : objects.Place) (rs : List Dataset) (ended : Bool) → IsStated p → p.ending ≡ ending_of rs → ObjectLives p
     → length rs ≡ cond ended 1 0 → ending_of rs ≡ (if ended then ConfirmedAs (sum p.lengths) else NotEnded)
 ending_by laws p [] false is same lives many = refl

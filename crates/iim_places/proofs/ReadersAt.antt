@@ -1,4 +1,4 @@
--- Readers of a possible place stand where octets lead there.
+-- Readers of a possible position are in the state after octets that reach it.
 use Rattle.std.proofs.Common.{◌≡◌, ℕ, ◌+◌, ◌-◌, ◌<◌, ◌≤◌, nat_eq, if◌then◌else◌, Bool, true, false, List, [], ◌++◌, length, Option, Some, None, ap, sym, subst, ◌∙◌, arith}
 use Rattle.iim_places.proofs.Words.{AllByRecursion, Dataset, of_record, count_octets, Begun, InTag, Reads, IsKeptAs, ne_eqb, numbers_told, between, Head, DatasetPlace, SectionsLive, is_kept, kept, section_after, Limits, head_alive, place_after_datasets, NotEnded, ObjectEnded, Confirmed, place_after, max_subfiles, numbers_of, IsPossible, stated_numbers, State, text_so_far, LeadsToSaved, saved, MessagePlace, object_of, RecordsLive, begun_of_object, section, object_after, one_of_some, are_ended, begun_subfiles, LowerLaws, Numbers, number_list, plain, Phase, TagBegun, AllEnded, phase_of, place_at, CanContinue, CanContinueAt}
 use Rattle.iim_places.proofs.{AfterEnd.ended_after, ByLayers.nine_ended, ByLayers.led_at, ByLayers.ended_place, ByLayers.fewer, SameRecords.SameRecords}
@@ -14,7 +14,7 @@ use Rattle.iim_places.specs.{States.Readers.RecordsStand, States.Readers.Message
 
 -- ---- the records
 
--- What the datasets by which the record layer is told say of others of the same place.
+-- The datasets that determine the state of the record layer, and others of the same position.
 pub record Like (es ds : List Dataset) : Type 0 where
   pub kept_are : kept es ≡ kept ds
   pub same : SameRecords es ds
@@ -31,7 +31,7 @@ like laws fields numbers some ended ds keeps same alive there few fields_are som
 
 -- ---- the message
 
--- where octets lead to the place after EOT, they are a whole message
+-- octets that reach the position after EOT are a complete message
 pub ended_reader : LowerLaws → (reader : Option Message) (place : Place) (o text : List ℕ) → MessageStands reader place → LeadsToSaved o text place.message
     → place.message.part ≡ part.AfterEnd → wire.IsWhole reader
 ended_reader laws reader place o text stands leads last =
@@ -47,7 +47,7 @@ text_led laws reader place o text stands leads =
 
 -- ---- between datasets, or in a tag, or at the end
 
--- the same with what is begun told by a test
+-- the lemma above with the partial dataset selected by a test
 abbrev pub TagPhase : Bool → List ℕ → Phase
 TagPhase b held = if b then AllEnded else TagBegun held
 
@@ -103,7 +103,7 @@ pub keeps : (place : DatasetPlace) (p : List ℕ) (ds : List Dataset) (b : Begun
     → place ≡ tag_place (section ds b) (phase_of ds b) → IsKeptAs place b
 keeps place p ds b reads open' is = grind (arith, keeps_tag)
 
--- ---- whether an octet has come
+-- ---- whether an octet was received
 
 come_tag : (b : Bool) (ds : List Dataset) (held : List ℕ) → b ≡ false → SectionsLive ds
     → has_come (section_after ds) (TagPhase b held) ≡ has_begun ds (InTag held)

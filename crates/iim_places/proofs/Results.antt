@@ -1,4 +1,4 @@
--- Clauses of results that are handed on.
+-- Clauses of results that are passed on.
 use Rattle.std.proofs.Common.{Result, Ok, Err, OnOk, Option, Some, None, IfNone}
 
 pub on_both : {T E : Type 0} (A B : Type 0) (r : Result T E) → OnOk r A → OnOk r B → OnOk r (A × B)

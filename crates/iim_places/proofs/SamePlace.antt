@@ -1,4 +1,4 @@
--- Octets of one place: what stands on the one stands on the other.
+-- Octets of one position: a reader in the state after the one is in the state after the other.
 use Rattle.std.proofs.Common.{◌≡◌, ℕ, ◌+◌, Bool, true, false, if◌then◌else◌, ◌==◌, nat_eq, List, [], ◌∷◌, ◌++◌, length, sum, Option, refl, sym, subst, ◌∙◌, arith, length-append}
 use Rattle.iim_places.proofs.Words.{Octets, Dataset, head_of, of_record, count_octets, Begun, InTag, InData, Reads, IsKeptAs, Head, ne_eqb, DatasetPlace, sum_append, HasChecked, HasTaken, kept, section_after, SectionsLive, SectionsLiveAt, ValuesDieWithTheirFault, Limits, RecordPlace, last_more, SubfileBegun, numbers_of, place_after_datasets, place_ended, State, stated_numbers, text_so_far, LeadsToSaved, MessagePlace, object_of, LowerLaws, place_at, ObjectLives, object_so_far, section, AllCanContinue, IsOpen, are_some, phase_of, heads_of}
 use Rattle.iim_places.proofs.{Plain.last_none, Following.alive_of, Lasts.last_sections, Tickets.count_of, Tickets.total_of, Answering.open_at}
@@ -11,9 +11,10 @@ use Rattle.wire_message.specs.States.Reading as wire
 use Rattle.wire_message.specs.States.Reading.{LeadsTo}
 use Rattle.wire_message.specs.declared.place.Place.{Place as Message}
 
--- ---- what is begun
+-- ---- the partial dataset
 
--- the same octets of a tag; or the same head, as many octets of its data, and, but for a subfile, the same
+-- the same octets of a tag; or the same head, the same number of octets of its data, and, except
+-- for a subfile, equal ones
 pub record SameData (h : Head) (xs : List ℕ) (k : Head) (ys : List ℕ) : Type 0 where
   pub head : h ≡ k
   pub many : length xs ≡ length ys
@@ -24,7 +25,7 @@ SameBegun (InTag x) (InTag y) = x ≡ y
 SameBegun (InData h xs) (InData k ys) = SameData h xs k ys
 SameBegun c d = ⊥
 
--- the octets of a tag, where no dataset has ended the envelope
+-- the octets of a tag, if no dataset has ended the envelope
 abbrev pub HeldAlike : List Dataset → Begun → Begun → Type 0
 HeldAlike ds (InTag x) (InTag y) = nat_eq (section_after ds) 9 ≡ true → x ≡ y
 HeldAlike ds b c = Unit {0}
@@ -42,7 +43,7 @@ checked_as : (check : Option RecordPlace) (ds es : List Dataset) → HasChecked 
     → SameRecords ds es → HasChecked check es
 checked_as check ds es at alive present same = grind arith
 
--- the record layer lives with a value that lived after datasets of the same records
+-- the record layer can continue after a value, if it can after datasets of the same records
 pub value_as : ValuesDieWithTheirFault → (ds es : List Dataset) (d : Dataset) → Octets d.octets → SectionsLive (ds ++ d ∷ []) → SectionsLiveAt es (head_of d)
     → SectionsLive (es ++ d ∷ [])
 value_as law ds es d octets alive at = (law es d at octets).0 ((law ds d (d, refl, alive) octets).1 alive)
@@ -70,7 +71,7 @@ fields_in law fields ds es h taken at alive keeps same = grind (arith, taken_as)
 
 -- ---- the object
 
--- places of the object with the same numbers, heads and octets
+-- positions of the object with the same numbers, heads and octets
 pub record SameObject (p q : objects.Place) : Type 0 where
   pub numbers : SameNumbers p.stated q.stated
   pub heads : length p.lengths ≡ length q.lengths
@@ -88,7 +89,7 @@ pub record SameWhole (ds es : List Dataset) : Type 0 where
 pub object_lives_after_as : (ds es : List Dataset) → SameWhole ds es → SameObject (place_after_datasets ds) (place_after_datasets es)
 object_lives_after_as ds es same = grind (arith, same_numbers, count_of, total_of)
 
--- the place of the object at a head, by the tests of its record
+-- the position of the object at a head, by the tests of its record
 abbrev pub at_tests : Bool → Bool → List Dataset → ℕ → objects.Place
 at_tests b c ds count = if b then objects.place_after (place_after_datasets ds) (SubfileBegun count) else if c then place_ended ds else place_after_datasets ds
 
@@ -104,7 +105,7 @@ pub message_as : LowerLaws → (reader : Option Message) (o r t v : List ℕ) (m
     → LeadsTo r v m → wire.StandsAt reader r (text_so_far r)
 message_as laws reader o r t v m at here there = grind arith
 
--- Both have led the message to one place.
+-- Both have reached one position in the message.
 pub record SameMessage (o r : List ℕ) : Type 0 where
   pub text : List ℕ
   pub other : List ℕ
@@ -117,7 +118,7 @@ same_message laws o r t v m n is (at, leads, saves) (other, goes, keeps) =
     let one : at ≡ other = laws.apart at other leads.is_place goes.is_place (saves ∙ is ∙ sym keeps) in
     record { text = t; other = v; at = at; here = leads; there = subst (λ (x : Message). LeadsTo r v x) (sym one) goes }
 
--- ---- whether an octet has come
+-- ---- whether an octet was received
 
 pub none_present : (es : List Dataset) → SectionsLive es → section_after es ≡ 0 → es ≡ []
 none_present [] alive zero = refl
@@ -132,9 +133,9 @@ has_begun (d ∷ ds) c = true
 pub some_read : (p : List ℕ) (ds : List Dataset) (c : Begun) → Reads count_octets p ds c → are_some p ≡ has_begun ds c
 some_read p ds c r = grind arith
 
--- ---- the whole unpacker
+-- ---- the complete unpacker
 
--- what the place says of whole datasets and a begun one
+-- what the position determines of complete datasets and a partial one
 pub record SameAll (ds es : List Dataset) (c d : Begun) : Type 0 where
   pub section : section ds c ≡ section es d
   pub fields : kept ds ≡ kept es
@@ -156,7 +157,7 @@ octets_of q es h ys r = r.is_rest.3
 pub keeps_as : (place : DatasetPlace) (c d : Begun) → SameBegun c d → IsKeptAs place c → IsKeptAs place d
 keeps_as place c d same keeps = grind arith
 
--- what octets read is open
+-- octets read so are incomplete
 pub record Opened (limits : Limits) (ds : List Dataset) (c : Begun) : Type 0 where
   pub goes : AllCanContinue limits ds c
   pub ended : nat_eq (section_after ds) 9 ≡ false

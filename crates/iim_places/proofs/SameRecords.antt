@@ -1,4 +1,4 @@
--- Datasets of one place have the same numbers in each record.
+-- Datasets of one position have the same numbers in each record.
 use Rattle.std.proofs.Common.{◌≡◌, ℕ, ◌<◌, ◌≤◌, Bool, true, false, cond, nat_eq, List, [], ◌∷◌, ◌++◌, length, is_some, None, refl, ap, sym, subst, ◌∙◌, inl, ◌&&◌, inr, arith}
 use Rattle.iim_places.proofs.Words.{AllByRecursion, eqb-true, ne_eqb, filter-append, list_any-append, number, Dataset, head_alive, tells_number, value_token, head_of, of_record, Head, all_front, records, IsGoodDataset, occurs, SectionsLive, SectionsLiveAt, section_after, kept, is_kept, by_record, max_subfiles, Stated, InRow, AreStated, number_at, numbers_of, ObjectToken, NotEnded, HasBoth, MayFollow, place_after, head_token, place_after_datasets, stated_numbers, one_of_some, place_at, LowerLaws, all_map}
 use Rattle.iim_places.proofs.{SizeRows.HasTen, SizeRows.Unstated, SizeRows.by_number, SizeRows.by_ten, SizeRows.eight_has, SizeRows.nine_has, Plain.filter_none}
@@ -11,7 +11,7 @@ pub use Rattle.iim_places.proofs.Bounds.{nines}
 pub record SameRecords (ds es : List Dataset) : Type 0 where
   pub seen : (r n : ℕ) → occurs n (of_record r ds) ≡ occurs n (of_record r es)
 
--- ---- one dataset more
+-- ---- one more dataset
 
 pub seen_on : {ds es xs ys : List Dataset} → SameRecords ds es → SameRecords xs ys → SameRecords (ds ++ xs) (es ++ ys)
 seen_on {ds} {es} {xs} {ys} same more = grind (arith, filter-append, list_any-append)
@@ -23,9 +23,9 @@ pub of_kept : (r : ℕ) → is_kept r ≡ true → (ds : List Dataset) → of_re
 of_kept r is [] = refl
 of_kept r is (d ∷ ds) = grind (arith, of_kept r is ds, is, eqb-true)
 
--- ---- record 7, of which the numbers are told
+-- ---- record 7, whose numbers are determined
 
--- the object layer's place is one that tokens lead to, but for its life
+-- the object layer's position is one that tokens reach, whether or not it is viable
 pub record IsStated (p : Place) : Type 0 where
   pub stated : AreStated p.stated
   pub subfiles : p.lengths ≡ [] → p.ending ≡ NotEnded
@@ -87,7 +87,7 @@ pub record SameNumbers (ps qs : List Stated) : Type 0 where
 pub same_numbers : (ps qs : List Stated) → stated_numbers ps ≡ stated_numbers qs → SameNumbers ps qs
 same_numbers ps qs e = record { mode = cc e; largest = cc e; announced = cc e; maximum = cc e }
 
--- the numbers are seen alike where they are stated alike
+-- the numbers agree if the stated values do
 pub same_stated : (n : ℕ) (xs ys : List Dataset) → SameNumbers (numbers_of xs) (numbers_of ys) → AllByRecursion InRow (numbers_of xs)
     → AllByRecursion InRow (numbers_of ys) → occurs n xs ≡ occurs n ys
 same_stated n xs ys same a b = grind (arith, by_number, not_stated, occurs_stated n xs, occurs_stated n ys)
@@ -110,7 +110,8 @@ ten_seen : (n : ℕ) (xs : List Dataset) → AreTens xs → occurs n xs ≡ (nat
 ten_seen n [] all = refl
 ten_seen n (x ∷ xs) all = grind (arith, ten_seen n xs all.1, all.0)
 
--- Datasets of the number 10 have the same numbers as others, where there are some of both or none.
+-- Datasets of the number 10 have the same numbers as others, if both lists are empty or both are
+-- not.
 pub tens_seen : (n : ℕ) (xs ys : List Dataset) → AreTens xs → AreTens ys → one_of_some (length xs) ≡ one_of_some (length ys) → occurs n xs ≡ occurs n ys
 tens_seen n xs ys a b e = ten_seen n xs a ∙ ap (λ (k : ℕ). nat_eq k 1 && nat_eq 10 n) e ∙ sym (ten_seen n ys b)
 
@@ -124,7 +125,7 @@ none_other r apart ds (more, are) =
 
 -- ---- all records
 
--- what the place says of the datasets
+-- what the position determines of the datasets
 pub record SameFields (ds es : List Dataset) : Type 0 where
   pub ended : nat_eq (section_after ds) 9 ≡ nat_eq (section_after es) 9
   pub fields : kept ds ≡ kept es

@@ -1,4 +1,5 @@
--- Datasets that tell the same, and what follows them. Plain datasets continue as those do for which they stand.
+-- Equivalent datasets, and what follows them. Witness datasets continue as the datasets do that
+-- they represent.
 use Rattle.std.proofs.Common.{◌≡◌, ℕ, ◌≤◌, ◌||◌, nat_eq, cond, Bool, true, false, List, [], ◌∷◌, ◌++◌, length, Option, Some, None, refl, ap, sym, subst, ◌∙◌, inl, inr, arith, append-nil, append_assoc, ◌<◌, length-append}
 use Rattle.iim_places.proofs.Words.{front_alive, last_more, eqb-true, AllByRecursion, unwrap_or, eq-eqb, filter-append, list_any-append, Octets, greatest_size, Dataset, of_record, all_append, all_back, all_front, Meets, SectionsLive, kept, is_kept, section_after, last_record, IsGoodDataset, IsGoodRecord, occurs, occurrences, repeats, mandatory, subfile_datasets, numbers_of, Stated, InRow, number_at, stated_numbers, numbers_told, LowerLaws, Numbers, number_list, plain_numbers, filled, plain_end, plain, good_elsewhere, part_meets, none_counts, occurrences_append, some_counts, last_of_joined, max_subfiles, one_of_some, all_map, AreSections, option_or, SpellsStream, count_octets, Head, sum_append, SectionsLiveAt, Limits, ending_of, place_after_datasets, lengths_of, HaveSizes, AreWithin, place_at, ObjectLives, HaveRoom, CanContinue, MayContinue, ConfirmedAs, number, Begun, InTag, InData, Sizes, Header, IsMessage, IsEnvelopeWithin, IsText, object_of, map-append, Value}
 use Rattle.iim_places.proofs.SameRecords.{same_stated, same_numbers, stated_after_all, tens_after, SameRecords, tens_seen, SameNumbers, stated_at, AreTens, nines, seen_on}
@@ -12,16 +13,16 @@ pub use Rattle.iim_places.proofs.PlainSizes.{AreBounded}
 use Rattle.iim_dataset.proofs.Lists.{nothing_of_two}
 use Rattle.iim_fields.proofs.{Dies.from_alive, Follows.alive_follows, Follows.fresh_next, Follows.is_coming}
 
--- what occurs once at most occurs no oftener than in other datasets where it is seen as well
+-- What occurs at most once occurs no more often than in other datasets that contain it too.
 pub fewer_by : (n : ℕ) (xs ys : List Dataset) → occurs n xs ≡ occurs n ys → occurrences n ys ≤ 1 → occurrences n ys ≤ occurrences n xs
 fewer_by n xs ys same one = grind (arith, some_counts, none_counts)
 
--- ---- one run for another
+-- ---- one run replaced by another
 
 abbrev pub AreGood : ℕ → List Dataset → Type 0
 AreGood r ds = AllByRecursion (λ d. (d.rec ≡ r) × IsGoodDataset d) ds
 
--- The datasets of the record may be replaced by others.
+-- The datasets of the record can be replaced by others.
 pub record MayReplace (r : ℕ) (xs ys : List Dataset) : Type 0 where
   pub each : AreGood r ys
   pub seen : (n : ℕ) → occurs n xs ≡ occurs n ys
@@ -73,7 +74,7 @@ in_order = by_last InOrder refl step
         rw (kept_append xs (d ∷ []), of_both 7 xs (d ∷ []), of_both 8 xs (d ∷ []), of_both 9 xs (d ∷ []))
         (grind (arith, append_assoc, append-nil, is, later 7, later 8, later 9, known))
 
--- ---- the last run for another
+-- ---- the last run replaced by another
 
 last_replaced : (r : ℕ) (es xs ys : List Dataset) → nat_eq (section_after es) r ≡ false → AreOf r xs → MayReplace r xs ys → SectionsLive (es ++ xs)
     → SectionsLive (es ++ ys)
@@ -97,9 +98,10 @@ last_replaced r es (x ∷ xs) ys other of may (more, whole) =
           )
     ]
 
--- ---- what follows datasets to the sections of an envelope
+-- ---- what completes datasets to the sections of an envelope
 
--- Datasets with one present record, in which the same numbers have occurred, are followed by the same.
+-- Datasets with the same current record, in which the same numbers have occurred, are followed by
+-- the same datasets.
 pub alive_on : (ds es xs : List Dataset) → SectionsLive es → section_after ds ≡ section_after es → SameRecords ds es → SectionsLive (ds ++ xs)
     → SectionsLive (es ++ xs)
 alive_on ds es xs alive present same (later, sections) =
@@ -116,14 +118,14 @@ alive_on ds es xs alive present same (later, sections) =
     let goes = good_with r (of_record r ds) (of_record r es) run may (rw present at good) in
     (later, rw append_assoc (there.comes (xs ++ later) (run, rest, parts, goes, rw present at others)))
 
--- The others continue as the one do.
+-- The others continue as the first ones do.
 pub record Continues (ds es : List Dataset) : Type 0 where
   pub alive : SectionsLive es
   pub present : section_after ds ≡ section_after es
   pub fields : kept ds ≡ kept es
   pub seen : SameRecords ds es
 
--- Datasets of one record after others may be replaced, as the others are.
+-- Datasets of one record after others can be replaced, as the others are.
 replaced : (r : ℕ) (ds es xs ys : List Dataset) → nat_eq 0 r ≡ false → is_kept r ≡ false → of_record r ds ≡ [] → AreOf r xs → MayReplace r xs ys
     → SectionsLive (ds ++ xs) → Continues ds es → Continues (ds ++ xs) (es ++ ys)
 replaced r ds es xs ys zero other none of may alive c =
@@ -140,7 +142,7 @@ mode_meets : (n : ℕ) → n ≤ 1 → Meets 7 10 (n ∷ [])
 unfolding row_of table
 mode_meets n low = grind arith
 
--- ---- how often
+-- ---- numbers of occurrences
 
 sevens_once : (n : ℕ) (numbers : Numbers) → occurrences n (plain_numbers numbers) ≤ 1
 sevens_once n numbers = grind arith
@@ -178,14 +180,14 @@ replace_sevens rows es all = record { each = good; seen = seen; once = λ n no'.
         rw told (all_append InRow _ _ (one 10 _ refl) (all_append InRow _ _ (one 20 _ refl) (all_append InRow _ _ (one 90 _ refl) (one 95 _ refl)))) in
         same_stated n es numbered (same_numbers ps (numbers_of numbered) (sym (ap stated_numbers told ∙ four_told (numbers_in ps)))) all stated
 
--- subfiles may repeat, and there are no others than 8:10 that could not
+-- subfiles may repeat, and 8:10 is the only dataset of its record
 eights_repeat : (n : ℕ) → repeats 8 n ≡ true
 unfolding row_of table
 eights_repeat n = grind arith
 
--- ---- the plain datasets
+-- ---- the witness datasets
 
--- The plain datasets with these fields, numbers and subfiles stand for others.
+-- The witness datasets with these fields, numbers and subfiles represent others.
 pub record HasPlainForm (ds fields : List Dataset) (numbers : Numbers) (heads : ℕ) (object : List ℕ) (ended : Bool) : Type 0 where
   pub alive : SectionsLive ds
   pub few : length (of_record 8 ds) ≤ max_subfiles
@@ -248,7 +250,7 @@ pub alive_at_as : (ds es : List Dataset) (h : Head) → SectionsLive es → sect
     → SectionsLiveAt es h
 alive_at_as ds es h there present same (d, is, alive) = (d, is, alive_on ds es (d ∷ []) there present same alive)
 
--- ---- datasets joined
+-- ---- concatenated datasets
 
 -- the numbers of record 7
 abbrev pub sevens : List Dataset → List Stated
@@ -272,12 +274,12 @@ eights_both xs ys = ap lengths_of (of_both 8 xs ys) ∙ map-append (λ (d : Data
 no_less : (o p : Option ℕ) (n : ℕ) → n ≤ unwrap_or o 0 → n ≤ unwrap_or (option_or o p) 0
 no_less o p n le = grind arith
 
--- Bounds of two joined lists, of which the second stands after another first.
+-- Bounds of two concatenated lists, the second of which also follows another first list.
 bounded_on : (ps qs rs : List Stated) (ls ks ms : List ℕ) → SameNumbers ps qs → AreBounded qs ks → AreBounded (ps ++ rs) (ls ++ ms)
     → AreBounded (qs ++ rs) (ks ++ ms)
 bounded_on ps qs rs ls ks ms same own all = grind (arith, all_append, all_map, at_both, no_less, numbers_on, all_back)
 
--- ---- datasets that tell the same
+-- ---- equivalent datasets
 
 pub record TellTheSame (ds es : List Dataset) : Type 0 where
   pub fields : kept ds ≡ kept es
@@ -293,7 +295,7 @@ heads_same {ds} {es} t = sym (count_of (of_record 8 ds)) ∙ t.object.heads ∙ 
 pub flip : {ds es : List Dataset} → TellTheSame ds es → TellTheSame es ds
 flip {ds} {es} t = grind arith
 
--- the same, which may follow them
+-- the equivalence, for datasets that may follow
 pub record SameTail (xs ys : List Dataset) : Type 0 where
   pub fields : kept xs ≡ kept ys
   pub numbers : sevens xs ≡ sevens ys
@@ -374,7 +376,7 @@ may_as laws limits ds es (InData h taken) there present t goes =
       object = at_as laws ds es h goes.records at goes.within.subfiles goes.room.subfiles t goes.object;
     }
 
--- ---- an envelope, told by its datasets
+-- ---- an envelope, determined by its datasets
 
 abbrev pub value_of : List Dataset → Header → List (List ℕ) → List ℕ → Sizes → Value
 value_of ds head lines trailer sizes = record { fields = kept ds; head = head; lines = lines; trailer = trailer; sizes = sizes }
@@ -390,7 +392,8 @@ one_nine : (xs : List Dataset) → length xs ≡ 1 → AreTens xs → (n : ℕ) 
 one_nine (d ∷ []) one tens = (number d.octets, refl, ap (λ (set : ℕ). cond (nat_eq set 10) (Some (number d.octets)) None) tens.0)
 one_nine xs one tens = absurd (omega (arith, one))
 
--- Where every layer can continue after datasets, of which the last is 9:10, they are those of an envelope.
+-- If every layer can continue after datasets, the last of which is 9:10, they are those of an
+-- envelope.
 pub enveloped : LowerLaws → (limits : Limits) (octets : List ℕ) (ds : List Dataset) (head : Header) (text trailer : List ℕ) (lines : List (List ℕ))
     → SpellsStream count_octets ds octets → CanContinue limits ds → section_after ds ≡ 9 → IsMessage (object_of ds) head text trailer → IsText text lines
     → Enveloped limits octets ds head lines trailer

@@ -1,4 +1,4 @@
--- What a ticket is restored to stands where the saved unpacker stood; and octets have a place.
+-- The unpacker restored from a ticket is in the state of the saved one; and octets have a position.
 use Rattle.std.proofs.Common.{◌≡◌, ℕ, ◌<◌, ◌^◌, List, [], get_or, ap, refl, sym, subst, ◌∙◌, inr, arith, append-nil}
 use Rattle.iim_places.proofs.Words.{Dataset, Begun, Limits, saved, Value, OctetsHaveOnePlace, TicketsTellOnePlace, LowerLaws, object_so_far, IsOpen, AreOpenOrWhole, widest, IsPossibleIn, IsTicketAt, IsEnvelopeWithin, IsPlaceOf, present_version, place_of, ticket_in, ticket_of, MayContinue, AllCanContinue}
 use Rattle.iim_places.proofs.{Answering.lives_as, Answering.one_reading, Following.message_of, Following.story_of, Tickets.same_place}
@@ -6,7 +6,7 @@ use Rattle.wire_message.specs.States.Reading.{LeadsTo}
 use Rattle.wire_message.specs.declared.place.Place.{Place as Message}
 use Rattle.iim_places.specs.Format.Tickets.{Place}
 
--- ---- the place of octets
+-- ---- the position of octets
 
 pub one_place : LowerLaws → (start : Message) → LeadsTo [] [] start → OctetsHaveOnePlace
 one_place laws start begins limits octets comes =
@@ -44,7 +44,7 @@ whole_wider limits octets v less few whole = record { admits = whole.admits; wit
 
 -- ---- the restored unpacker
 
--- the place of octets is the one that their ticket is restored to
+-- the position of octets is the one that their ticket is restored to
 pub at_restored : TicketsTellOnePlace → (p ticket : List ℕ) (here there : Place) → IsPlaceOf p here → AreOpenOrWhole widest p → ticket ≡ ticket_of here
     → IsTicketAt ticket there → IsPlaceOf p there
 at_restored one p ticket here there is comes left right =

@@ -1,4 +1,4 @@
--- Places that were possible by smaller sizes, and by the sizes that there are.
+-- Positions that were possible by smaller sizes, and by the present sizes.
 use Rattle.std.proofs.Common.{◌≡◌, ◌&&◌, nat_lt, ℕ, ◌-◌, ◌≤◌, nat_eq, if◌then◌else◌, Bool, true, false, List, [], ◌∷◌, ◌++◌, length, map, sum, refl, ap, sym, subst, ◌∙◌, inl, inr, arith, ◌^◌, ◌<◌, append-nil, length-append, ◌⊎◌, ◌||◌}
 use Rattle.iim_places.proofs.Words.{IsLongField, AllByRecursion, eqb-true, Dataset, SpellsDataset, SpellsStream, count_octets, head_of, of_record, IsAlive, Begun, InTag, InData, IsBegun, Reads, Head, all_front, all_back, section_after, tells_number, SubfileBegun, ObjectEnded, Confirmed, number_tokens, numbers_of, Stated, TokensWithin, LanguageWithin, LowerLaws, object_of, AreWithin, object_so_far, section, Possible, IsSmall, IsSmallPhase, IsSmallPlace, greatest_size_before, widest, Scale, FitsRow, SectionsLiveIn, HaveRoomIn, IsOpenIn, PossibleAt, place_in, first_scale, IsPlaceOf, phase_of, MayContinue, unwrap_or, lt-ltb, IsOctet, SpellsTag, canonical_tag, canonical_dataset, canonical_stream, all_append, all_map, HasSpellings, AreSections, place_after_datasets, number_dataset, ending_tokens, within_append, begun_within, SmallPlacesWerePossible, Numbers, number_list, plain_numbers, plain, within, greatest_size, within_most_and, Meets, IsGoodDataset, SectionsIn, PresentScaleSaysNothingMore, cases_Bool, present_scale, AreKept, LeadsByLayers, are_ended, nat_tests, map-append, IsGoodRecord, occurs, occurrences, occurrences_cons, mandatory, AreRecords, records, good_elsewhere, place_at, BeginsTag, IsWholeIn, LeadsToSaved, MessagePlace, AllCanContinue}
 use Rattle.iim_places.proofs.{Answering.reads_envelope, Answering.coming, Bounds.told_in, Bounds.part_of_whole, Bounds.object_fits, Bounds.sized, Bounds.low}
@@ -14,7 +14,7 @@ use Rattle.iim_object.specs.Laws.{PlacesLiveWithin}
 use Rattle.iim_tables.specs.Format.Rows.{table, row_of}
 use Rattle.iim_object.specs.Format.Objects as objects
 
--- ---- spellings with shorter counts
+-- ---- encodings with shorter counts
 
 wider_stream : (limit : ℕ) → limit ≤ count_octets → (ds : List Dataset) (xs : List ℕ) → SpellsStream limit ds xs → SpellsStream count_octets ds xs
 wider_stream limit le [] xs s = s
@@ -26,7 +26,7 @@ wider_reads limit le xs ds b r = grind (arith, wider_stream)
 rows_of : (s : Scale) (ds : List Dataset) (b : Begun) → SectionsLiveIn s ds b → AllByRecursion (FitsRow s) ds
 rows_of s ds b alive = grind (arith, all_front)
 
--- ---- open octets
+-- ---- incomplete octets
 
 may_continue : (s : Scale) (ds : List Dataset) (b : Begun) → SectionsLiveIn s ds b → AreWithin widest ds → HaveRoomIn widest ds b
     → IsAlive (LanguageWithin s.greatest) (objects.tokens_of (place_in ds b)) → MayContinue widest ds b
@@ -48,13 +48,13 @@ still s le place p = record {
   ];
 }
 
--- ---- sizes of the place
+-- ---- sizes of the position
 
--- the numbers that datasets tell are at most this one
+-- the numbers in datasets are at most this one
 abbrev AreLow : ℕ → List Dataset → Type 0
 AreLow most ds = AllByRecursion (λ (p : Stated). p.number ≤ most) (numbers_of ds)
 
--- each number of record 7, or of record 9, is at most the greatest size
+-- each number of record 7 or of record 9 is at most the greatest size
 stated_low : (s : Scale) (r : ℕ) → tells_number r ≡ true → (ds : List Dataset) → AllByRecursion (FitsRow s) ds → AreLow s.greatest (of_record r ds)
 stated_low s r told [] all = tt
 stated_low s r told (d ∷ ds) all = grind (arith, stated_low s r told ds all.1, all.0, eqb-true)
@@ -66,7 +66,7 @@ confirmed_low most [] [] n all = all.0
 confirmed_low most [] (l ∷ ls) n all = confirmed_low most [] ls n all
 confirmed_low most (p ∷ ps) ls n all = confirmed_low most ps ls n all.1
 
--- so the subfiles have no more together
+-- so the subfiles together have no more
 total_low : (most : ℕ) (p : objects.Place) → IsAlive (LanguageWithin most) (objects.tokens_of p) → sum p.lengths ≤ most
 total_low most p (rest, (lang, within)) =
     let all = confirmed_low most lang.stated lang.lengths lang.confirmed (rw lang.tokens_are at within) in
@@ -81,7 +81,7 @@ small_phase octets ds (InData h taken) reads (d, head, alive) low =
     let all = so_far_by (nat_eq h.rec 8) (nat_eq h.rec 9) ds taken h.count (h.count - length taken) (let less = reads.is_rest.2 in omega (arith, less)) in
     grind arith
 
--- ---- places
+-- ---- positions
 
 small_of : LowerLaws → (place : Place) (octets : List ℕ) → IsPlaceOf octets place → (ds : List Dataset) (b : Begun) → Reads count_octets octets ds b
     → AllByRecursion (FitsRow first_scale) ds → length (object_so_far ds b) ≤ greatest_size_before
@@ -94,7 +94,7 @@ small_of laws place octets leads ds b reads rows taken phase =
 small_between : (ds : List Dataset) → BeginsTag count_octets [] → IsSmallPhase (section_after ds) (length (object_of ds)) (phase_of ds (InTag []))
 small_between ds begins = grind (arith, small_tag [] begins)
 
--- What was possible is possible, and keeps to the first sizes.
+-- What was possible is possible, and within the first sizes.
 still_possible : LowerLaws → (place : Place) → PossibleAt first_scale place → Possible place × IsSmallPlace place
 still_possible laws place p = (
   still first_scale (omega arith) place p,
@@ -116,7 +116,7 @@ still_possible laws place p = (
 abbrev short_number : List ℕ
 short_number = 0 ∷ 0 ∷ 0 ∷ 1 ∷ []
 
--- The data are no longer than the first scale allows, and four octets tell their length.
+-- The data are no longer than the first scale allows, and four octets encode their length.
 abbrev Low : Dataset → Type 0
 Low d = (length d.octets < 2 ^ 32) × (tells_number d.rec ≡ true → length d.octets ≤ 4)
 
@@ -126,7 +126,7 @@ shrink d = record d {
       else (if nat_eq d.rec 8 && nat_lt greatest_size_before (length d.octets) then [] else d.octets);
 }
 
--- the row of a number that is too long takes a short one
+-- the row of a number that is too long accepts a short one
 number_takes : (r set : ℕ) (xs : List ℕ) → tells_number r ≡ true → Meets r set xs → 4 < length xs → Meets r set short_number
 unfolding row_of table
 number_takes r set xs told = grind (arith, told_in)
@@ -135,7 +135,7 @@ eight_takes : (set : ℕ) (xs : List ℕ) → Meets 8 set xs → Meets 8 set []
 unfolding row_of table
 eight_takes set xs = by_ten 8 eight_has xs (λ k. Meets 8 k []) (λ h. refl) set
 
--- The data of a good dataset may be replaced so that it fits its row by the first scale.
+-- The data of a valid dataset can be replaced so that it fits its row by the first scale.
 shrink_fits : (d : Dataset) → IsGoodDataset d → IsGoodDataset (shrink d) × FitsRow first_scale (shrink d)
 shrink_fits d good = elim (cases_Bool (tells_number d.rec && nat_lt 4 (length d.octets))) [
   | inl long ↦ rw long (grind (arith, nat_tests, told_in, number_takes, good_elsewhere))
@@ -147,7 +147,7 @@ shrink_fits d good = elim (cases_Bool (tells_number d.rec && nat_lt 4 (length d.
 
 -- ---- records
 
--- what is short stays
+-- short data are unchanged
 all_same : (ds : List Dataset) → AllByRecursion Low ds → map shrink ds ≡ ds
 all_same [] all = refl
 all_same (d ∷ ds) all = grind (arith, nat_tests, all_same ds all.1, all.0)
@@ -178,11 +178,12 @@ good_sections : (ds : List Dataset) → AreSections ds → SectionsIn first_scal
 good_sections ds are =
     (good_records records ds are, all_mapped IsGoodDataset (FitsRow first_scale) ds (λ d good. (shrink_fits d good).1) (each_good ds are))
 
--- Datasets that are short, and from which the record layer can continue, fit, and can continue to ones that fit.
+-- Datasets that are short, and after which the record layer can continue, fit, and can continue to
+-- datasets that fit.
 sections_live_small : (ds : List Dataset) → IsAlive AreSections ds → AllByRecursion Low ds → IsAlive (SectionsIn first_scale) ds
 sections_live_small ds (more, are) short = (map shrink more, rw (map-append shrink ds more, all_same ds short) at (good_sections (ds ++ more) are))
 
--- ---- spellings with few count octets
+-- ---- encodings with few count octets
 
 few_tag : (h : Head) → IsOctet h.rec → IsOctet h.set → h.count < 2 ^ 32 → SpellsTag 4 h (canonical_tag h)
 few_tag h r s few = grind arith
@@ -194,7 +195,7 @@ few_stream (d ∷ ds) all few =
     let first : SpellsDataset 4 d (canonical_dataset d) = grind
     (arith, tag, all.0) in (canonical_dataset d, canonical_stream ds, first, few_stream ds all.1 few.1, refl)
 
--- ---- plain datasets are short
+-- ---- witness datasets are short
 
 low_fields : (ds : List Dataset) → AreKept ds → AllByRecursion IsLongField ds → AllByRecursion Low ds
 low_fields [] all few = tt
@@ -229,7 +230,7 @@ tokens_within s ds rows p is end' =
     within_append s.greatest (number_tokens p.stated) _ (rw is (numbers_within s.greatest (numbers_of (of_record 7 ds)) (stated_low s 7 refl ds rows)))
     (within_append s.greatest (map SubfileBegun p.lengths) _ (begun_within s.greatest p.lengths) end')
 
--- and so is the size that is confirmed
+-- and the confirmed size is so too
 end_at : (most : ℕ) (b c : Bool) (ds : List Dataset) (count : ℕ) → AreLow most (of_record 9 ds)
     → TokensWithin most (ending_tokens (at_tests b c ds count).ending)
 end_at most b c ds count last = grind arith
@@ -241,7 +242,8 @@ within_in s ds (InData h taken) rows =
     tokens_within s ds rows (place_at ds h) (stated_by (nat_eq h.rec 8) (nat_eq h.rec 9) ds h.count)
     (end_at s.greatest (nat_eq h.rec 8) (nat_eq h.rec 9) ds h.count (stated_low s 9 refl ds rows))
 
--- What the scale asks of plain datasets and what is begun after them: octets that spell them by it, rows, and the size of the object.
+-- What the scale requires of witness datasets and the partial one after them: octets that encode
+-- them by it, rows, and the size of the object.
 record KeepTo (s : Scale) (place : Place) (l : LeadsByLayers place) (p : Opens place l) : Type 0 where
   few : s.octets ≤ count_octets
   one : 1 ≤ s.greatest
@@ -251,7 +253,7 @@ record KeepTo (s : Scale) (place : Place) (l : LeadsByLayers place) (p : Opens p
   records : SectionsLiveIn s (plain_of place l p.object) p.begun
   low : sum (place_in (plain_of place l p.object) p.begun).lengths ≤ s.greatest
 
--- A place where each layer can be is possible by each scale to which its plain datasets keep.
+-- A position that each layer can reach is possible by each scale that its witness datasets satisfy.
 possible_by : LowerLaws → PlacesLiveWithin → (s : Scale) (place : Place) (l : LeadsByLayers place) (p : Opens place l) → KeepTo s place l p → PossibleAt s place
 possible_by laws law s place l p k =
     let ds = plain_of place l p.object in
@@ -306,16 +308,16 @@ possible_by laws law s place l p k =
       ] refl;
     }
 
--- how many octets the subfiles have with a begun one
+-- the size of the subfiles with a partial one
 sum_in : (ds : List Dataset) (b : Begun) (rest : List ℕ) → IsBegun count_octets b rest → length (object_so_far ds b) ≤ greatest_size_before
     → IsSmallPhase (section ds b) (length (object_so_far ds b)) (phase_of ds b) → sum (place_in ds b).lengths ≤ greatest_size_before
 sum_in ds (InTag held) rest is low small = omega (arith, total_of (of_record 8 ds), low)
 sum_in ds (InData h got) rest is low small =
     grind (arith, so_far_by (nat_eq h.rec 8) (nat_eq h.rec 9) ds got h.count (h.count - length got) (omega (arith, is.2)))
 
--- ---- what is begun
+-- ---- the partial dataset
 
--- some octets that spell it with few count octets, and data that fit its row
+-- some octets that encode it with few count octets, and data that fit its row
 small_begun : (octets : List ℕ) (ds : List Dataset) (b : Begun) → Reads count_octets octets ds b → MayContinue widest ds b
     → (nat_eq (section_after ds) 9 ≡ true → b ≡ InTag []) → AllByRecursion Low ds → IsSmallPhase (section ds b) (length (object_so_far ds b)) (phase_of ds b)
     → ((r : List ℕ) × IsBegun 4 b r) × SectionsLiveIn first_scale ds b
@@ -334,7 +336,7 @@ small_begun octets ds (InData h got) reads goes last short small =
 
 -- ---- both
 
--- what has come of the object with what is begun is no less
+-- the object with the partial dataset is no shorter
 so_far_more : (ds : List Dataset) (b : Begun) → length (object_of ds) ≤ length (object_so_far ds b)
 so_far_more ds b = grind (arith, length-append)
 
@@ -394,7 +396,7 @@ present_possible laws law place l =
       low = object_fits (place_in ds p.begun) (lives_in ds p.begun p.goes);
     })
 
--- A place where each layer can be is possible.
+-- A position that each layer can reach is possible.
 pub layers_lead : LowerLaws → PlacesLiveWithin → (place : Place) → LeadsByLayers place → Possible place
 layers_lead laws law place l = still present_scale (omega arith) place (present_possible laws law place l)
 

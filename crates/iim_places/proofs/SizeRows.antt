@@ -16,7 +16,7 @@ by_number P mode largest announced maximum other n =
     one_of P n (10 ∷ 20 ∷ 90 ∷ 95 ∷ []) (mode, (largest, (announced, (maximum, tt))))
     (λ apart. other n (record { mode = apart.0.0; largest = apart.1.0.0; announced = apart.1.1.0.0; maximum = apart.1.1.1.0.0 }))
 
--- a record that has a row for the number 10 alone
+-- a record whose only row is the number 10
 abbrev pub HasTen : ℕ → Type 0
 HasTen r = (n : ℕ) → nat_eq 10 n ≡ false → row_of r n ≡ None
 

@@ -2,7 +2,7 @@
 use Rattle.std.proofs.Common.{◌≡◌, ℕ, ◌<◌, ◌≤◌, List, [], ◌∷◌, ◌++◌, length, get_or, refl, ap, sym, ◌∙◌, inr, arith, append_assoc, length-append}
 use Rattle.iim_places.proofs.{Following.longer_front, Words.cases_lt, Words.SpellsCount, Words.SpellsTag, Words.count_octets, Words.BeginsTag, Words.Head}
 
--- a count of fewer octets is one of more
+-- a count with fewer octets is one with more
 wider_count : (limit most n : ℕ) (xs : List ℕ) → limit ≤ most → SpellsCount limit n xs → SpellsCount most n xs
 wider_count limit most n xs le spelled = grind arith
 
@@ -41,10 +41,10 @@ short_begins limit r s low held more rest one small less short e =
       };
     }
 
--- Held octets of a tag begin one of at most four count octets where the fifth does not say more.
+-- Octets of a partial tag begin one with at most four count octets if the fifth is not greater.
 pub small_tag : (held : List ℕ) → BeginsTag count_octets held → (4 < length held → get_or held 3 0 ≡ 128 → get_or held 4 0 ≤ 4) → BeginsTag 4 held
 small_tag held b few = grind (arith, cases_lt, fourth, short_begins)
 
--- and where it says more they don't
+-- and if it is greater they do not
 pub no_small_tag : (held : List ℕ) → 4 < length held → get_or held 3 0 ≡ 128 → 4 < get_or held 4 0 → BeginsTag 4 held → ⊥
 no_small_tag held long form many b = grind (arith, fourth)

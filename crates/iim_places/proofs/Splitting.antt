@@ -1,4 +1,4 @@
--- What octets begin with is determined: their layout has one reading.
+-- The encoding at the start of octets is determined: the layout has one reading.
 use Rattle.std.proofs.Common.{◌≡◌, ℕ, ◌+◌, ◌-◌, ◌<◌, ◌^◌, nat_eq, zero, suc, List, [], ◌∷◌, ◌++◌, length, take, drop, get_or, Some, None, refl, ap, sym, subst, ◌∙◌, inl, inr, arith, append_assoc, append-nil, length-append}
 use Rattle.iim_places.proofs.Words.{cases_Bool, flat_map-append, take-append-drop, length-take, AllByRecursion, flat_map, Dataset, all_append, four, TagBegun, DataBegun, AllEnded, ticket_name, wide, phase_octets, field_octets, fields_octets, text_octets, IsLongField, came, AreFields, AreNumbersIn, AreTexts, IsSizeIn, IsShort, IsWide, IsPhase, Split, split_octets, TicketsHaveOneSplit, AreNoMessage, AreNoBody, BeginsWithNoData, body_octets}
 use Rattle.std.proofs.lemmas.Grind.{common_steps}
@@ -8,13 +8,13 @@ use Rattle.iim_dataset.specs.Steps.{same_front}
 use Rattle.iim_places.specs.{Format.Tickets.number_octets, Restoring.BeginsWithNone, Restoring.BeginsWithFewer, Restoring.FieldsBefore, Restoring.IsFour}
 use Rattle.iim_places.specs.TicketParts.{HoldsFields, first_same, rest_same, one_four, one_field, some_octets, same_fields}
 
--- octets that two spellings begin have one reading
+-- octets with two encoded prefixes have one reading
 abbrev pub HasOne : {X : Type 0} → (X → Type 0) → (X → List ℕ) → Type 0
 HasOne Is spelled = (x y : _) (a b : List ℕ) → Is x → Is y → spelled x ++ a ≡ spelled y ++ b → (x ≡ y) × (a ≡ b)
 
 -- ---- numbers and texts
 
--- a number as wide as the version has it
+-- a number in the width of the version
 one_wide : (version : ℕ) → HasOne (IsWide version) (wide version)
 one_wide version m n a b hm hn e = elim (cases_Bool (nat_eq version 1)) [
   | inl first ↦ one_four m n a b (rw first at hm) (rw first at hn) (rw first at e)
@@ -30,7 +30,7 @@ one_number version x y a b hx hy e = absurd (let bad = first_same e in omega (ar
 
 -- ---- lists of them
 
--- Lists of as many have one reading.
+-- Lists of the same length have one reading.
 one_list : {X : Type 0} (Is : X → Type 0) (spelled : X → List ℕ) → HasOne Is spelled → (xs ys : List X) (a b : List ℕ) → AllByRecursion Is xs
     → AllByRecursion Is ys → length xs ≡ length ys → flat_map spelled xs ++ a ≡ flat_map spelled ys ++ b → (xs ≡ ys) × (a ≡ b)
 one_list Is spelled one [] [] a b h k n e = (refl, e)
@@ -40,26 +40,26 @@ one_list Is spelled one (x ∷ xs) (y ∷ ys) a b h k n e =
     ((let p = first.0 in let q = more.0 in cc), more.1)
 one_list Is spelled one xs ys a b h k n e = absurd (omega (arith, n))
 
--- ---- a walk over datasets
+-- ---- an iterator over datasets
 
--- After a dataset the rest holds the others.
+-- After a dataset the rest encodes the others.
 pub rest_held : (octets rest : List ℕ) (d : Dataset) → HoldsFields octets → IsLongField d → octets ≡ field_octets d ++ rest → HoldsFields rest
 rest_held octets rest d ([], (each, same)) h e = absurd (some_octets d rest (sym e ∙ same))
 rest_held octets rest d (x ∷ xs, (each, same)) h e = (xs, (each.1, sym (one_field x d (flat_map field_octets xs) rest each.0 h (sym same ∙ e)).1))
 
--- What is held is the first dataset, and what the rest holds.
+-- The datasets are the first one, and those of the rest.
 pub first_held : (octets rest : List ℕ) (d : Dataset) (h : HoldsFields octets) (k : HoldsFields rest) → IsLongField d → octets ≡ field_octets d ++ rest
     → h.0 ≡ d ∷ k.0
 first_held octets rest d h k hd e = same_fields h.0 (d ∷ k.0) h.1.0 (hd, k.1.0) (sym h.1.1 ∙ e ∙ ap (λ (xs : List ℕ). field_octets d ++ xs) k.1.1)
 
--- Octets that begin with no dataset hold none.
+-- Octets that do not begin with a dataset encode none.
 pub none_held : (octets : List ℕ) (h : HoldsFields octets) → BeginsWithNone IsLongField field_octets octets → h.0 ≡ []
 none_held octets ([], held) none = refl
 none_held octets (d ∷ ds, held) none = absurd (none d (flat_map field_octets ds) held.0.0 held.1)
 
 -- ---- datasets one after another
 
--- One dataset more stands before the rest.
+-- One more dataset precedes the rest.
 pub one_more : (count : ℕ) (octets rest after : List ℕ) (d : Dataset) → FieldsBefore count octets rest → IsLongField d → rest ≡ field_octets d ++ after
     → FieldsBefore (count + 1) octets after
 one_more count octets rest after d before hd e = record {
@@ -69,7 +69,7 @@ one_more count octets rest after d before hd e = record {
   spelled = before.spelled ∙ rw (e, flat_map-append) (simp (append_assoc, append-nil));
 }
 
--- Where no dataset follows some, there are not more.
+-- If no dataset follows some, there are no more.
 pub no_more : (done : List Dataset) (count : ℕ) (octets rest : List ℕ) → AllByRecursion IsLongField done → length done < count
     → octets ≡ flat_map field_octets done ++ rest → BeginsWithNone IsLongField field_octets rest → BeginsWithFewer IsLongField field_octets count octets
 no_more done count octets rest all less parts none [] more each many e = omega (arith, less, many)
@@ -79,7 +79,7 @@ no_more (d ∷ done) count octets rest all less parts none (x ∷ xs) more each 
     let first = one_field d x _ _ all.0 each.0 (simp append_assoc at (sym parts ∙ e)) in
     no_more done (length xs) _ rest all.1 (omega (arith, less, many)) refl none xs more each.1 refl first.1
 
--- The datasets before a rest are those that are held, and they stand there after their number.
+-- The datasets before a rest are those that are encoded, and their number precedes them.
 pub cut_told : (all : List ℕ) (count : ℕ) (octets rest front back : List ℕ) → count < 2 ^ 32 → all ≡ four count ++ octets → FieldsBefore count octets rest
     → front ≡ take (length octets - length rest) octets
     → back ≡ drop (length octets - length rest) octets → (ds : List Dataset) → AllByRecursion IsLongField ds → front ≡ flat_map field_octets ds
@@ -123,7 +123,7 @@ one_phase version section p q a b hx hy e = absurd (let bad = first_same e in om
 
 -- ---- texts and numbers, one after another
 
--- what follows octets is found by their number
+-- what follows octets is determined by their number
 pub cut : (x a : List ℕ) → (x ++ a ≡ x ++ a) × (drop (length x) (x ++ a) ≡ a)
 cut x a = (refl, grind (arith, common_steps))
 
@@ -135,18 +135,18 @@ pub seven : (xs : List (List ℕ)) (a : List ℕ) → AreTexts xs
 seven (a ∷ b ∷ c ∷ d ∷ e ∷ f ∷ g ∷ []) r is = (simp append_assoc, is.each)
 seven xs r is = absurd (omega (arith, is.seven))
 
--- texts with which the octets end
+-- texts at the end of the octets
 pub ending : (xs : List (List ℕ)) → flat_map text_octets xs ≡ flat_map text_octets xs ++ []
 ending xs = sym (append-nil (flat_map text_octets xs))
 
 -- ---- the parts, one after another
 
--- None of this kind stands first; or one does, and what follows it lacks more.
+-- No item of this kind comes first; or one does, and something is missing in what follows it.
 pub data Lacks {X : Type 0} (Is : X → Type 0) (spelled : X → List ℕ) (Later : List ℕ → Type 0) (rest : List ℕ) : Type 0 where
   Missing : BeginsWithNone Is spelled rest → Lacks Is spelled Later rest
   After : (x : X) (after : List ℕ) → Is x → rest ≡ spelled x ++ after → Later after → Lacks Is spelled Later rest
 
--- of what follows the section, the first part that is missing
+-- the first part that is missing after the section
 abbrev pub LacksBody : ℕ → ℕ → List ℕ → Type 0
 LacksBody version section =
     Lacks (IsPhase version section) (phase_octets version) (Lacks AreFields fields_octets (Lacks (AreNumbersIn version) (flat_map (number_octets version))
@@ -157,7 +157,7 @@ lacks_on : {X : Type 0} (Is : X → Type 0) (spelled : X → List ℕ) (Later : 
 lacks_on Is spelled Later one (Missing none) y more is e = absurd (none y more is e)
 lacks_on Is spelled Later one (After x after fits parts later) y more is e = subst Later (one x y after more fits is (sym parts ∙ e)).1 later
 
--- of four numbers, the first that is missing
+-- the first of four numbers that is missing
 abbrev LacksNumbers : ℕ → ℕ → List ℕ → Type 0
 LacksNumbers version zero rest = ⊥
 LacksNumbers version (suc n) rest = Lacks (IsSizeIn version) (number_octets version) (LacksNumbers version n) rest
@@ -184,7 +184,7 @@ no_body version octets rest section first lacks s at form e =
 
 -- ---- a ticket
 
--- A ticket has one split.
+-- A ticket has one list of parts.
 pub one_split : TicketsHaveOneSplit
 one_split ticket s t x y =
     let hs = x.form in
@@ -204,7 +204,7 @@ one_split ticket s t x y =
     let texts = one_texts s.texts t.texts [] [] hs.texts ht.texts (ap (λ (l : List ℕ). l ++ []) last) in
     grind (arith, at, section, phase.0, fields.0, numbers.0, taken.0, heads.0, heads.1, texts.0)
 
--- ---- what is begun is no data
+-- ---- the partial dataset is not data
 
 pub no_begun : (version section kind : ℕ) (octets rest : List ℕ) → octets ≡ kind ∷ rest → kind ≡ 1 → BeginsWithNoData version section rest
     → BeginsWithNone (IsPhase version section) (phase_octets version) octets

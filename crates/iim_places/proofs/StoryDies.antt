@@ -1,4 +1,4 @@
--- With which octets the story of an object dies.
+-- The octets with which the story of an object is no longer viable.
 use Rattle.std.proofs.Common.{◌≡◌, ℕ, zero, suc, ◌+◌, ◌<◌, ◌⊎◌, Bool, true, false, List, [], ◌∷◌, ◌++◌, length, replicate, refl, ap, ◌∙◌, inl, inr, arith, append-nil, append_assoc}
 use Rattle.iim_places.proofs.Words.{list_any, position_or_len, after_first, cases_Bool, ne_eqb, nat_tests, list_any-append, list_all-append, drop-append-add, IsOctet, IsTextSoFar, Holds, is_line_octet, LowerLaws, after_stx, text_so_far, StoryDiesWith, IsInText}
 use Rattle.iim_places.proofs.Living.{after_found, after_none, before_found, before_later, before_all, place_later, is_etx, is_stx}
@@ -7,7 +7,7 @@ use Rattle.wire_story.proofs.SoFar.{so_far_two}
 
 -- ---- the text has begun, and has not ended
 
--- nothing stands after the first octet of a kind where it is the last one, or none is of the kind
+-- nothing follows the first octet of a kind if it is the last octet, or if there is none
 after_last : (p : ℕ → Bool) (x : List ℕ) (b : ℕ) → list_any p x ≡ false → after_first p (x ++ b ∷ []) ≡ []
 after_last p x b none =
     let sum : position_or_len p (x ++ b ∷ []) + 1 ≡ length x + (position_or_len p (b ∷ []) + 1) = omega (arith, place_later p x (b ∷ []) none) in
@@ -26,7 +26,7 @@ in_text o b (lives, dies) = elim (cases_Bool (list_any is_stx o)) [
   )
 ]
 
--- an octet of the text that leads to a text so far
+-- an octet of the text that reaches an incomplete text
 no_death : LowerLaws → (o : List ℕ) (b held : ℕ) → StoryDiesWith o b → (b ≡ 3 → ⊥) → Holds (text_so_far o ++ b ∷ []) held → ⊥
 no_death laws o b held dies other holds =
     let is = in_text o b dies in
@@ -35,9 +35,9 @@ no_death laws o b held dies other holds =
     let all : list_any is_etx (s ++ b ∷ []) ≡ false = rw (list_any-append is_etx s (b ∷ []), is.1, ne_eqb b 3 other) refl in
     dies.1 (rw (after_found is_stx o (b ∷ []) is.0, before_all is_etx (s ++ b ∷ []) all, all, append-nil) alive)
 
--- ---- texts so far with one octet more
+-- ---- incomplete texts with one more octet
 
--- a text so far continues as its last line does
+-- an incomplete text continues as its last line does
 goes_on : (x y : List ℕ) (lines new : List (List ℕ)) (line last : List ℕ) (held returns : ℕ)
     → ((z : List ℕ) → IsTextSoFar z [] line held → IsTextSoFar (z ++ y) new last returns) → IsTextSoFar x lines line held
     → IsTextSoFar (x ++ y) (lines ++ new) last returns
@@ -49,14 +49,14 @@ one_more : (b n : ℕ) → replicate n b ++ b ∷ [] ≡ replicate (n + 1) b
 one_more b zero = refl
 one_more b (suc n) = (λ i. b ∷ one_more b n i) ∙ ap (λ (k : ℕ). replicate k b) (let same : suc (n + 1) ≡ suc n + 1 = omega arith in same)
 
--- an octet that stands in no line, and is no part of its end
+-- an octet that is not allowed in a line, and is no part of its end
 control_octet : (b : ℕ) → b < 256 → is_line_octet b ≡ false → (b ≡ 3 → ⊥) → (b ≡ 10 → ⊥) → (b ≡ 13 → ⊥) → (b ≡ 1) ⊎ ((b ≡ 2) ⊎ (b ≡ 4))
 control_octet b low other not3 not10 not13 = grind (arith, nat_tests)
 
--- ---- why it dies
+-- ---- why the story is no longer viable
 
 module _ (laws : LowerLaws) (o : List ℕ) (b : ℕ) (dies : StoryDiesWith o b) where
-  -- an LF never kills
+  -- LF is always accepted
   no_feed : (held : ℕ) → Holds (text_so_far o) held → b ≡ 10 → ⊥
   no_feed held (lines, line, so_far) feed =
       no_death laws o b 0 dies (λ three. omega (arith, three, feed)) (rw feed (
@@ -66,7 +66,7 @@ module _ (laws : LowerLaws) (o : List ℕ) (b : ℕ) (dies : StoryDiesWith o b) 
             (λ z is. (is.0, held, is.1, [], rw is.2 (simp (append_assoc, append-nil)), (refl, omega arith, refl))) so_far,
       ))
 
-  -- nor does a CR where it is the first or the second
+  -- a CR is accepted if it is the first or the second
   no_return : (held : ℕ) → held < 2 → Holds (text_so_far o) held → b ≡ 13 → ⊥
   no_return held less (lines, line, so_far) return' =
       no_death laws o b (held + 1) dies (λ three. omega (arith, three, return')) (rw return' (
@@ -76,7 +76,7 @@ module _ (laws : LowerLaws) (o : List ℕ) (b : ℕ) (dies : StoryDiesWith o b) 
             (λ z is. (is.0, omega (arith, less), rw (is.2, append_assoc, one_more 13 held) refl)) so_far,
       ))
 
-  -- where CR are held: an octet that is neither LF nor the second CR
+  -- if CR are pending: an octet that is neither LF nor the second CR
   pub lone_return : (held : ℕ) → 0 < held → Holds (text_so_far o) held → IsLoneReturn held b
   lone_return held some (lines, line, so_far) = (
     some,
@@ -85,7 +85,8 @@ module _ (laws : LowerLaws) (o : List ℕ) (b : ℕ) (dies : StoryDiesWith o b) 
         omega (arith, so_far_two (text_so_far o) lines line held so_far, full),
   )
 
-  -- where none are held: SOH, STX or EOT, since each other octet may stand in a line, or ends the text or a line
+  -- if none are pending: SOH, STX or EOT, since each other octet is allowed in a line, or ends the
+  -- text or a line
   pub control : IsOctet b → Holds (text_so_far o) 0 → (b ≡ 1) ⊎ ((b ≡ 2) ⊎ (b ≡ 4))
   control low holds = let (lines, line, so_far) = holds in elim (cases_Bool (is_line_octet b)) [
     | inr other ↦ control_octet b low other no_end (no_feed 0 holds) (no_return 0 (omega arith) holds)

@@ -1,10 +1,10 @@
--- What takes whole datasets one after another: takes joined, and datasets that can continue.
+-- Consumers of complete datasets: consuming lists in turn, and datasets that can continue.
 use Rattle.std.proofs.Common.{◌≡◌, ℕ, ◌≤◌, ◌≢◌, Bool, true, false, Option, Result, Ok, Err, OnOk, IfOk, IfErr, is_ok, List, [], ◌∷◌, ◌++◌, refl, subst, ◌∙◌, rules, arith, append_assoc}
 use Rattle.iim_places.proofs.Words.{AllByRecursion, Dataset, head_of, Head, all_front, all_back, TakesHead, HasChecked, HasTaken, IsChecking, IsValueFault, SectionsLive, AreSections, records, IsGoodDataset, data_of, number_told, RecordPlace, FieldFault, Limits, front_alive, mode_dataset, widest, CanContinueWithin, TookDatasets}
 use Rattle.iim_places.proofs.{Bounds.each_in, Limits.kept_octets_append, Limits.kept_length_append}
 use Rattle.iim_fields.specs.States.Standing.{FieldsPlace, IsBetween, IsOf, StandsAfter, StandsIn, limits_of}
 
--- What no datasets can continue with, none can continue with where others follow.
+-- If no datasets can continue, none can after further datasets.
 pub no_more : (limits : Limits) (ds es fs : List Dataset) → (CanContinueWithin limits (ds ++ es) → ⊥) → CanContinueWithin limits (ds ++ (es ++ fs)) → ⊥
 no_more limits ds es fs none goes =
     let all = rw (← append_assoc ds es fs) at goes in
@@ -12,7 +12,7 @@ no_more limits ds es fs none goes =
     let fields = kept_length_append (ds ++ es) fs in
     none (record { alive = front_alive (ds ++ es) fs all.alive; within = search (rules, arith) })
 
--- a take after another, and their value
+-- consuming one list after another, and their value
 pub took_more : {T : Type 0} (ready : T → Type 0) (stands : T → List Dataset → Type 0) (limits : T → Limits) (a b c : T) (es fs : List Dataset) (all : Bool)
     → TookDatasets ready stands limits a es b true → TookDatasets ready stands limits b fs c all → TookDatasets ready stands limits a (es ++ fs) c all
 took_more ready stands limits a b c es fs true h k = (k.0, k.1 ∙ h.1, λ ds s. rw (← append_assoc ds es fs) (k.2 (ds ++ es) (h.2 ds s)))
@@ -29,7 +29,7 @@ pub no_wide_mode : (limits : Limits) (ds : List Dataset) (n : ℕ) → 256 ≤ n
 no_wide_mode limits ds n wide goes =
     let good = good_at ds (mode_dataset n) goes.alive in omega (arith, wide, good.octets.0)
 
--- in a check of records: a value that was taken after its head, or not
+-- in a check of records: a value that was consumed after its head, or not
 pub value_took : (a b c : Option RecordPlace) (d : Dataset) (r : Result (Option ℕ) FieldFault)
     → ((ds : List Dataset) → HasChecked a ds → HasTaken b ds (head_of d)) → d.rec ≢ 8
     → OnOk r (TakesHead c) → IfOk r (λ number. (ds : List Dataset) (h : Head) → IsChecking b ds h
@@ -39,7 +39,7 @@ pub value_took : (a b c : Option RecordPlace) (d : Dataset) (r : Result (Option 
 value_took a b c d (Ok number) taken other takes stands fault = (takes, refl, λ ds s. (stands ds (head_of d) ((taken ds s).checking other)).0)
 value_took a b c d (Err e) taken other takes stands fault = λ ds s goes. (fault ds (head_of d) ((taken ds s).checking other)).dead goes.alive
 
--- in a reader of records: a dataset that was taken after its head and its data, or not
+-- in a reader of records: a dataset that was consumed after its head and its data, or not
 pub closed_took : (a b c : FieldsPlace) (d : Dataset) (taken : List ℕ) (r : Result (Option ℕ) FieldFault)
     → ((ds : List Dataset) → StandsAfter a ds → StandsIn b ds (head_of d) taken) → IsOf (head_of d) taken d
     → OnOk r (IsBetween c) → limits_of c ≡ limits_of a

@@ -1,4 +1,4 @@
--- How long a ticket is at most.
+-- The maximum length of a ticket.
 use Rattle.std.proofs.Common.{◌≡◌, ℕ, ◌+◌, ◌*◌, ◌≤◌, nat_eq, Bool, if◌then◌else◌, List, [], ◌∷◌, length, Option, refl, ap, arith, length-append}
 use Rattle.iim_places.proofs.Words.{flat_map, Dataset, SpellsTag, SpellsCount, count_octets, InTag, Reads, Head, saved, LeadsToSaved, MessagePlace, TagBegun, DataBegun, AllEnded, present_version, phase_octets, field_octets, texts_octets, ticket_of}
 use Rattle.iim_fields.specs.Format.Causes.{joined}
@@ -21,7 +21,7 @@ numbers_length a b c d = simp length-append (omega (arith, number_length a, numb
 
 -- ---- the message
 
--- how long the texts of a message are at most
+-- the maximum length of the texts of a message
 pub record AreShort (a b c d e f g : List ℕ) : Type 0 where
   pub source : length a ≤ 8
   pub number : length b ≤ 8
@@ -31,14 +31,14 @@ pub record AreShort (a b c d e f g : List ℕ) : Type 0 where
   pub info : length f ≤ 64
   pub trailer : length g ≤ 64
 
--- The texts of a saved place are short.
+-- The texts of a saved position are short.
 abbrev pub AreShortIn : MessagePlace → Type 0
 AreShortIn m = AreShort m.source.items m.number.items m.priority.items m.category.items m.words.items m.info.items m.trailer.items
 
 pub texts_at : (place : Message) → IsPlace place → AreShortIn (saved place)
 texts_at place is = grind arith
 
--- ---- what is begun
+-- ---- the partial dataset
 
 count_length : (limit count : ℕ) (xs : List ℕ) → SpellsCount limit count xs → length xs ≤ 2 + limit
 count_length limit count xs h = grind arith
@@ -53,7 +53,7 @@ held_length p ds held r =
 
 -- ---- a ticket
 
--- all but what is begun and the kept datasets
+-- all but the partial dataset and the stored datasets
 pub rest_length : (p : Place) → length (flat_map (number_octets present_version) p.numbers) ≤ 36 → length (texts_octets p.message) ≤ 166
     → length (ticket_of p) ≤ 227 + length (phase_octets present_version p.phase) + (6 * length p.fields + length (joined p.fields))
 rest_length p few texts =

@@ -1,4 +1,4 @@
--- The ticket that an unpacker spells is that of the octets on which it stands.
+-- The ticket written for an unpacker is that of the octets that it has consumed.
 use Rattle.std.proofs.Common.{◌≡◌, ℕ, ◌+◌, ◌-◌, Bool, if◌then◌else◌, List, [], ◌∷◌, ◌++◌, length, sum, Option, refl, ap, sym, ◌∙◌, arith, append-nil, length-append}
 use Rattle.iim_places.proofs.Words.{same_Some, length-map, Dataset, of_record, Begun, LowerLaws, sum_cons, sum_append, SubfileBegun, lengths_of, numbers_of, place_after_datasets, place_ended, OctetsLeadToOnePlace, saved, LeadsToSaved, MessagePlace, object_of, object_so_far, place_of, ticket_of, OctetsHaveOneTicket}
 use Rattle.iim_places.proofs.Answering.{one_reading}
@@ -22,7 +22,7 @@ sum_one x = sum_cons x [] ∙ (let none : sum [] ≡ 0 = refl in omega (arith, n
 
 -- ---- the object at a head
 
--- the place at a head, by the tests of its record
+-- the position at a head, by the tests of its record
 abbrev at_by : Bool → Bool → List Dataset → ℕ → objects.Place
 at_by b c ds count = if b then objects.place_after (place_after_datasets ds) (SubfileBegun count) else if c then place_ended ds else place_after_datasets ds
 
@@ -32,7 +32,7 @@ stated_by b c ds count = grind arith
 pub heads_by : (b c : Bool) (ds : List Dataset) (count : ℕ) → length (at_by b c ds count).lengths ≡ length (of_record 8 ds) + (if b then 1 else 0)
 heads_by b c ds count = grind (arith, count_of (of_record 8 ds), length-append (lengths_of (of_record 8 ds)) (count ∷ []))
 
--- the octets so far, and what is to come of a begun subfile, are those of the subfiles
+-- the octets so far, and those that remain of a partial subfile, are those of the subfiles
 pub so_far_by : (b c : Bool) (ds : List Dataset) (taken : List ℕ) (count left : ℕ) → length taken + left ≡ count
     → length (object_of ds ++ (if b then taken else [])) + (if b then left else 0) ≡ sum (at_by b c ds count).lengths
 so_far_by b c ds taken count left e =

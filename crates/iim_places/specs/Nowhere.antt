@@ -1,4 +1,4 @@
--- A sink of objects that takes all, and keeps nothing.
+-- A sink of objects that accepts everything and stores nothing.
 use Rattle.std.specs.Prelude.{List, ⊤}
 use Rattle.iim_object.specs.Format.Objects.{ObjectEvent}
 use Rattle.iim_places.specs.declared.ticket.object.Nowhere.{Nowhere}

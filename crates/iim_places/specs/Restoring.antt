@@ -1,4 +1,4 @@
--- Where no envelope can be by a ticket's parts, and what takes the records of a ticket.
+-- Ticket parts that no envelope reaches, and the consumers of a ticket's records.
 use Rattle.std.specs.Prelude.{◌≡◌, ℕ, ◌^◌, ◌<◌, List, ◌++◌, length, ◌+◌, Bool, true, false, [], ◌∷◌, Option, None, cond}
 use Rattle.std.specs.List.{AllByRecursion, flat_map}
 use Rattle.iim_dataset.specs.Format.Datasets.{Dataset}
@@ -9,44 +9,45 @@ use Rattle.iim_fields.specs.Format.Causes.{kept, kept_octets, is_kept}
 use Rattle.iim_fields.specs.{Format.Records.IsWithin, Format.Records.SectionsLive, declared.limits.Limits.Limits}
 use Rattle.wire_message.specs.declared.saved.MessagePlace.{MessagePlace}
 
--- a number that four octets tell
+-- The number fits into four octets.
 abbrev pub IsFour : ℕ → Type 0
 IsFour n = n < 2 ^ 32
 
--- Nothing of this kind, spelled so, begins the octets.
+-- The octets do not begin with an item of this kind in this encoding.
 abbrev pub BeginsWithNone : {X : Type 0} → (X → Type 0) → (X → List ℕ) → List ℕ → Type 0
 BeginsWithNone Is spelled octets = (x : _) (rest : List ℕ) → Is x → octets ≡ spelled x ++ rest → ⊥
 
--- The octets begin with fewer than `count` of this kind, one after another.
+-- The octets do not begin with `count` items of this kind in this encoding.
 abbrev pub BeginsWithFewer : {X : Type 0} → (X → Type 0) → (X → List ℕ) → ℕ → List ℕ → Type 0
 BeginsWithFewer Is spelled count octets = (xs : List _) (rest : List ℕ) → AllByRecursion Is xs → length xs ≡ count → octets ≡ flat_map spelled xs ++ rest → ⊥
 
--- `count` datasets stand before the rest of the octets.
+-- The octets are `count` encoded datasets followed by the rest.
 pub record FieldsBefore (count : ℕ) (octets rest : List ℕ) : Type 0 where
   pub datasets : List Dataset
   pub each : AllByRecursion IsLongField datasets
   pub many : length datasets ≡ count
   pub spelled : octets ≡ flat_map field_octets datasets ++ rest
 
--- No place of these parts is one where each layer can be.
+-- No position with these parts is reachable in each layer.
 abbrev pub LeadsNowhere : Split → Type 0
 LeadsNowhere s = (place : Place) → split_of s.version place ≡ s → LeadsByLayers place → ⊥
 
--- With what is begun the kept datasets are within the limits.
+-- The stored datasets, together with the partial one, are within the limits.
 abbrev pub AreWithinWith : Limits → ℕ → Phase → List Dataset → Type 0
 AreWithinWith limits section phase ds = IsWithin limits (kept_octets ds + begun_count section phase) (length (kept ds) + begun_fields section phase)
 
--- all are of records 1 and 2
+-- All are datasets of records 1 and 2.
 abbrev pub AreKept : List Dataset → Type 0
 AreKept ds = AllByRecursion (λ (d : Dataset). is_kept d.rec ≡ true) ds
 
--- Datasets within the limits can continue after these, and these are within them.
+-- The datasets are within the limits, and the record layer can continue after them.
 pub record CanContinueWithin (limits : Limits) (ds : List Dataset) : Type 0 where
   pub alive : SectionsLive ds
   pub within : IsWithin limits (kept_octets ds) (length (kept ds))
 
--- Whether it took the datasets. If so, it stands after them, wherever it stood. If not, no datasets within the limits can continue with
--- them, wherever it stood.
+-- What a consumer of datasets returns. On `true` it has consumed the datasets, whatever it had
+-- consumed before. On `false` no datasets within the limits can continue with them, whatever it had
+-- consumed before.
 abbrev pub TookDatasets : {T : Type 0} → (T → Type 0) → (T → List Dataset → Type 0) → (T → Limits) → T → List Dataset → T → Bool → Type 0
 TookDatasets ready stands limits old es new true = ready new × (limits new ≡ limits old) × ((ds : List Dataset) → stands old ds → stands new (ds ++ es))
 TookDatasets ready stands limits old es new false = (ds : List Dataset) → stands old ds → CanContinueWithin (limits old) (ds ++ es) → ⊥
@@ -56,11 +57,12 @@ abbrev pub numbers_told : List (Option ℕ) → Numbers
 numbers_told (mode ∷ largest ∷ announced ∷ maximum ∷ []) = record { mode = mode; largest = largest; announced = announced; maximum = maximum }
 numbers_told other = record { mode = None; largest = None; announced = None; maximum = None }
 
--- fields, numbers, one subfile where some have ended, and 9:10 where the object has
+-- the fields, the numbers, one empty subfile if `some` are complete, and 9:10 if the object has
+-- ended
 abbrev pub told_datasets : List Dataset → List (Option ℕ) → (some ended : Bool) → List Dataset
 told_datasets fields numbers some ended = plain fields (numbers_told numbers) (cond some 1 0) [] ended
 
--- The place of a message that a ticket tells by its part, counter, flag and texts.
+-- The position in a message that a ticket encodes by its part, counter, flag and texts.
 pub record IsMessageOf (part counter flag : ℕ) (texts : List (List ℕ)) (m : MessagePlace) : Type 0 where
   pub part_is : part_number m.part ≡ part
   pub counter_is : m.counter ≡ counter

@@ -1,4 +1,4 @@
--- The parts of a ticket, one by one, and that octets hold one list of datasets.
+-- The parts of a ticket, one by one. Octets encode at most one list of datasets.
 use Rattle.std.specs.Prelude.{◌≡◌, ℕ, List, ◌∷◌, ◌++◌, Option}
 use Rattle.std.specs.{List.AllByRecursion, List.flat_map, Int.w32, Int.from_be_bytes}
 use Rattle.std.proofs.Common.{◌<◌, ◌^◌, [], length, refl, ap, sym, ◌∙◌, arith}
@@ -9,11 +9,11 @@ use Rattle.iim_places.specs.Format.Tickets.{field_octets, DataBegun, four, wide,
 use Rattle.iim_places.specs.Format.TicketForm.{IsLongField, AreTexts, IsSizeIn, AreNumbersIn, Split, IsPhase, HasForm}
 use mathlib.Core.HLevel.{Σ_prop_path}
 
--- Octets hold some datasets, and nothing else.
+-- The octets are a list of encoded datasets, and nothing else.
 abbrev pub HoldsFields : List ℕ → Type 0
 HoldsFields octets = (datasets : List Dataset) × (AllByRecursion IsLongField datasets × (octets ≡ flat_map field_octets datasets))
 
--- the octets of the message
+-- the encoding of the position in the message
 abbrev pub message_parts : (part counter flag : ℕ) → List (List ℕ) → List ℕ
 message_parts part counter flag texts = part ∷ counter ∷ flag ∷ flat_map text_octets texts
 
@@ -23,28 +23,28 @@ body_octets s =
     s.section ∷ (phase_octets s.version s.phase ++ (fields_octets s.fields ++ (flat_map (number_octets s.version) s.numbers
     ++ (wide s.version s.taken ++ (four s.heads ++ message_parts s.part s.counter s.flag s.texts)))))
 
--- None of these octets are a message's.
+-- The octets do not encode a position in a message.
 abbrev pub AreNoMessage : List ℕ → Type 0
 AreNoMessage octets = (part counter flag : ℕ) (texts : List (List ℕ)) → AreTexts texts → octets ≡ message_parts part counter flag texts → ⊥
 
--- None of these octets follow a name and this version.
+-- The octets cannot follow a name and this version.
 abbrev pub AreNoBody : ℕ → List ℕ → Type 0
 AreNoBody version octets = (s : Split) → s.version ≡ version → HasForm s → octets ≡ body_octets s → ⊥
 
--- No begun data stand first in these octets.
+-- The octets do not begin with partial data.
 abbrev pub BeginsWithNoData : ℕ → ℕ → List ℕ → Type 0
 BeginsWithNoData version section octets = (set count left : ℕ) (taken rest : List ℕ) → IsPhase version section (DataBegun set count left taken)
     → 1 ∷ octets ≡ phase_octets version (DataBegun set count left taken) ++ rest → ⊥
 
--- one that the octets of the present version tell
+-- The number is absent or fits into the width of the present version.
 abbrev pub IsSize : Option ℕ → Type 0
 IsSize o = IsSizeIn present_version o
 
--- a dataset of these numbers
+-- a dataset with this record, number and data
 abbrev pub dataset : ℕ → ℕ → List ℕ → Dataset
 dataset rec set octets = record { rec = rec; set = set; octets = octets }
 
--- the numbers of record 7, as the octets of that version tell them
+-- the numbers of record 7, each absent or of the present version's width
 abbrev pub AreNumbers : List (Option ℕ) → Type 0
 AreNumbers numbers = AreNumbersIn present_version numbers
 
@@ -85,7 +85,7 @@ same_fields (x ∷ xs) (y ∷ ys) h k e =
     let more = same_fields xs ys h.1 k.1 first.1 in
     let a = first.0 in cc
 
--- Octets hold one list of datasets.
+-- Octets encode at most one list of datasets.
 pub held_once : (octets : List ℕ) → IsProp (HoldsFields octets)
 held_once octets u v =
     Σ_prop_path {B = λ (ds : List Dataset). AllByRecursion IsLongField ds × (octets ≡ flat_map field_octets ds)} (λ ds. Prim.hlevel props) {u = u} {v = v}

@@ -1,4 +1,4 @@
-//! Tokens that a layer refuses.
+//! The error type of a rejected token.
 
 ghost use Rattle.std.specs.Prelude.{◌≡◌, Some};
 ghost use Rattle.iim_places.specs.Format.Faults.{token_text};
@@ -13,20 +13,21 @@ use std::fmt;
 use std::fmt::{Display, Formatter};
 use wire_message::MessageCause;
 
-/// A token that is refused: the layer, the record and number of the dataset that is named, and the cause.
+/// A rejected token: the layer, the dataset that the error names, and the cause.
 #[derive(Clone, Copy, Debug, PartialEq, Eq)]
 pub struct TokenFault {
-    /// The layer that refuses it.
+    /// The layer that rejects it.
     pub layer: Layer,
-    /// The number of the record.
+    /// The record number of the dataset.
     pub rec: u8,
-    /// The number of the dataset.
+    /// The number of the dataset within its record.
     pub set: u8,
-    /// Why it is refused.
+    /// The reason.
     pub cause: Cause,
 }
 
-/// Writes the layer, the dataset and the cause, as `refused by layer record on 1:70, cause 14 Missing`.
+/// Writes the layer, the dataset and the cause, for example `refused by layer record on 1:70, cause
+/// 14 Missing`.
 impl Display for TokenFault {
     ghost output = { λ fault. Some (token_text fault) };
 
@@ -52,7 +53,7 @@ fn field_layer(cause: FieldCause) -> Layer
     }
 }
 
-/// A fault of the record layer or of the limits.
+/// Converts an error of the record layer or the limits.
 pub fn of_field(fault: FieldFault) -> TokenFault
     ensures { result ≡ of_field fault }
 {
@@ -64,7 +65,7 @@ pub fn of_field(fault: FieldFault) -> TokenFault
     }
 }
 
-/// A fault of the object layer, on the dataset of the head.
+/// Returns the error of the object layer for a cause, on the dataset of `head`.
 pub fn size_on(head: Head, cause: SizeCause) -> TokenFault
     ensures { result ≡ size_on head cause }
 {
@@ -76,7 +77,7 @@ pub fn size_on(head: Head, cause: SizeCause) -> TokenFault
     }
 }
 
-/// The head of a subfile too many.
+/// Returns the error for a head that begins one subfile more than the limit allows.
 pub fn too_many_on(head: Head) -> TokenFault
     ensures { result ≡ too_many_on head }
 {
@@ -98,7 +99,7 @@ fn message_layer(cause: MessageCause) -> Layer
     }
 }
 
-/// A fault of the message, the story or the sink, on the dataset of the head.
+/// Returns the error of the message, the story or the sink for a cause, on the dataset of `head`.
 pub fn message_on(head: Head, cause: MessageCause) -> TokenFault
     ensures { result ≡ message_on head cause }
 {

@@ -1,16 +1,16 @@
-//! The numbers of a ticket's form: its versions, and what is begun.
+//! Numbers of the ticket encoding: versions, and the kinds of a partial dataset.
 
 /// The first version of tickets: counts and sizes have four octets.
 pub const FIRST_VERSION: u8 = 1;
 
-/// The version of the tickets that are made: counts and sizes have eight octets.
+/// The version that is written now: counts and sizes have eight octets.
 pub const PRESENT_VERSION: u8 = 2;
 
-/// Between datasets, or in a tag.
+/// Between datasets, or within a tag.
 pub const IN_TAG: u8 = 0;
 
-/// In the data of a dataset.
+/// Within the data of a dataset.
 pub const IN_DATA: u8 = 1;
 
-/// The last dataset has ended.
+/// After the last dataset.
 pub const ENDED: u8 = 2;

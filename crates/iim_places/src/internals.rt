@@ -1,4 +1,5 @@
-//! Internals for the layers above, in this repository: no part of the public interface, and free to change with any release.
+//! Internals for the crates above in this repository. They are no part of the public interface and
+//! may change in any release.
 
 pub use crate::fault::{TokenFault, message_on, of_field, size_on, too_many_on};
 pub use crate::form::{ENDED, FIRST_VERSION, IN_DATA, IN_TAG, PRESENT_VERSION};

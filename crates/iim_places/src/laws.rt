@@ -1,4 +1,4 @@
-//! What holds of all envelopes.
+//! Lemmas about envelopes, streams, positions and tickets.
 
 ghost use Rattle.iim_places.specs.Laws.{LowerLaws, PlaceLaws};
 
@@ -9,7 +9,8 @@ use wire_message::MessageReader;
 use wire_message::laws::{message_laws, places_are_saved_apart, readers_stand_at_living_octets};
 use wire_story::laws::story_laws;
 
-/// The laws of the lower crates, as one record, on which those below and the proofs of the crates above rest.
+/// Collects the lemmas of the lower crates in one record, which the functions here and the proofs
+/// of the crates above use.
 pub fn lower_laws()
     ensures { LowerLaws }
 {
@@ -22,7 +23,8 @@ pub fn lower_laws()
     places_are_saved_apart();
 }
 
-/// What holds of all envelopes, streams, places and tickets: a field for each law.
+/// Proves the lemmas about envelopes, streams, positions and tickets. The record has a field for
+/// each.
 pub fn place_laws()
     ensures { PlaceLaws }
 {

@@ -1,9 +1,16 @@
-//! Where octets of an envelope lead: what is open, admitted or refused, places, and their tickets.
+//! Definitions of the format: valid, incomplete and rejected input, positions and their tickets.
 //!
-//! Stands on the layers `iim_dataset`, `iim_fields`, `iim_object`, `wire_message` and `wire_story`, and knows no unpacker. What octets
-//! are is said here (`streams_have_one_answer`), how the fault of each layer is told ([`Refusal`]), that octets lead to one
-//! place (`octets_have_one_place`) from which they continue alike (`places_continue_alike`), what the octets of a ticket
-//! tell ([`split_ticket`]), and, for the unpacker alone, which readers stand there ([`internals`]). Its lemmas may be cited by the crates above.
+//! Depends on the layers `iim_dataset`, `iim_fields`, `iim_object`, `wire_message` and
+//! `wire_story`, and contains no unpacker. It defines:
+//!
+//! - the one result of a stream (`streams_have_one_answer`), and how the error of each layer is
+//!   reported ([`Refusal`]);
+//! - the one position that octets reach (`octets_have_one_place`), on which all continuations
+//!   depend (`places_continue_alike`);
+//! - the parts of a ticket ([`split_ticket`]);
+//! - for the unpacker only, the readers at a position ([`internals`]).
+//!
+//! The proofs of the crates above may cite the lemmas of this crate.
 #![tactic(auto)]
 
 mod fault;

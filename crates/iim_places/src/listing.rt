@@ -1,4 +1,4 @@
-//! How many envelopes are listed of an input.
+//! The limit on the envelopes of one input.
 
-/// The most envelopes that are listed of one input, or audited.
+/// The maximum number of envelopes that are listed or audited in one input.
 pub const MAX_ENVELOPES: u64 = 1_000_000;

@@ -1,4 +1,4 @@
-//! Why octets are refused.
+//! Why input is rejected.
 
 ghost use Rattle.std.specs.Prelude.{◌≡◌, Some};
 ghost use Rattle.iim_places.specs.Format.Causes.{layer_name, cause_number, cause_name, cause_text, refusal_text};
@@ -11,27 +11,29 @@ use std::fmt;
 use std::fmt::{Display, Formatter};
 use wire_message::MessageCause;
 
-/// The layer that refused, in the order in which the layers look at a token.
+/// The layer that rejects a token, in the order in which the layers examine it.
 #[derive(Clone, Copy, Debug, PartialEq, Eq)]
 pub enum Layer {
     /// Tags, octet by octet.
     Dataset,
-    /// Heads, and the values of records 1, 2, 7 and 9: which datasets come, and what they have.
+    /// Heads, and the values of records 1, 2, 7 and 9: which datasets may follow, and their
+    /// contents.
     Record,
-    /// Heads: how much records 1 and 2 have together, and how many subfiles there are.
+    /// Heads: the total size of records 1 and 2, and the number of subfiles.
     Limits,
-    /// The numbers of record 7, the counts of subfiles, the head of 9:10 and its number: the sizes of the object.
+    /// The sizes of the object: the numbers of record 7, the counts of subfiles, the head of 9:10
+    /// and its number.
     Object,
-    /// The octets of the object, and its end: header, text and trailer of the message.
+    /// The octets of the object and its end: header, text and trailer of the message.
     Message,
-    /// The octets of the text, and its end: lines and their ends.
+    /// The octets of the text and its end: lines and line ends.
     Story,
-    /// Not the octets: what stands around them.
+    /// Not the input itself, but the caller: its sink, or a call after an error.
     Outside,
 }
 
 impl Layer {
-    /// The name as it is printed.
+    /// Returns the name as it is printed.
     pub fn name(self) -> &'static str
         ensures { result.now ≡ layer_name self }
     {
@@ -47,25 +49,26 @@ impl Layer {
     }
 }
 
-/// What was wrong, each with its number. Those of a layer are named by that layer, where each stands with its number and its name.
-/// Within one layer the cause of the lowest number is told.
+/// The cause of a rejection, with its number. If several causes of a layer hold, the one with the
+/// lowest number is reported. The types of the variants list the causes of their layer.
 #[derive(Clone, Copy, Debug, PartialEq, Eq)]
 pub enum Cause {
     /// The first octet of a tag is not 1C hex.
     Marker,
-    /// The count of a tag has no form that a count may have.
+    /// The count of a tag is in no valid form.
     CountForm,
-    /// The octets end inside an envelope.
+    /// The input ends inside an envelope.
     Truncated,
-    /// A head or a value does not keep to the rules of the records, or records 1 and 2 pass a limit.
+    /// A head or a value breaks a rule of the records, or records 1 and 2 exceed a limit.
     Field(FieldCause),
-    /// The sizes of the object are wrong.
+    /// The sizes of the object are inconsistent.
     Size(SizeCause),
-    /// No message can continue with the octet, or end there; or the caller's sink stopped, which is [`Cause::SINK`].
+    /// No message can continue with this octet, or end here; or the caller's sink stopped
+    /// ([`Cause::SINK`]).
     Message(MessageCause),
-    /// There are 4,294,967,295 subfiles, and another one begins.
+    /// A subfile begins after 4,294,967,295 others.
     TooManySubfiles,
-    /// Something was refused before.
+    /// An earlier call failed.
     Failed,
 }
 
@@ -73,7 +76,7 @@ impl Cause {
     /// The caller's sink stopped.
     pub const SINK: Cause = Cause::Message(MessageCause::Sink);
 
-    /// The number, as it is printed.
+    /// Returns the number as it is printed.
     pub fn number(self) -> u8
         ensures { result ≡ cause_number self }
     {
@@ -89,7 +92,7 @@ impl Cause {
         }
     }
 
-    /// The name, as it is printed.
+    /// Returns the name as it is printed.
     pub fn name(self) -> &'static str
         ensures { result.now ≡ cause_name self }
     {
@@ -106,22 +109,24 @@ impl Cause {
     }
 }
 
-/// A refusal: the layer, the record and the number of the dataset, the offset from the envelope's first octet of the
-/// octet that completes what is refused, and the cause.
+/// A rejection of input: the layer, the dataset, the offset and the cause.
 ///
-/// The dataset is the begun one (0 for what is not read of its tag, 0 and 0 between datasets), and for
-/// [`FieldCause::Missing`] the missing one of the lowest number. For [`Cause::Truncated`] the offset is the number of octets.
+/// `octet` is the offset, from the first octet of the envelope, of the octet that completes the
+/// rejected token. For [`Cause::Truncated`] it is the length of the input.
+///
+/// The dataset is the partial one. Numbers of its tag that were not read yet are 0, and both are 0
+/// between datasets. For [`FieldCause::Missing`] it is the missing dataset with the lowest number.
 #[derive(Clone, Copy, Debug, PartialEq, Eq)]
 pub struct Refusal {
-    /// The layer that refuses.
+    /// The layer that rejects.
     pub layer: Layer,
     /// The number of the record, or 0.
     pub rec: u8,
     /// The number of the dataset, or 0.
     pub set: u8,
-    /// The offset in octets from the envelope's first one.
+    /// The offset in octets from the first octet of the envelope.
     pub octet: u64,
-    /// Why it refuses.
+    /// The reason.
     pub cause: Cause,
 }
 
@@ -133,7 +138,7 @@ impl Display for Layer {
     }
 }
 
-/// The number and the name.
+/// Writes the number and the name.
 impl Display for Cause {
     ghost output = { λ cause. Some (cause_text cause) };
 
@@ -146,7 +151,7 @@ impl Display for Cause {
 
 impl Error for Cause {}
 
-/// As `refused at octet 46 by layer record on 1:70, cause 14 Missing`.
+/// Writes a line such as `refused at octet 46 by layer record on 1:70, cause 14 Missing`.
 impl Display for Refusal {
     ghost output = { λ refusal. Some (refusal_text refusal) };
 

@@ -1,4 +1,4 @@
-//! Tickets: a place as octets, what they tell, and the readers there.
+//! Tickets: the encoding of a position, its parts, and the readers at that position.
 
 pub(crate) mod fault;
 pub(crate) mod fields;

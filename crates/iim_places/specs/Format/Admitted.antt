@@ -1,4 +1,5 @@
--- Octets that are an envelope with a message and a story in it, the value that they have, and envelopes as far as datasets and sizes go.
+-- Valid input: octets that are an envelope with a message and a story in it, the value that they
+-- have, and envelopes as far as datasets and sizes are concerned.
 use Rattle.std.specs.Prelude.{◌≡◌, ℕ, List, ◌≤◌, length}
 use Rattle.iim_dataset.specs.Format.Datasets.{Dataset, SpellsStream, count_octets, of_record}
 use Rattle.iim_fields.specs.{Format.Records.AreSections, Format.Records.IsWithin, declared.limits.Limits.Limits}
@@ -7,8 +8,8 @@ use Rattle.iim_object.specs.{Format.Objects.HaveSizes, Format.Objects.max_subfil
 use Rattle.wire_message.specs.Format.Messages.{Header, IsMessage}
 use Rattle.wire_story.specs.Format.Texts.{IsText}
 
--- What an envelope has: the datasets of records 1 and 2, the header of the message, the lines of the story, the trailer of the
--- message, and the sizes of the object.
+-- The value of an envelope: the datasets of records 1 and 2, the header of the message, the lines
+-- of the story, the trailer of the message, and the sizes of the object.
 pub record Value : Type 0 where
   pub fields : List Dataset
   pub head : Header
@@ -16,12 +17,13 @@ pub record Value : Type 0 where
   pub trailer : List ℕ
   pub sizes : Sizes
 
--- the object: the data of all subfiles, joined in order
+-- the object: the data of all subfiles, concatenated in order
 abbrev pub object_of : List Dataset → List ℕ
 object_of ds = joined (of_record 8 ds)
 
--- The octets spell the records 1, 2, 7, 8 and 9, each good. The object is a message, and its text has the lines. The sizes that
--- records 7 to 9 state agree with one another and with the object.
+-- The octets encode the datasets of records 1, 2, 7, 8 and 9, each valid. The object is a message,
+-- and its text consists of the lines. The sizes that records 7 to 9 state agree with one another
+-- and with the object.
 pub record Admits (octets : List ℕ) (v : Value) : Type 0 where
   pub datasets : List Dataset
   pub spelled : SpellsStream count_octets datasets octets
@@ -32,13 +34,13 @@ pub record Admits (octets : List ℕ) (v : Value) : Type 0 where
   pub lines : IsText text v.lines
   pub sizes : HaveSizes (of_record 7 datasets) (of_record 8 datasets) (of_record 9 datasets) v.sizes
 
--- What the records 1 and 2 have is within the limits, and there are not too many subfiles.
+-- Records 1 and 2 are within the limits, and there are at most `max_subfiles` subfiles.
 pub record AreWithin (limits : Limits) (ds : List Dataset) : Type 0 where
   pub kept : IsWithin limits (kept_octets ds) (length (kept ds))
   pub subfiles : length (of_record 8 ds) ≤ max_subfiles
 
--- The octets spell the datasets of an envelope, the records 1, 2, 7, 8 and 9, each good; the sizes of its object agree; and
--- it is within the limits.
+-- The octets encode the datasets of an envelope: records 1, 2, 7, 8 and 9, each valid. The sizes of
+-- its object agree, and it is within the limits. Nothing is required of the message in the object.
 pub record Framed (limits : Limits) (octets : List ℕ) : Type 0 where
   pub datasets : List Dataset
   pub spelled : SpellsStream count_octets datasets octets

@@ -1,4 +1,5 @@
--- Why a token is refused: the causes with their numbers, names, layers and conditions, and the fault that is told.
+-- Why a token is rejected: the causes with their numbers, names, layers and conditions, and the
+-- error that is reported.
 use Rattle.std.specs.Prelude.{ℕ, List, [], ◌∷◌, get_or, ◌≡◌, ◌≢◌, ◌+◌, ◌<◌, ◌≤◌, ◌⊎◌, ◌==◌, false, ◌++◌, length, sum, Option, None, Some, IsTrue, IsSomeAnd, codes, decimal, ◌&&◌, ◌||◌, not, nat_lt, if◌then◌else◌}
 use Rattle.std.specs.{List.list_any, Option.option_or, Option.option_map}
 use Rattle.iim_dataset.specs.Format.Datasets.{Begun, InTag, InData, Dataset, head_of, of_record, count_octets, tag_marker, extended, dataset_name}
@@ -23,42 +24,43 @@ use Rattle.iim_places.specs.declared.refusal.Layer.TheVariants as layers
 use Rattle.iim_places.specs.declared.refusal.Cause.TheVariants as causes
 use Rattle.iim_object.specs.declared.reading.fault.SizeCause.TheVariants as sizes
 
--- the layer that refuses for a cause of the records: the limits, or the record layer
+-- the layer that rejects for a cause of the records: the limits, or the record layer
 abbrev pub layer_of : FieldCause → Layer
 layer_of fields.HeaderFull = layers.Limits
 layer_of fields.TooManyFields = layers.Limits
 layer_of other = layers.Record
 
--- a fault of the record layer or the limits
+-- an error of the record layer or the limits, as an error of a token
 abbrev pub of_field : FieldFault → TokenFault
 of_field f = record { layer = layer_of f.cause; rec = f.rec; set = f.set; cause = causes.Field f.cause }
 
--- a fault of the object layer, on the dataset of the head
+-- the error of the object layer for a cause, on the dataset of the head
 abbrev pub size_on : Head → SizeCause → TokenFault
 size_on h cause = record { layer = layers.Object; rec = h.rec; set = h.set; cause = causes.Size cause }
 
--- the head of a subfile too many
+-- the error for the head of one subfile too many
 abbrev pub too_many_on : Head → TokenFault
 too_many_on h = record { layer = layers.Limits; rec = h.rec; set = h.set; cause = causes.TooManySubfiles }
 
--- the refusal for a fault, at this octet
+-- the refusal for an error at this octet
 abbrev pub refusal_at : ℕ → TokenFault → Refusal
 refusal_at octet fault = record { layer = fault.layer; rec = fault.rec; set = fault.set; octet = octet; cause = fault.cause }
 
--- the layer that refuses for a cause of the message
+-- the layer that rejects for a cause of the message
 abbrev pub layer_of_message : MessageCause → Layer
 layer_of_message messages.LoneReturn = layers.Story
 layer_of_message messages.ControlOctet = layers.Story
 layer_of_message messages.Sink = layers.Outside
 layer_of_message other = layers.Message
 
--- a fault of the message, the story or the sink, on the dataset of the head
+-- the error of the message, the story or the sink for a cause, on the dataset of the head
 abbrev pub message_on : Head → MessageCause → TokenFault
 message_on h cause = record { layer = layer_of_message cause; rec = h.rec; set = h.set; cause = causes.Message cause }
 
--- ---- begun datasets
+-- ---- partial datasets
 
--- the numbers of the begun dataset: of a begun tag its second and third octets, each 0 while it isn't read
+-- The record and the number of the partial dataset. In a partial tag they are its second and third
+-- octets, or 0 if these were not read yet.
 abbrev pub begun_record : Begun → ℕ
 begun_record (InTag held) = get_or held 1 0
 begun_record (InData h taken) = h.rec
@@ -67,20 +69,21 @@ abbrev pub begun_number : Begun → ℕ
 begun_number (InTag held) = get_or held 2 0
 begun_number (InData h taken) = h.set
 
--- A tag's first octet has to be the marker; what can be wrong after it is the count.
+-- The first octet of a tag must be the marker. After it only the count can be invalid.
 abbrev pub tag_cause : List ℕ → Cause
 tag_cause [] = causes.Marker
 tag_cause (x ∷ xs) = causes.CountForm
 
 -- ---- tokens
 
--- What is judged after whole datasets: an octet, of the tag or the data of a begun dataset; a complete head; a complete value.
+-- What the layers examine after complete datasets: an octet, of the tag or the data of a partial
+-- dataset; a complete head; or a complete value.
 pub data Token : Type 0 where
   AtOctet : Begun → ℕ → Token
   AtHead : Head → Token
   AtValue : Dataset → Token
 
--- a condition on octets of tags, after those that are held of one
+-- a condition on octets of tags, after the octets of the partial tag
 abbrev pub OfTag : (List ℕ → ℕ → Type 0) → Token → Type 0
 OfTag P (AtOctet (InTag held) octet) = P held octet
 OfTag P _ = ⊥
@@ -95,54 +98,57 @@ abbrev pub OfValue : (Dataset → Type 0) → Token → Type 0
 OfValue P (AtValue d) = P d
 OfValue P _ = ⊥
 
--- a condition on octets of the object, after those before them: the data of subfiles
+-- a condition on octets of the object, after the octets before them: the data of subfiles
 abbrev pub OfOctet : (List ℕ → ℕ → Type 0) → List Dataset → Token → Type 0
 OfOctet P ds (AtOctet (InData h taken) octet) = (h.rec ≡ 8) × P (object_of ds ++ taken) octet
 OfOctet P ds _ = ⊥
 
 -- ---- the conditions
 
--- 1: the first octet of a tag is not the marker, 1C.
+-- 1: the first octet of a tag is not the marker, 1C hex.
 abbrev pub IsNoMarker : List ℕ → ℕ → Type 0
 IsNoMarker held octet = (held ≡ []) × (octet ≢ tag_marker)
 
--- 2: the fourth octet is above 80; or it is 80, and the fifth is not one of 1 to 8.
+-- 2: the fourth octet is above 80 hex; or it is 80 hex, and the fifth is not one of 1 to 8.
 abbrev pub IsNoCount : List ℕ → ℕ → Type 0
 IsNoCount held octet = ((length held ≡ 3) × (extended < octet))
     ⊎ ((length held ≡ 4) × (get_or held 3 0 ≡ extended) × ((octet ≡ 0) ⊎ (count_octets < octet)))
 
--- what record 7 has stated so far: the mode by 10, the largest subfile by 20, the announced size by 90, the maximum by 95
+-- the numbers of record 7 so far: the mode by 10, the largest subfile by 20, the announced size by
+-- 90, the maximum by 95
 abbrev pub stated : ℕ → List Dataset → Option ℕ
 stated set ds = number_at set (numbers_of (of_record 7 ds))
 
--- how many octets of the object the subfiles so far have
+-- the total size of the subfiles so far, in octets
 abbrev pub total : List Dataset → ℕ
 total ds = sum (lengths_of (of_record 8 ds))
 
--- 20: mode 1 and no announced size, at the head of a subfile; mode 0 and an announced size, at the later value.
+-- 20: mode 1 without an announced size, at the head of a subfile; or mode 0 with an announced size,
+-- at the later of the two values.
 abbrev pub ClashesInMode : List Dataset → Token → Type 0
 ClashesInMode ds (AtHead h) = (h.rec ≡ 8) × (stated 10 ds ≡ Some 1) × (stated 90 ds ≡ None)
 ClashesInMode ds (AtValue d) = (d.rec ≡ 7) × (stated 10 (ds ++ d ∷ []) ≡ Some 0) × (stated 90 (ds ++ d ∷ []) ≢ None)
 ClashesInMode ds _ = ⊥
 
--- 21: the announced size is above the maximum, at the later value.
+-- 21: the announced size exceeds the maximum, at the later of the two values.
 abbrev pub ClashesInSize : List Dataset → Dataset → Type 0
 ClashesInSize ds d = (d.rec ≡ 7) × IsSomeAnd (stated 90 (ds ++ d ∷ [])) (λ announced. IsSomeAnd (stated 95 (ds ++ d ∷ [])) (λ most. most < announced))
 
--- 22: the subfile has more octets than 7:20 allows.
+-- 22: the subfile exceeds the size that 7:20 allows.
 abbrev pub IsTooLong : List Dataset → Head → Type 0
 IsTooLong ds h = (h.rec ≡ 8) × IsSomeAnd (stated 20 ds) (λ largest. largest < h.count)
 
--- 23: with the subfile the object has more octets than any may have, than are announced, or than the maximum.
+-- 23: with the subfile the object exceeds the greatest size of any object, the announced size, or
+-- the maximum.
 abbrev pub IsPast : List Dataset → Head → Type 0
 IsPast ds h = (h.rec ≡ 8) × ((greatest_size < total ds + h.count)
     ⊎ (IsSomeAnd (stated 90 ds) (λ announced. announced < total ds + h.count) ⊎ IsSomeAnd (stated 95 ds) (λ most. most < total ds + h.count)))
 
--- 24: at the head of 9:10 the object has fewer octets than are announced.
+-- 24: at the head of 9:10 the object is shorter than announced.
 abbrev pub IsShort : List Dataset → Head → Type 0
 IsShort ds h = (h.rec ≡ 9) × IsSomeAnd (stated 90 ds) (λ announced. total ds < announced)
 
--- 25: the number of 9:10 is not how many octets the object has.
+-- 25: the number of 9:10 is not the size of the object.
 abbrev pub IsConfirmedWrong : List Dataset → Dataset → Type 0
 IsConfirmedWrong ds d = (d.rec ≡ 9) × (number d.octets ≢ total ds)
 
@@ -154,35 +160,35 @@ IsNoOctet before octet = MessageLivesWith (before ++ octet ∷ []) → ⊥
 abbrev pub IsNoEnd : List Dataset → Head → Type 0
 IsNoEnd ds h = (h.rec ≡ 9) × (IsAlive MessageLanguage (with_end (object_of ds)) → ⊥)
 
--- STX has come, and ETX has not.
+-- The octets contain an STX, and no ETX after it.
 abbrev pub IsInText : List ℕ → Type 0
 IsInText before = IsTrue (list_any (λ b. b == stx) before) × (list_any (λ b. b == etx) (after_stx before) ≡ false)
 
--- 40: after held CR comes an octet of the text, or ETX, that is neither LF nor the second CR.
+-- 40: a CR is pending, and the next octet, one of the text or ETX, is neither LF nor the second CR.
 abbrev pub IsAfterReturns : List ℕ → ℕ → Type 0
 IsAfterReturns before octet = IsInText before × ((held : ℕ) × Holds (text_so_far before) held × (0 < held) × (octet ≢ lf) × (octet ≡ cr → held ≡ max_returns))
 
--- 41: SOH, STX or EOT stands in the text.
+-- 41: the text contains SOH, STX or EOT.
 abbrev pub IsControlInText : List ℕ → ℕ → Type 0
 IsControlInText before octet = IsInText before × ((octet ≡ soh) ⊎ ((octet ≡ stx) ⊎ (octet ≡ eot)))
 
--- 52: the head of a subfile comes after as many others as there may be.
+-- 52: the head of a subfile follows as many others as are allowed.
 abbrev pub IsOneTooMany : List Dataset → Head → Type 0
 IsOneTooMany ds h = (h.rec ≡ 8) × (max_subfiles ≤ length (of_record 8 ds))
 
--- 60: the sink is told of the octet: it is one of the text, but no CR.
+-- 60: the octet is passed to the sink: it is part of the text, and no CR.
 abbrev pub IsTold : List ℕ → ℕ → Type 0
 IsTold before octet = (text_so_far (before ++ octet ∷ []) ≡ text_so_far before ++ octet ∷ []) × (octet ≢ cr)
 
 -- ---- the causes
 
--- The number of a cause, its layer, and its condition at a token after datasets, under limits.
+-- A cause's number, its layer, and its condition at a token after complete datasets, under limits.
 pub record Rule : Type 1 where
   pub number : ℕ
   pub layer : Layer
   pub holds : Limits → List Dataset → Token → Type 0
 
--- Those that are told of no token have no condition.
+-- A cause that no token has gets the condition that is always false.
 abbrev pub rule_of : Cause → Rule
 rule_of Marker = record { number = 1; layer = layers.Dataset; holds = λ limits ds. OfTag IsNoMarker }
 rule_of CountForm = record { number = 2; layer = layers.Dataset; holds = λ limits ds. OfTag IsNoCount }
@@ -210,22 +216,24 @@ rule_of TooManySubfiles = record { number = 52; layer = layers.Limits; holds = �
 rule_of (Message messages.Sink) = record { number = 60; layer = layers.Outside; holds = λ limits. OfOctet IsTold }
 rule_of Failed = record { number = 61; layer = layers.Outside; holds = λ limits ds token. ⊥ }
 
--- ---- what is told of a token
+-- ---- what is reported for a token
 
--- The fault names the layer of its cause; the condition of the cause holds, and in this layer that of no cause of a lower number.
+-- The error names the layer of its cause. The condition of the cause holds, and no cause of this
+-- layer with a lower number has its condition fulfilled.
 pub record TellsTheLowest (limits : Limits) (ds : List Dataset) (token : Token) (fault : TokenFault) : Type 0 where
   pub layer : (rule_of fault.cause).layer ≡ fault.layer
   pub holds : (rule_of fault.cause).holds limits ds token
   pub lowest : (other : Cause) → (rule_of other).layer ≡ fault.layer → (rule_of other).number < (rule_of fault.cause).number
       → (rule_of other).holds limits ds token → ⊥
 
--- the dataset that is begun with the token
+-- the partial dataset in which the token occurs
 abbrev pub begun_in : Token → Begun
 begun_in (AtOctet begun octet) = begun
 begun_in (AtHead h) = InData h []
 begun_in (AtValue d) = InData (head_of d) []
 
--- The dataset that is named: where one is missing, the missing one of the lowest number; else the token's own.
+-- The dataset that the error names: for Missing, the missing dataset with the lowest number;
+-- otherwise the dataset of the token.
 abbrev pub Names : Cause → List Dataset → Token → ℕ → ℕ → Type 0
 Names (Field fields.Missing) ds token rec set = (rec ≡ section_after ds) × IsAbsent ds set × ((n : ℕ) → IsAbsent ds n → set ≤ n)
 Names cause ds token rec set = (rec ≡ begun_record (begun_in token)) × (set ≡ begun_number (begun_in token))
@@ -242,7 +250,7 @@ layer_name layers.Outside = codes "outside"
 abbrev pub cause_number : Cause → ℕ
 cause_number cause = (rule_of cause).number
 
--- a cause of a layer has the name that it has there
+-- A cause of a layer has the name that the layer gives it.
 abbrev pub cause_name : Cause → List ℕ
 cause_name Marker = codes "Marker"
 cause_name CountForm = codes "CountForm"
@@ -253,9 +261,9 @@ cause_name (Message cause) = name_of_message cause
 cause_name TooManySubfiles = codes "TooManySubfiles"
 cause_name Failed = codes "Failed"
 
--- ---- as they are printed
+-- ---- printed forms
 
--- a cause's number and name
+-- the number and the name of a cause
 abbrev pub cause_text : Cause → List ℕ
 cause_text cause = decimal (cause_number cause) ++ (codes " " ++ cause_name cause)
 
@@ -265,88 +273,89 @@ refusal_text e =
     codes "refused at octet " ++ (decimal e.octet ++ (codes " by layer " ++ (layer_name e.layer ++ (codes " on "
     ++ (dataset_name e.rec e.set ++ (codes ", cause " ++ cause_text e.cause))))))
 
--- ---- Which heads and values the layers can continue with, after datasets, and the first fault of one.
+-- ---- The heads and values with which the layers can continue after datasets, and the first error
+-- of one.
 
--- the place of the object after datasets and a head: a subfile more, or the end
+-- the position in the object after datasets and a head: one subfile more, or the end
 abbrev pub place_at : List Dataset → Head → Place
 place_at ds h =
     if h.rec == 8 then record (place_after_datasets ds) { lengths = lengths_of (of_record 8 ds) ++ h.count ∷ [] }
     else if h.rec == 9 then place_ended ds
     else place_after_datasets ds
 
--- the object layer can continue from the place
+-- The object layer can continue from the position.
 abbrev pub ObjectLives : Place → Type 0
 ObjectLives p = languages.IsAlive ObjectLanguage (tokens_of p)
 
--- With the head after the datasets, the limits are kept.
+-- The head stays within the limits after the datasets.
 pub record HaveRoom (limits : Limits) (ds : List Dataset) (h : Head) : Type 0 where
   pub kept : IsTrue (is_kept h.rec) → IsWithin limits (kept_octets ds + h.count) (length (kept ds) + 1)
   pub subfiles : h.rec ≡ 8 → length (of_record 8 ds) < max_subfiles
 
--- Every layer can continue after the datasets, within the limits.
+-- Every layer can continue after the datasets, which are within the limits.
 pub record CanContinue (limits : Limits) (ds : List Dataset) : Type 0 where
   pub records : SectionsLive ds
   pub within : AreWithin limits ds
   pub object : ObjectLives (place_after_datasets ds)
 
--- Every layer can continue with the head after them.
+-- Every layer can continue after the datasets and the head, within the limits.
 pub record CanContinueAt (limits : Limits) (ds : List Dataset) (h : Head) : Type 0 where
   pub records : SectionsLiveAt ds h
   pub within : AreWithin limits ds
   pub room : HaveRoom limits ds h
   pub object : ObjectLives (place_at ds h)
 
--- Every layer can continue after the whole datasets and the begun one.
+-- Every layer can continue after the complete datasets and the partial one.
 abbrev pub MayContinue : Limits → List Dataset → Begun → Type 0
 MayContinue limits whole (InTag held) = CanContinue limits whole
 MayContinue limits whole (InData h taken) = CanContinueAt limits whole h
 
--- With the head the layer is dead, and those that are asked before are alive: first the record layer, then the limits, then
--- the object layer.
+-- The layer cannot continue after the head, and the layers examined before it can. The order is:
+-- record layer, limits, object layer.
 abbrev pub DiesAtHead : Layer → Limits → List Dataset → Head → Type 0
 DiesAtHead layers.Record limits ds h = SectionsLiveAt ds h → ⊥
 DiesAtHead layers.Limits limits ds h = SectionsLiveAt ds h × (HaveRoom limits ds h → ⊥)
 DiesAtHead layers.Object limits ds h = SectionsLiveAt ds h × HaveRoom limits ds h × (ObjectLives (place_at ds h) → ⊥)
 DiesAtHead other limits ds h = ⊥
 
--- With the value the layer is dead, and those that are asked before are alive.
+-- The layer cannot continue after the value, and the layers examined before it can.
 abbrev pub DiesAtValue : Layer → List Dataset → Dataset → Type 0
 DiesAtValue layers.Record ds d = SectionsLive (ds ++ d ∷ []) → ⊥
 DiesAtValue layers.Object ds d = SectionsLive (ds ++ d ∷ []) × (ObjectLives (place_after_datasets (ds ++ d ∷ [])) → ⊥)
 DiesAtValue other ds d = ⊥
 
--- ---- first faults
+-- ---- first errors
 
--- there are as many subfiles as there may be
+-- the limits' error at the head of a subfile: there are as many subfiles as are allowed
 abbrev pub subfile_fault : List Dataset → Head → Option TokenFault
 subfile_fault ds h = if (h.rec == 8) && not (nat_lt (length (of_record 8 ds)) max_subfiles) then Some (too_many_on h) else None
 
--- the object's fault at the head of a subfile or of 9:10
+-- the object layer's error at the head of a subfile or of 9:10
 abbrev pub object_fault : List Dataset → Head → Option TokenFault
 object_fault ds h =
     if (h.rec == 8) || (h.rec == 9) then option_map (size_on h) (cause_at (place_after_datasets ds) (head_token h.rec h.count))
     else None
 
--- the first fault of a head: of the record layer, of the limits, of the object layer
+-- the first error of a head: of the record layer, of the limits, of the object layer
 abbrev pub fault_at_head : Limits → List Dataset → Head → Option TokenFault
 fault_at_head limits ds h = option_or (option_map of_field (first_fault limits ds h)) (option_or (subfile_fault ds h) (object_fault ds h))
 
--- the object's fault at a number of record 7 or 9
+-- the object layer's error at a number of record 7 or 9
 abbrev pub number_fault : List Dataset → Dataset → Option TokenFault
 number_fault ds d =
     if tells_number d.rec then option_map (size_on (head_of d)) (cause_at (place_at ds (head_of d)) (value_token d.rec d.set (number d.octets)))
     else None
 
--- the first fault of a value: of the record layer, of the object layer
+-- the first error of a value: of the record layer, of the object layer
 abbrev pub fault_at_value : List Dataset → Dataset → Option TokenFault
 fault_at_value ds d = option_or (option_map of_field (value_fault d)) (number_fault ds d)
 
--- The fault is the first of the head, and the layer that it names dies with it.
+-- The error is the first one of the head, and its layer cannot continue after the head.
 pub record IsRefusedHead (limits : Limits) (ds : List Dataset) (h : Head) (fault : TokenFault) : Type 0 where
   pub first : fault_at_head limits ds h ≡ Some fault
   pub dead : DiesAtHead fault.layer limits ds h
 
--- The fault is the first of the value, and the layer that it names dies with it.
+-- The error is the first one of the value, and its layer cannot continue after the value.
 pub record IsRefusedValue (ds : List Dataset) (d : Dataset) (fault : TokenFault) : Type 0 where
   pub first : fault_at_value ds d ≡ Some fault
   pub dead : DiesAtValue fault.layer ds d

@@ -1,17 +1,17 @@
--- Faults with their numbers and names, as they are printed.
+-- Numbers, names and printed forms of errors.
 use Rattle.std.specs.Prelude.{ℕ, List, ◌++◌, codes}
 use Rattle.iim_dataset.specs.Format.Datasets.{dataset_name}
 use Rattle.iim_places.specs.Format.Causes.{layer_name, cause_text, TokenFault}
 use Rattle.iim_places.specs.declared.ticket.fault.TicketFault.{TicketFault}
 use Rattle.iim_places.specs.declared.ticket.fault.TicketFault.TheVariants.{TicketForm, TicketVersion, HeaderFull, Impossible, OutOfMemory, TooManyFields}
 
--- a refused token: the layer, the dataset and the cause
+-- an error of a token: the layer, the dataset and the cause
 abbrev pub token_text : TokenFault → List ℕ
 token_text fault =
     codes "refused by layer " ++ (layer_name fault.layer ++ (codes " on "
     ++ (dataset_name fault.rec fault.set ++ (codes ", cause " ++ cause_text fault.cause))))
 
--- The number of the cause for which a ticket is refused.
+-- The number of the cause for which a ticket is rejected.
 abbrev pub ticket_number : TicketFault → ℕ
 ticket_number TicketForm = 100
 ticket_number TicketVersion = 101
@@ -20,7 +20,7 @@ ticket_number HeaderFull = 50
 ticket_number TooManyFields = 51
 ticket_number OutOfMemory = 70
 
--- The name of that cause.
+-- The name of the cause for which a ticket is rejected.
 abbrev pub ticket_name : TicketFault → List ℕ
 ticket_name TicketForm = codes "TicketForm"
 ticket_name TicketVersion = codes "TicketVersion"

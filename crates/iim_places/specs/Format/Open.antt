@@ -1,4 +1,7 @@
--- Octets from which every layer can continue, what they say of the text, and the refusal of the next one.
+-- Incomplete input (every layer sees a *viable prefix*: some continuation is valid), the text in
+-- it, and the refusal of the next octet. By the correct-prefix property of parsers, an error is
+-- detected at the first token with which the input is no longer a viable prefix; names with `Dies`
+-- or `dead` mean that token.
 use Rattle.std.specs.Prelude.{◌≡◌, ◌≢◌, ℕ, ◌==◌, ◌⊎◌, if◌then◌else◌, List, [], ◌∷◌, ◌++◌, length, map}
 use Rattle.iim_dataset.specs.{Format.Octets.IsOctet, declared.head.Head.Head}
 use Rattle.iim_dataset.specs.Format.Datasets.{Dataset, SpellsTag, head_of, count_octets, Begun, InTag, InData, Reads, CompletesData, BeginsNoTag}
@@ -16,9 +19,9 @@ use Rattle.iim_places.specs.Format.Causes.{Token, AtOctet, AtHead, AtValue, IsNo
 use Rattle.iim_places.specs.declared.refusal.{Cause.TheVariants.Truncated, Refusal.Refusal}
 use Rattle.iim_places.specs.declared.refusal.Layer.TheVariants as layers
 
--- ---- what octets so far say
+-- ---- the contents of incomplete input
 
--- the octets of the object so far: the data of the whole subfiles, and of a begun one
+-- the octets of the object so far: the data of the complete subfiles, and of a partial one
 abbrev pub object_so_far : List Dataset → Begun → List ℕ
 object_so_far ds (InTag held) = object_of ds
 object_so_far ds (InData h taken) = object_of ds ++ (if h.rec == 8 then taken else [])
@@ -32,30 +35,32 @@ section ds (InData h taken) = h.rec
 abbrev pub message_tokens : List Dataset → Begun → List OctetOrEnd
 message_tokens ds begun = map Octet (object_so_far ds begun) ++ (if section ds begun == 9 then End ∷ [] else [])
 
--- Every layer can continue with its tokens, within the limits.
+-- Every layer can continue after its tokens, within the limits.
 pub record AllCanContinue (limits : Limits) (ds : List Dataset) (begun : Begun) : Type 0 where
   pub sizes : MayContinue limits ds begun
   pub message : languages.IsAlive MessageLanguage (message_tokens ds begun)
   pub story : StoryLivesIn (object_so_far ds begun)
 
--- With the head of 9:10 no message ends, though all layers that are asked before can continue.
+-- The head is that of 9:10, no message ends there, and all layers that are examined before the
+-- message can continue.
 pub record IsUnfinished (limits : Limits) (ds : List Dataset) (h : Head) (fault : TokenFault) : Type 0 where
   pub last : h.rec ≡ 9
   pub leads_on : CanContinueAt limits ds h
   pub dies : MessageDiesAt (object_of ds) End
   pub is_fault : fault ≡ message_on h Unfinished
 
--- ---- what octets say
+-- ---- the text in the input
 
--- the text in the octets: what stands after STX and before ETX in the data of the subfiles so far
+-- The text in the octets: what follows STX and precedes ETX in the data of the subfiles so far.
 abbrev pub IsTextOf : List ℕ → List ℕ → Type 0
 IsTextOf octets text = (whole : List Dataset) × (begun : Begun) × Reads count_octets octets whole begun × (text ≡ text_so_far (object_so_far whole begun))
 
--- Of the octets after those, exactly this is delivered.
+-- After `p`, exactly the events `more` are delivered for these octets.
 abbrev pub Delivers : List ℕ → List ℕ → List story.StoryEvent → Type 0
 Delivers p octets more = (text : List ℕ) → IsTextOf p text → (added : List ℕ) × IsTextOf (p ++ octets) (text ++ added) × (more ≡ story.delivered added)
 
--- Every layer can continue from the octets, within the limits, and they are no envelope.
+-- The octets are incomplete: every layer can continue after them, within the limits, and they are
+-- not an envelope yet.
 pub record IsOpen (limits : Limits) (octets : List ℕ) : Type 0 where
   pub whole : List Dataset
   pub begun : Begun
@@ -63,7 +68,7 @@ pub record IsOpen (limits : Limits) (octets : List ℕ) : Type 0 where
   pub leads_on : AllCanContinue limits whole begun
   pub unfinished : AreSections whole → ⊥
 
--- With the next octet no tag continues.
+-- The next octet makes the tag invalid.
 pub record IsBadTagAt (limits : Limits) (octets : List ℕ) (next : ℕ) (fault : TokenFault) : Type 0 where
   pub whole : List Dataset
   pub held : List ℕ
@@ -73,7 +78,7 @@ pub record IsBadTagAt (limits : Limits) (octets : List ℕ) (next : ℕ) (fault 
   pub dead : BeginsNoTag count_octets (held ++ next ∷ [])
   pub is_fault : fault ≡ record { layer = layers.Dataset; rec = begun_record (InTag held); set = begun_number (InTag held); cause = tag_cause held }
 
--- The next octet completes a head, and that is refused.
+-- The next octet completes a head, and that is rejected.
 pub record IsBadHeadAt (limits : Limits) (octets : List ℕ) (next : ℕ) (fault : TokenFault) : Type 0 where
   pub whole : List Dataset
   pub held : List ℕ
@@ -84,7 +89,7 @@ pub record IsBadHeadAt (limits : Limits) (octets : List ℕ) (next : ℕ) (fault
   pub tag : SpellsTag count_octets head (held ++ next ∷ [])
   pub refuses : IsRefusedHead limits whole head fault ⊎ IsUnfinished limits whole head fault
 
--- The next octet is one of the object, and message, story or sink refuse it.
+-- The next octet is one of the object, and message, story or sink reject it.
 pub record IsBadOctetAt (limits : Limits) (octets : List ℕ) (next : ℕ) (fault : TokenFault) : Type 0 where
   pub whole : List Dataset
   pub head : Head
@@ -97,7 +102,7 @@ pub record IsBadOctetAt (limits : Limits) (octets : List ℕ) (next : ℕ) (faul
   pub has_cause : wire.HasCause cause (object_of whole ++ taken) next
   pub is_fault : fault ≡ message_on head cause
 
--- The next octet completes a value, which is no subfile's, and that is refused.
+-- The next octet completes a value other than a subfile, and that is rejected.
 pub record IsBadValueAt (limits : Limits) (octets : List ℕ) (next : ℕ) (fault : TokenFault) : Type 0 where
   pub whole : List Dataset
   pub head : Head
@@ -108,15 +113,17 @@ pub record IsBadValueAt (limits : Limits) (octets : List ℕ) (next : ℕ) (faul
   pub unfinished : AreSections whole → ⊥
   pub refuses : IsRefusedValue whole (data_of head given) fault
 
--- One of these: the next octet is refused, as tests find it.
+-- The next octet is rejected by one of these four tests. (For proofs; the definition is
+-- `RefusesNext`.)
 abbrev pub RefusesByTests : Limits → List ℕ → ℕ → TokenFault → Type 0
 RefusesByTests limits octets next fault =
     IsBadTagAt limits octets next fault ⊎ (IsBadHeadAt limits octets next fault ⊎ (IsBadOctetAt limits octets next fault ⊎ IsBadValueAt limits octets next fault))
 
 -- ---- the refusal of the next octet
 
--- The next octet completes the token: it is an octet itself; a head with the last octet of its tag; a value, which is no subfile's,
--- with its last octet, or with a head that has none, where all layers can continue with that.
+-- The next octet completes the token. A token is the octet itself; a head, completed by the last
+-- octet of its tag; or a value other than a subfile, completed by its last octet. An empty value is
+-- completed by its head, if all layers can continue after that.
 abbrev pub Completes : Limits → List Dataset → Begun → ℕ → Token → Type 0
 Completes limits ds begun next (AtOctet b octet) = (b ≡ begun) × (octet ≡ next)
 Completes limits ds (InTag held) next (AtHead h) = SpellsTag count_octets h (held ++ next ∷ [])
@@ -125,7 +132,7 @@ Completes limits ds (InTag held) next (AtValue d) =
 Completes limits ds (InData h taken) next (AtValue d) = (d.rec ≢ 8) × (d ≡ data_of h (taken ++ next ∷ [])) × (length d.octets ≡ h.count)
 Completes limits ds (InData h taken) next (AtHead g) = ⊥
 
--- With the token the layer is dead, and those that are asked before are alive.
+-- The layer cannot continue after the token, and the layers examined before it can.
 abbrev pub Dies : Layer → Limits → List Dataset → Token → Type 0
 Dies layers.Dataset limits ds (AtOctet (InTag held) octet) = BeginsNoTag count_octets (held ++ octet ∷ [])
 Dies layers.Record limits ds (AtHead h) = SectionsLiveAt ds h → ⊥
@@ -139,9 +146,10 @@ Dies layers.Story limits ds (AtOctet (InData h taken) octet) = MessageLivesWith 
 Dies layers.Outside limits ds (AtOctet (InData h taken) octet) = MessageLivesWith ((object_of ds ++ taken) ++ octet ∷ []) × StoryLivesIn ((object_of ds ++ taken) ++ octet ∷ [])
 Dies layer limits ds token = ⊥
 
--- Every layer can continue from the octets, within the limits, and they are no envelope. The next octet completes a token with which the
--- layer of the fault is dead, and those that are asked before are not. Of its causes the one of the lowest number is told, and the
--- dataset that it is about.
+-- Every layer can continue after the octets, within the limits, and they are not an envelope. The
+-- next octet completes a token after which the layer of the error cannot continue, and the layers
+-- examined before it can. The error has the cause of this layer with the lowest number, and names
+-- the dataset that it concerns.
 pub record RefusesNext (limits : Limits) (octets : List ℕ) (next : ℕ) (fault : TokenFault) : Type 0 where
   pub before : IsOpen limits octets
   pub is_octet : IsOctet next
@@ -151,11 +159,11 @@ pub record RefusesNext (limits : Limits) (octets : List ℕ) (next : ℕ) (fault
   pub tells : TellsTheLowest limits before.whole token fault
   pub names : Names fault.cause before.whole token fault.rec fault.set
 
--- the refusal of octets that end here, of which this dataset is begun
+-- the refusal of input that ends after `octet` octets, in the partial dataset with these numbers
 abbrev pub truncated_in : ℕ → ℕ × ℕ → Refusal
 truncated_in octet names = record { layer = layers.Dataset; rec = names.0; set = names.1; octet = octet; cause = Truncated }
 
--- The octets are truncated: the refusal names the octet `a` and the begun dataset.
+-- The refusal reports that the octets are truncated, at octet `a` and in their partial dataset.
 pub record IsTruncatedAt (p : List ℕ) (a : ℕ) (e : Refusal) : Type 0 where
   pub whole : List Dataset
   pub begun : Begun

@@ -1,4 +1,4 @@
--- What a whole stream is answered, and the envelopes that an input begins with.
+-- The result of a whole stream, and the envelopes that an input begins with.
 use Rattle.std.specs.Prelude.{◌≡◌, ◌≢◌, ℕ, ◌<◌, ◌≤◌, List, length, take, slice_index, ◌+◌, min, true, false, [], ◌∷◌, Bool, ◌⊎◌, ◌++◌, map}
 use Rattle.std.specs.List.{AllByRecursion}
 use Rattle.iim_places.specs.Format.{Admitted.Value, Admitted.Admits, Admitted.AreWithin, Causes.refusal_at}
@@ -13,12 +13,13 @@ pub record IsEnvelopeWithin (limits : Limits) (octets : List ℕ) (value : Value
   pub admits : Admits octets value
   pub within : AreWithin limits admits.datasets
 
--- It is the octets that are refused, and not the sink that stopped.
+-- The octets are rejected, and not because the sink stopped.
 pub record Kills (limits : Limits) (octets : List ℕ) (next : ℕ) (fault : TokenFault) : Type 0 where
   pub refuses : RefusesNext limits octets next fault
   pub by_octets : fault.cause ≢ Message Sink
 
--- an envelope of `used` octets with this value; a refusal of octets; or octets that end too early
+-- the result: an envelope of `used` octets with this value; the refusal of an octet; or the refusal
+-- of a truncated stream
 pub data Answer : Type 0 where
   Finished : (used : ℕ) → (value : Value) → Answer
   Refused : (refusal : Refusal) → Answer
@@ -29,46 +30,47 @@ pub record IsFinished (limits : Limits) (stream : List ℕ) (used : ℕ) (value 
   pub fits : used ≤ length stream
   pub envelope : IsEnvelopeWithin limits (take used stream) value
 
--- Every layer can continue from the octets before the named one, and that one is refused: the named layer is dead with it, or the sink
--- stopped.
+-- Every layer can continue after the octets before the reported one, and that one is rejected: the
+-- reported layer cannot continue after it, or the sink stopped.
 pub record IsRefused (limits : Limits) (stream : List ℕ) (e : Refusal) : Type 0 where
   pub fits : e.octet < length stream
   pub fault : TokenFault
   pub refusal : e ≡ refusal_at e.octet fault
   pub refuses : RefusesNext limits (take e.octet stream) (slice_index stream e.octet) fault
 
--- Every layer can continue from all octets of the stream, and they begin with no envelope.
+-- The whole stream is incomplete: every layer can continue after it, and no envelope ends within
+-- it.
 pub record IsTruncated (limits : Limits) (stream : List ℕ) (e : Refusal) : Type 0 where
   pub is_open : IsOpen limits stream
   pub refusal : IsTruncatedAt stream (length stream) e
 
--- what the stream is answered, whatever a sink does
+-- the result of the stream, if no sink stops
 abbrev pub Answers : Limits → List ℕ → Answer → Type 0
 Answers limits stream (Finished used value) = IsFinished limits stream used value
 Answers limits stream (Refused e) = IsRefused limits stream e × (e.cause ≢ Message Sink)
 Answers limits stream (Truncated e) = IsTruncated limits stream e
 
--- a count, raised by n; it stays at the greatest number of 64 bits
+-- a count plus `n`, saturated at the greatest number of 64 bits
 abbrev pub raised : ℕ → ℕ → ℕ
 raised a n = min (a + n) greatest_u64
 
--- there is an octet
+-- whether the list is non-empty
 abbrev pub are_some : List ℕ → Bool
 are_some [] = false
 are_some (x ∷ xs) = true
 
--- ---- The envelopes that an input begins with, and what stands after them.
+-- ---- The envelopes that an input begins with, and what follows them.
 
--- how many envelopes are listed at most
+-- the maximum number of listed envelopes
 abbrev pub max_envelopes : ℕ
 max_envelopes = 1000000
 
--- an envelope of an input: its octets, and the value that they have
+-- an envelope of an input: its octets, and their value
 pub record Listed : Type 0 where
   pub octets : List ℕ
   pub value : Value
 
--- Its octets are admitted with its value, within the limits.
+-- Its octets are an envelope with its value, within the limits.
 abbrev pub IsListed : Limits → Listed → Type 0
 IsListed limits e = IsEnvelopeWithin limits e.octets e.value
 
@@ -81,43 +83,45 @@ abbrev pub joined : List Listed → List ℕ
 joined [] = []
 joined (e ∷ es) = e.octets ++ joined es
 
--- The input is these envelopes, joined, and a rest; and they are not too many to be listed.
+-- The input is the concatenation of these envelopes and a rest, and the envelopes are at most
+-- `max_envelopes`.
 pub record Divides (limits : Limits) (input : List ℕ) (envelopes : List Listed) (rest : List ℕ) : Type 0 where
   pub admitted : AllByRecursion (IsListed limits) envelopes
   pub parts : input ≡ joined envelopes ++ rest
   pub few : length envelopes ≤ max_envelopes
 
--- Every layer can continue from the first k octets, and no envelope ends with them. The next octet completes the first token with
--- which a layer can't. (Octets are counted up to the greatest number of 64 bits.)
+-- Every layer can continue after the first `k` octets, and they are not an envelope. The next octet
+-- completes the first token after which a layer cannot continue. (Counts of octets saturate at the
+-- greatest number of 64 bits.)
 pub record IsDeadAfter (limits : Limits) (rest : List ℕ) (k : ℕ) (e : Refusal) : Type 0 where
   pub within : k < length rest
   pub fault : TokenFault
   pub refusal : e ≡ refusal_at (raised 0 k) fault
   pub kills : Kills limits (take k rest) (slice_index rest k) fault
 
--- Every layer can continue from the octets, which are some, and which end there.
+-- The octets are non-empty and truncated: every layer can continue after them, and the input ends.
 pub record EndsTruncated (limits : Limits) (rest : List ℕ) (e : Refusal) : Type 0 where
   pub some : rest ≢ []
   pub is_open : IsOpen limits rest
   pub truncated : IsTruncatedAt rest (raised 0 (length rest)) e
 
--- The octets are refused after the first k of them: by the next one, or since they end there.
+-- The rest is rejected after its first `k` octets: by the next octet, or because the input ends.
 abbrev pub IsRefusedAfter : Limits → List ℕ → ℕ → Refusal → Type 0
 IsRefusedAfter limits rest k e = (EndsTruncated limits rest e × (k ≡ length rest)) ⊎ IsDeadAfter limits rest k e
 
--- What stands after the envelopes: nothing, octets that are refused, or one envelope too many.
+-- What follows the envelopes: nothing, rejected octets, or one envelope too many.
 pub data InputEnding : Type 0 where
   Whole : InputEnding
   RefusedBy : Refusal → InputEnding
   TooMany : InputEnding
 
--- The octets after `count` envelopes are this ending.
+-- The octets after `count` envelopes have this ending.
 abbrev pub EndsBy : Limits → ℕ → List ℕ → InputEnding → Type 0
 EndsBy limits count rest Whole = rest ≡ []
 EndsBy limits count rest (RefusedBy refusal) = (k : ℕ) × IsRefusedAfter limits rest k refusal
 EndsBy limits count rest TooMany = (count ≡ max_envelopes) × (e : Listed) × IsListed limits e × (more : List ℕ) × (rest ≡ e.octets ++ more)
 
--- The listing of an input: the envelopes that it begins with, and what stands after them.
+-- The listing of an input: the envelopes that it begins with, and what follows them.
 pub record IsListing (limits : Limits) (input : List ℕ) (envelopes : List Listed) (ending : InputEnding) : Type 0 where
   pub rest : List ℕ
   pub divides : Divides limits input envelopes rest

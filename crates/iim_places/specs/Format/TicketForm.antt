@@ -1,4 +1,4 @@
--- The form of a ticket, whether or not some place has it, and what its parts may be.
+-- The form of a ticket and of its parts, whether or not any position has it.
 use Rattle.std.specs.Prelude.{◌≡◌, ℕ, ◌^◌, ◌<◌, List, length, Option, Some, None, ⊤, ◌-◌, ◌≤◌, ◌==◌, if◌then◌else◌, [], ◌∷◌, ◌++◌, ◌⊎◌, ◌+◌, codes}
 use Rattle.std.specs.List.{AllByRecursion, flat_map}
 use Rattle.iim_dataset.specs.Format.Datasets.{Dataset}
@@ -6,46 +6,47 @@ use Rattle.iim_places.specs.Format.Tickets.{width, Phase, TagBegun, DataBegun, A
 use Rattle.iim_places.specs.declared.ticket.fault.TicketFault.{TicketFault}
 pub use Rattle.iim_places.specs.declared.ticket.fault.TicketFault.TheVariants.{TicketForm, TicketVersion, HeaderFull, Impossible, OutOfMemory, TooManyFields}
 
--- a dataset whose length four octets tell
+-- The length of the dataset fits into four octets.
 abbrev pub IsLongField : Dataset → Type 0
 IsLongField d = length d.octets < 2 ^ 32
 
--- a number that the octets of the version tell
+-- The number fits into the width of the version.
 abbrev pub IsWide : ℕ → ℕ → Type 0
 IsWide version n = n < 256 ^ width version
 
--- one that may be absent
+-- The number is absent or fits into the width of the version.
 abbrev pub IsSizeIn : ℕ → Option ℕ → Type 0
 IsSizeIn version None = ⊤
 IsSizeIn version (Some n) = IsWide version n
 
--- a text whose length one octet tells
+-- The length of the text fits into one octet.
 abbrev pub IsShort : List ℕ → Type 0
 IsShort xs = length xs < 256
 
--- datasets whose number four octets tell
+-- Datasets whose count, like the length of each, fits into four octets.
 pub record AreFields (ds : List Dataset) : Type 0 where
   pub each : AllByRecursion IsLongField ds
   pub few : length ds < 2 ^ 32
 
--- the numbers of 7:10, 7:20, 7:90 and 7:95
+-- The numbers of 7:10, 7:20, 7:90 and 7:95, each absent or of the version's width.
 pub record AreNumbersIn (version : ℕ) (numbers : List (Option ℕ)) : Type 0 where
   pub each : AllByRecursion (IsSizeIn version) numbers
   pub four : length numbers ≡ 4
 
--- source, number, priority, category, words, info and trailer
+-- The texts of the message: source, number, priority, category, words, info and trailer.
 pub record AreTexts (texts : List (List ℕ)) : Type 0 where
   pub each : AllByRecursion IsShort texts
   pub seven : length texts ≡ 7
 
--- a walk over the datasets of a ticket is seen as those that are left
+-- The view of an iterator over the datasets of a ticket: the remaining datasets.
 abbrev pub those_left : List Dataset → List Dataset
 those_left ds = ds
 
--- ---- The form of a ticket, whether or not some place has it.
+-- ---- The form of a ticket, whether or not any position has it.
 
--- The version; the section; what is begun; the datasets; the numbers of record 7; how many octets of the object, and how many heads of 8:10, have
--- come; of the message the part, the counter, the flag and the texts.
+-- The parts: the version; the section; the partial dataset; the datasets; the numbers of record 7;
+-- the octets of the object and the heads of 8:10 received; and the part, the counter, the flag and
+-- the texts of the message.
 pub record Split : Type 0 where
   pub version : ℕ
   pub section : ℕ
@@ -59,11 +60,11 @@ pub record Split : Type 0 where
   pub flag : ℕ
   pub texts : List (List ℕ)
 
--- the octets of these parts
+-- the encoding of these parts
 abbrev pub split_octets : Split → List ℕ
 split_octets s = layout s.version s.section s.phase s.fields s.numbers s.taken s.heads ((s.part ∷ s.counter ∷ s.flag ∷ []) ++ flat_map text_octets s.texts)
 
--- how many octets of begun data stand there
+-- how many octets of partial data are stored
 abbrev pub came : (section count left : ℕ) → ℕ
 came section count left = if section == 8 then 0 else count - left
 
@@ -71,14 +72,14 @@ came section count left = if section == 8 then 0 else count - left
 abbrev pub IsVersion : ℕ → Type 0
 IsVersion version = (version ≡ first_version.number) ⊎ (version ≡ second_version.number)
 
--- Of a tag less octets are held than five and those of a number. Of data no more are to come than its count, and what has come stands
--- there unless it is a subfile's.
+-- A partial tag has fewer octets than five plus the width of a number. Of partial data at most the
+-- count remains, and the octets received are stored unless they are a subfile's.
 abbrev pub IsPhase : ℕ → ℕ → Phase → Type 0
 IsPhase version section (TagBegun held) = length held < 5 + width version
 IsPhase version section (DataBegun set count left taken) = IsWide version count × (left ≤ count) × (length taken ≡ came section count left)
 IsPhase version section AllEnded = ⊤
 
--- The parts have the form of a ticket's: each number is one that its octets can tell.
+-- The parts have the form of a ticket: each number fits into the octets that encode it.
 pub record HasForm (s : Split) : Type 0 where
   pub version : IsVersion s.version
   pub phase : IsPhase s.version s.section s.phase
@@ -93,14 +94,15 @@ pub record SplitsTicket (ticket : List ℕ) (s : Split) : Type 0 where
   pub form : HasForm s
   pub spelled : ticket ≡ split_octets s
 
--- The octets begin with a ticket's name, and with a number that is no version's.
+-- The octets begin with a ticket's name, followed by the number of no known version.
 pub record HasOtherVersion (ticket : List ℕ) : Type 0 where
   pub version : ℕ
   pub rest : List ℕ
   pub named : ticket ≡ codes "IIMT" ++ version ∷ rest
   pub other : IsVersion version → ⊥
 
--- The version is told exactly where a ticket's name is followed by another one. The form is told exactly of all else without parts.
+-- TicketVersion is reported if and only if a ticket's name is followed by another version.
+-- TicketForm is reported for all other octets that cannot be split.
 abbrev pub IsFaultOf : List ℕ → TicketFault → Type 0
 IsFaultOf ticket TicketVersion = HasOtherVersion ticket
 IsFaultOf ticket TicketForm = (HasOtherVersion ticket → ⊥) × ((s : Split) → SplitsTicket ticket s → ⊥)

@@ -1,4 +1,4 @@
--- The place that octets lead to, and its ticket.
+-- The position that octets reach, and its ticket.
 use Rattle.std.specs.Prelude.{◌≡◌, ℕ, ◌+◌, ◌-◌, ◌==◌, if◌then◌else◌, List, [], ◌∷◌, ◌++◌, length, codes, Option, Some, None}
 use Rattle.std.specs.{List.flat_map, Int.w32, Int.w64, Int.to_be_bytes}
 use Rattle.iim_dataset.specs.Format.Datasets.{Dataset, of_record, count_octets, Begun, InTag, InData, Reads}
@@ -9,17 +9,19 @@ use Rattle.wire_message.specs.declared.saved.{MessagePart.MessagePart, MessagePl
 use Rattle.wire_message.specs.declared.saved.MessagePart.TheVariants as part
 use Rattle.iim_places.specs.Format.Open.{object_so_far, section}
 
--- ---- places
+-- ---- positions
 
--- What is begun: some octets of a tag, none of them between datasets; or data, of which the dataset's number, the count, how many
--- octets are to come, and those that have come are kept (of a subfile none of these); or nothing, since the last dataset has ended.
+-- The partial dataset: a tag with its octets so far (empty between datasets); or data, with the
+-- dataset's number, the count, the number of remaining octets, and the octets received (not stored
+-- for a subfile); or none, after the last dataset.
 pub data Phase : Type 0 where
   TagBegun : List ℕ → Phase
   DataBegun : (set count left : ℕ) → List ℕ → Phase
   AllEnded : Phase
 
--- The record of the last head; what is begun; the datasets of records 1 and 2; the numbers of 7:10, 7:20, 7:90 and 7:95; how many
--- octets of the object, and how many heads of 8:10, have come; and the place of the message.
+-- The position of an unpacker: the record of the last head; the partial dataset; the datasets of
+-- records 1 and 2; the numbers of 7:10, 7:20, 7:90 and 7:95; how many octets of the object and how
+-- many heads of 8:10 were received; and the position in the message.
 pub record Place : Type 0 where
   pub section : ℕ
   pub phase : Phase
@@ -33,12 +35,13 @@ abbrev pub phase_of : List Dataset → Begun → Phase
 phase_of ds (InTag held) = if section_after ds == 9 then AllEnded else TagBegun held
 phase_of ds (InData h taken) = DataBegun h.set h.count (h.count - length taken) (if h.rec == 8 then [] else taken)
 
--- the heads of 8:10, that of a begun subfile among them
+-- the number of heads of 8:10, that of a partial subfile included
 abbrev pub heads_of : List Dataset → Begun → ℕ
 heads_of ds (InTag held) = length (of_record 8 ds)
 heads_of ds (InData h taken) = length (of_record 8 ds) + (if h.rec == 8 then 1 else 0)
 
--- the place of whole datasets and a begun one, whose object has led the message there
+-- the position after complete datasets and a partial one, whose object reaches this position in the
+-- message
 abbrev pub place_of : List Dataset → Begun → MessagePlace → Place
 place_of whole begun message = record {
   section = section whole begun;
@@ -50,7 +53,7 @@ place_of whole begun message = record {
   message = message;
 }
 
--- The octets so far have led to this place.
+-- The octets reach this position.
 pub record IsPlaceOf (octets : List ℕ) (place : Place) : Type 0 where
   pub whole : List Dataset
   pub begun : Begun
@@ -60,9 +63,10 @@ pub record IsPlaceOf (octets : List ℕ) (place : Place) : Type 0 where
   pub leads : LeadsToSaved (object_so_far whole begun) text message
   pub is_place : place ≡ place_of whole begun message
 
--- ---- the octets of a place
+-- ---- the encoding of a position
 
--- A version of tickets: its number, and how many octets a count, a size or a number of octets of the object has in its tickets.
+-- A version of tickets: its number, and the width in octets of a count, a size or a number of
+-- octets of the object.
 pub record TicketVersion : Type 0 where
   pub number : ℕ
   pub width : ℕ
@@ -73,7 +77,7 @@ first_version = record { number = 1; width = 4 }
 abbrev pub second_version : TicketVersion
 second_version = record { number = 2; width = 8 }
 
--- the version of the tickets that are made
+-- the version that is written now
 abbrev pub present_version : ℕ
 present_version = second_version.number
 
@@ -85,7 +89,7 @@ width version = if version == first_version.number then first_version.width else
 abbrev pub four : ℕ → List ℕ
 four n = to_be_bytes w32 n
 
--- a number in as many octets as the version has
+-- a number in the width of the version, high octet first
 abbrev pub wide : ℕ → ℕ → List ℕ
 wide version n = if version == first_version.number then four n else to_be_bytes w64 n
 
@@ -107,7 +111,7 @@ number_octets version (Some n) = 1 ∷ wide version n
 abbrev pub text_octets : List ℕ → List ℕ
 text_octets xs = length xs ∷ xs
 
--- the parts of a message are told by their number
+-- the number that encodes a part of a message
 abbrev pub part_number : MessagePart → ℕ
 part_number part.Filler = 0
 part_number part.Source = 1
@@ -131,25 +135,25 @@ texts_octets m =
 abbrev pub message_octets : MessagePlace → List ℕ
 message_octets m = (part_number m.part ∷ m.counter ∷ m.flag ∷ []) ++ texts_octets m
 
--- what each ticket begins with: a name, and the version
+-- what each ticket begins with: the name and the version
 abbrev pub ticket_name : ℕ → List ℕ
 ticket_name version = codes "IIMT" ++ version ∷ []
 
--- the order of what follows: the section, what is begun, the datasets, the numbers of record 7, the octets and heads of the object,
--- and the octets of the message
+-- the order of what follows: the section, the partial dataset, the datasets, the numbers of record
+-- 7, the octets and heads of the object, and the encoding of the position in the message
 abbrev pub layout : ℕ → ℕ → Phase → List Dataset → List (Option ℕ) → ℕ → ℕ → List ℕ → List ℕ
 layout version section phase fields numbers taken heads message =
     ticket_name version ++ (section ∷ []) ++ phase_octets version phase ++ fields_octets fields ++ flat_map (number_octets version) numbers
     ++ wide version taken ++ four heads ++ message
 
--- the ticket of the place, in a version
+-- the ticket of the position, in a version
 abbrev pub ticket_in : ℕ → Place → List ℕ
 ticket_in version p = layout version p.section p.phase p.fields p.numbers p.taken p.heads (message_octets p.message)
 
 abbrev pub ticket_of : Place → List ℕ
 ticket_of p = ticket_in present_version p
 
--- The octets of the ticket are those of the place that the octets so far have led to.
+-- The ticket is that of the position that the octets reach.
 pub record IsTicketOf (octets ticket : List ℕ) : Type 0 where
   pub place : Place
   pub is_place : IsPlaceOf octets place

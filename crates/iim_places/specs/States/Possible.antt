@@ -1,4 +1,5 @@
--- Places at which an envelope can be: by datasets that lead there, by what each layer says, and by smaller sizes.
+-- Positions that an envelope can have: by datasets that reach them, by each layer, and by smaller
+-- sizes.
 use Rattle.std.specs.Prelude.{◌≡◌, ℕ, ◌+◌, ◌⊎◌, ◌≤◌, true, ⊤, Option, None, Some, if◌then◌else◌, List, length, zero, suc, Bool, [], ◌∷◌, ◌++◌, take, drop, ◌↔◌, ◌-◌, ◌==◌, false}
 use Rattle.std.specs.{List.AllByRecursion, Option.unwrap_or}
 use Rattle.iim_fields.specs.Format.Causes.{is_kept, joined, section_after}
@@ -23,17 +24,18 @@ use Rattle.iim_fields.specs.declared.limits.Limits.{Limits}
 abbrev pub widest : Limits
 widest = record { octets = greatest_u32; fields = greatest_u32 }
 
--- The octets are open under the limits, or an envelope within them.
+-- The octets are incomplete under the limits, or an envelope within them.
 abbrev pub AreOpenOrWhole : Limits → List ℕ → Type 0
 AreOpenOrWhole limits octets = IsOpen limits octets ⊎ ((value : Value) × IsEnvelopeWithin limits octets value)
 
--- Some octets lead to the place, and are open or an envelope under the widest limits.
+-- Some octets reach the position, and are incomplete or an envelope under the widest limits.
 pub record Possible (place : Place) : Type 0 where
   pub octets : List ℕ
   pub leads : IsPlaceOf octets place
   pub comes : AreOpenOrWhole widest octets
 
--- ---- sizes as they were when version 1 was made: counts of at most four octets, and objects of at most 4,294,967,295
+-- ---- The sizes when version 1 was current: counts of at most four octets, and objects of at most
+-- 4,294,967,295 octets.
 
 abbrev pub count_octets_before : ℕ
 count_octets_before = 4
@@ -45,14 +47,15 @@ abbrev pub IsSmall : Option ℕ → Type 0
 IsSmall None = ⊤
 IsSmall (Some n) = n ≤ greatest_size_before
 
--- What is begun was possible then: a tag; a value of record 7 or 9, whose row had such a count; a subfile, with which the object was no
--- larger. The rows of records 1 and 2 are those that there are.
+-- The partial dataset was possible then: a tag; a value of record 7 or 9, whose row had such a
+-- count; or a subfile, with which the object was no larger. The rows of records 1 and 2 have not
+-- changed.
 abbrev pub IsSmallPhase : (section taken : ℕ) → Phase → Type 0
 IsSmallPhase section taken (TagBegun held) = BeginsTag count_octets_before held
 IsSmallPhase section taken (DataBegun set count left given) = (tells_number section ≡ true → count ≤ count_octets_before) × (section ≡ 8 → (count ≤ greatest_size_before) × (taken + left ≤ greatest_size_before))
 IsSmallPhase section taken AllEnded = ⊤
 
--- The place keeps to the sizes of that time.
+-- The position is within the sizes of that time.
 pub record IsSmallPlace (place : Place) : Type 0 where
   pub numbers : AllByRecursion IsSmall place.numbers
   pub taken : place.taken ≤ greatest_size_before
@@ -60,23 +63,24 @@ pub record IsSmallPlace (place : Place) : Type 0 where
 
 -- ---- limits
 
--- what a begun dataset of records 1 and 2 counts
+-- the octets that a partial dataset of records 1 and 2 counts towards the limit: all of its count
 abbrev pub begun_count : ℕ → Phase → ℕ
 begun_count section (TagBegun held) = 0
 begun_count section (DataBegun set count left taken) = if is_kept section then count else 0
 begun_count section AllEnded = 0
 
--- It is one dataset more.
+-- the entries that a partial dataset of records 1 and 2 counts towards the limit: one
 abbrev pub begun_fields : ℕ → Phase → ℕ
 begun_fields section (TagBegun held) = 0
 begun_fields section (DataBegun set count left taken) = if is_kept section then 1 else 0
 begun_fields section AllEnded = 0
 
--- The heads of records 1 and 2 that the place tells, a begun one among them, are within the limits.
+-- The heads of records 1 and 2 in the position, that of a partial dataset included, are within the
+-- limits.
 abbrev pub AreHeadsWithin : Limits → Place → Type 0
 AreHeadsWithin limits p = IsWithin limits (length (joined p.fields) + begun_count p.section p.phase) (length p.fields + begun_fields p.section p.phase)
 
--- what a ticket tells of record 7: the numbers of 7:10, 7:20, 7:90 and 7:95
+-- the numbers of record 7 in a ticket: those of 7:10, 7:20, 7:90 and 7:95
 pub record Numbers : Type 0 where
   pub mode : Option ℕ
   pub largest : Option ℕ
@@ -90,38 +94,38 @@ number_list n = n.mode ∷ n.largest ∷ n.announced ∷ n.maximum ∷ []
 abbrev pub mode_dataset : ℕ → Dataset
 mode_dataset n = record { rec = 7; set = 10; octets = n ∷ [] }
 
--- a dataset where there is a number
+-- one dataset if there is a number, otherwise none
 abbrev pub one_dataset : (ℕ → Dataset) → Option ℕ → List Dataset
 one_dataset made None = []
 one_dataset made (Some n) = made n ∷ []
 
--- record 7: its numbers in their order
+-- record 7: its numbers in order
 abbrev pub plain_numbers : Numbers → List Dataset
 plain_numbers n =
     one_dataset mode_dataset n.mode ++ (one_dataset (number_dataset 7 20) n.largest ++ (one_dataset (number_dataset 7 90) n.announced ++ one_dataset (number_dataset 7 95) n.maximum))
 
--- the octets cut into `count` parts of at most `size` octets, each filled before the next
+-- the octets split into `count` parts of at most `size` octets, each filled before the next
 abbrev pub filled : (size count : ℕ) → List ℕ → List (List ℕ)
 filled size zero xs = []
 filled size (suc count) xs = take size xs ∷ filled size count (drop size xs)
 
--- 9:10, where the object has ended
+-- 9:10, if the object has ended
 abbrev pub plain_end : Bool → List ℕ → List Dataset
 plain_end ended object = if ended then confirmed_datasets object else []
 
--- records 1 and 2, the numbers of record 7, `heads` subfiles of the object, each filled before the next, and its end where it has
--- come
+-- Witness datasets for a position: records 1 and 2, the numbers of record 7, `heads` subfiles of
+-- the object, each filled before the next, and 9:10 if the object has ended.
 abbrev pub plain : List Dataset → Numbers → ℕ → List ℕ → Bool → List Dataset
 plain fields numbers heads object ended = fields ++ (plain_numbers numbers ++ (subfile_datasets (filled (unwrap_or numbers.largest 0) heads object) ++ plain_end ended object))
 
 -- ---- the dataset layer
 
--- the head of begun data
+-- the head of partial data
 abbrev pub head_of_numbers : (section set count : ℕ) → Head
 head_of_numbers section set count = record { rec = section; set = set; count = count }
 
--- Octets lead to what is begun: to the held octets of a tag; or to the data of a head, of which those that have come are kept, unless
--- it is a subfile's.
+-- Some octets reach the partial dataset: the octets of a tag; or the data of a head, of which the
+-- octets received are stored, unless they are a subfile's.
 abbrev pub TagsLead : ℕ → Phase → Type 0
 TagsLead section (TagBegun held) = BeginsTag count_octets held
 TagsLead section (DataBegun set count left taken) =
@@ -130,13 +134,13 @@ TagsLead section AllEnded = ⊤
 
 -- ---- the record layer
 
--- one where a subfile is begun, else none
+-- one if a subfile is partial, otherwise 0
 abbrev pub begun_subfiles : ℕ → Phase → ℕ
 begun_subfiles section (TagBegun held) = 0
 begun_subfiles section (DataBegun set count left taken) = if section == 8 then 1 else 0
 begun_subfiles section AllEnded = 0
 
--- one where there are some, else none
+-- one if the number is positive, otherwise 0
 abbrev pub one_of_some : ℕ → ℕ
 one_of_some zero = 0
 one_of_some (suc n) = 1
@@ -147,12 +151,14 @@ are_ended (TagBegun held) = false
 are_ended (DataBegun set count left taken) = false
 are_ended AllEnded = true
 
--- Whole datasets by which the record layer is told: the fields, the numbers of record 7 in their order, one subfile where some have
--- ended, and 9:10 where the last dataset has. What subfiles and sizes tell is no matter of this layer.
+-- Complete datasets that determine the state of the record layer: the fields, the numbers of record
+-- 7 in order, one empty subfile if any is complete, and 9:10 if the last dataset has ended. The
+-- data of subfiles and the sizes do not matter to this layer.
 abbrev pub record_datasets : Place → Numbers → List Dataset
 record_datasets p numbers = plain p.fields numbers (one_of_some (p.heads - begun_subfiles p.section p.phase)) [] (are_ended p.phase)
 
--- The layer can continue after the whole datasets with what is begun, and the section is the record of the last head.
+-- The layer can continue after the complete datasets and the partial one, and the section is the
+-- record of the last head.
 abbrev pub RecordsLive : ℕ → Phase → List Dataset → Type 0
 RecordsLive section (TagBegun held) ds = (section_after ds ≡ section) × SectionsLive ds
 RecordsLive section (DataBegun set count left taken) ds = SectionsLiveAt ds (head_of_numbers section set count)
@@ -160,31 +166,35 @@ RecordsLive section AllEnded ds = (section ≡ 9) × SectionsLive ds
 
 -- ---- the object layer
 
--- the count of a begun subfile, and how many octets of it are to come
+-- the count of a partial subfile, and how many of its octets remain
 abbrev pub begun_of_object : ℕ → Phase → Option (ℕ × ℕ)
 begun_of_object section (TagBegun held) = None
 begun_of_object section (DataBegun set count left taken) = if section == 8 then Some (count, left) else None
 begun_of_object section AllEnded = None
 
--- the place of the object after what came last: its end with the head of 9:10, and its size with the value
+-- the position in the object after the last token: its end with the head of 9:10, and its size with
+-- that value
 abbrev pub object_after : ℕ → Phase → ℕ → objects.Place → objects.Place
 object_after section (TagBegun held) total p = p
 object_after section (DataBegun set count left taken) total p = if section == 9 then objects.place_after p ObjectEnded else p
 object_after section AllEnded total p = objects.place_after (objects.place_after p ObjectEnded) (Confirmed total)
 
--- Tokens lead the object to these numbers, and the layer can continue from them.
+-- Some tokens give the object these numbers, octets and heads, and the layer can continue after
+-- them.
 abbrev pub ObjectLeads : Place → Type 0
 ObjectLeads place = (p : objects.Place) × IsAt place.numbers place.taken (begun_of_object place.section place.phase) place.heads p
     × IsPossible (object_after place.section place.phase place.taken p)
 
--- Some octets, `place.taken` of them, lead to the message's place, and where the object has ended, so has the message.
+-- Some octets, `place.taken` of them, reach the position in the message. If the object has ended,
+-- so has the message.
 abbrev pub MessageLeads : Place → Type 0
 MessageLeads place = (octets : List ℕ) × (text : List ℕ) × LeadsToSaved octets text place.message × (length octets ≡ place.taken)
     × (place.section ≡ 9 → place.message.part ≡ AfterEnd)
 
--- ---- all of them
+-- ---- all layers
 
--- Each layer can be at the place, and can continue from there; and it is within the widest limits.
+-- Each layer can reach the position and continue from it, and the position is within the widest
+-- limits.
 pub record LeadsByLayers (place : Place) : Type 0 where
   pub numbers : Numbers
   pub numbers_are : place.numbers ≡ number_list numbers
@@ -195,33 +205,34 @@ pub record LeadsByLayers (place : Place) : Type 0 where
   pub message : MessageLeads place
   pub within : AreHeadsWithin widest place
 
--- A place is possible exactly where each layer alone can be there.
+-- A position is possible if and only if each layer by itself can reach it.
 abbrev pub PlacesArePossibleByLayers : Type 0
 PlacesArePossibleByLayers = (place : Place) → Possible place ↔ LeadsByLayers place
 
--- ---- Places that were possible by smaller sizes: with at most `octets` octets in an extended count and in a size, and objects of at most
--- `greatest` octets. The languages of the layers are those of today, without what is larger.
+-- ---- Positions that were possible by smaller sizes: an extended count and a size have at most
+-- `octets` octets, and an object at most `greatest`. The languages of the layers are the present
+-- ones, without anything larger.
 
 pub record Scale : Type 0 where
   pub octets : ℕ
   pub greatest : ℕ
 
--- the sizes that there were when version 1 was made
+-- the sizes when version 1 was current
 abbrev pub first_scale : Scale
 first_scale = record { octets = count_octets_before; greatest = greatest_size_before }
 
 -- ---- the record layer
 
--- what the rows of 7:20, 7:90, 7:95, 8:10 and 9:10 say by the scale, beside what they say now
+-- the additional conditions of the rows of 7:20, 7:90, 7:95, 8:10 and 9:10 by the scale
 pub record FitsRow (s : Scale) (d : Dataset) : Type 0 where
   pub size : tells_number d.rec ≡ true → (length d.octets ≤ s.octets) × (number d.octets ≤ s.greatest)
   pub subfile : d.rec ≡ 8 → length d.octets ≤ s.greatest
 
--- the datasets of an envelope, each as its row says by the scale
+-- the datasets of an envelope, each within its row by the scale
 abbrev pub SectionsIn : Scale → List Dataset → Type 0
 SectionsIn s ds = AreSections ds × AllByRecursion (FitsRow s) ds
 
--- ---- open octets, and envelopes
+-- ---- incomplete input, and envelopes
 
 abbrev pub SectionsLiveIn : Scale → List Dataset → Begun → Type 0
 SectionsLiveIn s ds (InTag held) = IsAlive (SectionsIn s) ds
@@ -235,7 +246,8 @@ abbrev pub HaveRoomIn : Limits → List Dataset → Begun → Type 0
 HaveRoomIn limits ds (InTag held) = Unit {0}
 HaveRoomIn limits ds (InData h taken) = HaveRoom limits ds h
 
--- Every layer can continue from the octets by the scale, within the limits, and they are no envelope.
+-- Every layer can continue after the octets by the scale, within the limits, and they are not an
+-- envelope.
 pub record IsOpenIn (s : Scale) (limits : Limits) (octets : List ℕ) : Type 0 where
   pub whole : List Dataset
   pub begun : Begun
@@ -257,12 +269,13 @@ pub record IsWholeIn (s : Scale) (limits : Limits) (octets : List ℕ) : Type 0 
   pub total : length (object_of admits.datasets) ≤ s.greatest
   pub within : AreWithin limits admits.datasets
 
--- Some octets lead to the place, and are open or an envelope by the scale under the widest limits.
+-- Some octets reach the position, and are incomplete or an envelope by the scale under the widest
+-- limits.
 pub record PossibleAt (s : Scale) (place : Place) : Type 0 where
   pub octets : List ℕ
   pub leads : IsPlaceOf octets place
   pub comes : IsOpenIn s widest octets ⊎ IsWholeIn s widest octets
 
--- The place is possible in tickets of the version: in version 1 by the first scale.
+-- The position is possible in tickets of the version: in version 1 by the first scale.
 abbrev pub IsPossibleIn : ℕ → Place → Type 0
 IsPossibleIn version place = Possible place × (version ≡ first_version.number → PossibleAt first_scale place)

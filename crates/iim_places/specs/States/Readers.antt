@@ -1,4 +1,4 @@
--- The readers that a ticket's place has.
+-- The readers at a ticket's position.
 use Rattle.std.specs.Prelude.{ℕ, ◌≡◌, ◌==◌, if◌then◌else◌, Bool, true, List, Option, IsSome}
 use Rattle.iim_dataset.specs.{States.Reading.between, States.Reading.TakesCalls, Format.Datasets.Dataset}
 use Rattle.iim_dataset.specs.declared.place.DatasetPlace.{DatasetPlace, TheVariants.Tag, TheVariants.Inside}
@@ -14,54 +14,56 @@ use Rattle.wire_message.specs.States.Reading as wire
 use Rattle.wire_message.specs.{States.Reading.LeadsToSaved, declared.place.Place.Place as Message}
 use Rattle.iim_fields.specs.declared.limits.Limits.{Limits}
 
--- where the next octet stands
+-- the state of the reader of tags before the next octet
 abbrev pub tag_place : ℕ → Phase → DatasetPlace
 tag_place section (TagBegun held) = Tag (record { items = held })
 tag_place section (DataBegun set count left taken) = Inside (head_of_numbers section set count) left
 tag_place section AllEnded = between
 
--- whether an octet has come: there was a head, or a tag is begun
+-- whether an octet was received: after a head, or within a tag
 abbrev pub has_come : ℕ → Phase → Bool
 has_come section (TagBegun held) = if section == 0 then are_some held else true
 has_come section (DataBegun set count left given) = true
 has_come section AllEnded = true
 
--- ---- the readers of a place
+-- ---- the readers at a position
 
--- Where the reader of records stands by whole datasets: after them, or in the begun data after them.
+-- The reader of records has consumed the complete datasets and the partial data after them.
 abbrev pub RecordsStand : FieldsPlace → ℕ → Phase → List Dataset → Type 0
 RecordsStand fields section (TagBegun held) ds = StandsAfter fields ds
 RecordsStand fields section (DataBegun set count left given) ds = StandsIn fields ds (head_of_numbers section set count) given
 RecordsStand fields section AllEnded ds = StandsAfter fields ds
 
--- The object's reader stands wherever numbers, octets and heads say, if the layer can continue from there.
+-- The reader of the object is in every state with these numbers, octets and heads from which the
+-- layer can continue.
 abbrev pub ObjectStands : Option State → Place → Type 0
 ObjectStands reader place = (p : objects.Place) → IsAt place.numbers place.taken (begun_of_object place.section place.phase) place.heads p
     → IsPossible (object_after place.section place.phase place.taken p) → reading.StandsAt reader (object_after place.section place.phase place.taken p)
 
--- The message's reader stands at all octets that lead to the place.
+-- The reader of the message is in the state after all octets that reach the position.
 abbrev pub MessageStands : Option Message → Place → Type 0
 MessageStands reader place = (octets text : List ℕ) → LeadsToSaved octets text place.message → wire.StandsAt reader octets text
 
--- ---- what a ticket's parts tell
+-- ---- the parts of a ticket
 
--- They tell a place where each layer can be, and its heads are within the limits.
+-- The parts encode a position that each layer can reach, and its heads are within the limits.
 pub record LeadsWithin (limits : Limits) (s : Split) : Type 0 where
   pub place : Place
   pub parts : split_of s.version place ≡ s
   pub leads : LeadsByLayers place
   pub within : AreHeadsWithin limits place
 
--- The reader of records stands at each place that they tell where each layer can be.
+-- The reader of records is in the state of each position with these parts that each layer can
+-- reach.
 abbrev pub FieldsStand : Split → FieldsPlace → Type 0
 FieldsStand s records = (place : Place) → split_of s.version place ≡ s → (l : LeadsByLayers place)
     → RecordsStand records place.section place.phase (record_datasets place l.numbers)
 
--- None is one where each layer can be by the sizes of the version.
+-- No position with these parts can be reached in each layer by the sizes of the version.
 abbrev pub LeadsNowhereIn : Split → Type 0
 LeadsNowhereIn s = (place : Place) → split_of s.version place ≡ s → LeadsByLayers place → (s.version ≡ 1 → IsSmallPlace place) → ⊥
 
--- The readers stand where the parts tell, and each layer can be there.
+-- The readers are at the position of the parts, and each layer can reach it.
 pub record AreAt (s : Split) (r : Readers) : Type 0 where
   pub place : Place
   pub parts : split_of s.version place ≡ s
@@ -76,7 +78,8 @@ pub record AreAt (s : Split) (r : Readers) : Type 0 where
   pub fields_are : r.fields ≡ fields_told place
   pub begun_is : r.begun ≡ has_come place.section place.phase
 
--- So they do, by the sizes of the version.
+-- The readers are at the position of the parts, and each layer can reach it by the sizes of the
+-- version.
 pub record AreAtIn (s : Split) (r : Readers) : Type 0 where
   pub at : AreAt s r
   pub small : s.version ≡ 1 → IsSmallPlace at.place

@@ -1,4 +1,4 @@
--- The tickets of possible places, what they tell, and why one is refused.
+-- The tickets of possible positions, their contents, and why a ticket is rejected.
 use Rattle.std.specs.Prelude.{◌≡◌, ℕ, ◌+◌, ◌<◌, ◌≤◌, List, length, map}
 use Rattle.iim_fields.specs.{Format.Causes.joined, declared.limits.Limits.Limits}
 use Rattle.iim_places.specs.States.Possible.{IsPossibleIn, AreHeadsWithin, begun_count, begun_fields}
@@ -8,29 +8,31 @@ use Rattle.iim_places.specs.declared.ticket.split.TicketPhase.TheVariants.{Tag, 
 use Rattle.iim_places.specs.declared.ticket.{fault.TicketFault.TicketFault, split.TicketParts.TicketParts}
 use Rattle.iim_places.specs.declared.ticket.{split.TicketPhase.TicketPhase}
 
--- The octets are the ticket of this place in a version in which it is possible.
+-- The octets are the ticket of this position, in a version in which it is possible.
 pub record IsTicketAt (ticket : List ℕ) (place : Place) : Type 0 where
   pub version : ℕ
   pub is_version : IsVersion version
   pub possible : IsPossibleIn version place
   pub spelled : ticket ≡ ticket_in version place
 
--- how many octets the heads of records 1 and 2 that the place tells count together, a begun one among them, and how many they are
+-- The sum of the counts in the heads of records 1 and 2 in the position, that of a partial dataset
+-- included; and the number of these heads.
 abbrev pub octets_told : Place → ℕ
 octets_told p = length (joined p.fields) + begun_count p.section p.phase
 
 abbrev pub fields_told : Place → ℕ
 fields_told p = length p.fields + begun_fields p.section p.phase
 
--- which limit `octets` octets and `fields` datasets pass
+-- The limit that `octets` octets and `fields` datasets exceed.
 abbrev pub IsLimitFault : Limits → (octets fields : ℕ) → TicketFault → Type 0
 IsLimitFault limits octets fields HeaderFull = limits.octets < octets
 IsLimitFault limits octets fields TooManyFields = (octets ≤ limits.octets) × (limits.fields < fields)
 IsLimitFault limits octets fields _ = ⊥
 
--- Why no unpacker is made from the octets: they have not the form of a ticket, or are one of another version. Or they have the form,
--- and are the ticket of no possible place. Or they are that of one, whose heads of records 1 and 2 count more octets than the limits
--- allow, or else are more datasets. Or all is well but for memory.
+-- Why no unpacker is restored from the octets. They do not have the form of a ticket, or have
+-- another version. Or they have the form, and are the ticket of no possible position. Or the heads
+-- of records 1 and 2 of that position exceed the limit on octets, or otherwise the limit on
+-- datasets. Or only the allocation of memory fails.
 abbrev pub IsRestoreFault : Limits → List ℕ → TicketFault → Type 0
 IsRestoreFault limits ticket TicketForm = IsFaultOf ticket TicketForm
 IsRestoreFault limits ticket TicketVersion = IsFaultOf ticket TicketVersion
@@ -39,7 +41,7 @@ IsRestoreFault limits ticket HeaderFull = (place : Place) × IsTicketAt ticket p
 IsRestoreFault limits ticket TooManyFields = (place : Place) × IsTicketAt ticket place × (octets_told place ≤ limits.octets) × (limits.fields < fields_told place)
 IsRestoreFault limits ticket OutOfMemory = (place : Place) × IsTicketAt ticket place × AreHeadsWithin limits place
 
--- ---- what is told of octets
+-- ---- the models of the Rust types
 
 abbrev pub phase_told : TicketPhase → Phase
 phase_told (Tag held) = TagBegun held.now

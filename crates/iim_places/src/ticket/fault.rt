@@ -1,29 +1,31 @@
-//! Why a ticket is refused.
+//! Why a ticket is rejected.
 
 ghost use Rattle.std.specs.Prelude.{◌≡◌};
 ghost use Rattle.iim_places.specs.Format.Faults.{ticket_number, ticket_name};
 
 use thiserror::Error;
 
-/// Why no unpacker is made from a ticket.
+/// Why no unpacker can be restored from a ticket.
 #[derive(Clone, Copy, Debug, PartialEq, Eq, Error)]
 pub enum TicketFault {
-    /// The octets have not the form of a ticket (100).
+    /// The octets do not have the form of a ticket (100).
     #[error("the octets have not the form of a ticket")]
     TicketForm,
-    /// They are a ticket of another version (101).
+    /// The ticket has a version that is not supported (101).
     #[error("the ticket is of another version")]
     TicketVersion,
-    /// They have the form of a ticket, and no octets that an envelope can continue from or end with lead to its place (102).
+    /// The octets have the form of a ticket, but no valid or incomplete envelope reaches its
+    /// position (102).
     #[error("the ticket tells a place where no envelope can be")]
     Impossible,
-    /// Its datasets of records 1 and 2, a begun one among them, count more octets than the limits allow (50).
+    /// The datasets of records 1 and 2, a partial one included, have more octets than the limits
+    /// allow (50).
     #[error("the ticket's datasets have more octets than the limits allow")]
     HeaderFull,
-    /// They are more datasets than the limits allow (51).
+    /// There are more datasets of records 1 and 2 than the limits allow (51).
     #[error("the ticket has more datasets than the limits allow")]
     TooManyFields,
-    /// Memory was refused (70).
+    /// Memory allocation failed (70).
     #[error("memory was refused")]
     OutOfMemory,
 }

@@ -1,4 +1,4 @@
-//! A walk over the datasets of a ticket.
+//! An iterator over the datasets of a ticket.
 
 ghost use Rattle.std.specs.Prelude.{◌≡◌};
 ghost use Rattle.std.specs.List.{AllByRecursion, flat_map};
@@ -9,11 +9,12 @@ ghost use Rattle.iim_places.specs.TicketParts.{HoldsFields, held_once};
 use crate::ticket::front::take_field;
 use std::marker::Model;
 
-/// The datasets of records 1 and 2 that stand in a ticket, in order: record, number and data of each. Contracts see it as the list
-/// of those that are left.
+/// An iterator over the datasets of records 1 and 2 that are stored in a ticket, in order. Each
+/// item is the record, the number and the data of a dataset. Contracts view it as the list of the
+/// remaining datasets.
 #[derive(Drop)]
 pub struct TicketFields<'a> {
-    /// Those that are left, as they stand in the ticket.
+    /// The encoding of the remaining datasets.
     pub(crate) octets: &'a [u8],
     ghost holds: { HoldsFields octets.now } by { held_once octets.now },
 }
@@ -27,7 +28,7 @@ impl<'a> Model for TicketFields<'a> {
     ghost view = { λ fields. fields.holds.0 };
 }
 
-/// A walk over all datasets that octets hold.
+/// Returns an iterator over all datasets that are encoded in `octets`.
 pub(crate) fn walk_over(octets: &[u8]) -> TicketFields<'_>
     requires { HoldsFields octets.now }
     ensures each { AllByRecursion IsLongField result }
@@ -37,7 +38,7 @@ pub(crate) fn walk_over(octets: &[u8]) -> TicketFields<'_>
 }
 
 impl<'a> TicketFields<'a> {
-    /// Another walk over those that are left.
+    /// Returns another iterator over the remaining datasets.
     pub fn again(&self) -> TicketFields<'a>
         ensures { result ≡ self.now }
     {

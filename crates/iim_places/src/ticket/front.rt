@@ -1,4 +1,4 @@
-//! What octets begin with: a number, a text, a dataset.
+//! Functions that parse one item at the start of a slice: a number, a text, a dataset.
 
 ghost use Rattle.std.specs.Prelude.{◌≡◌, ◌^◌, ◌<◌, ◌++◌, ◌∷◌, [], length, IfSome, IfNone};
 ghost use Rattle.iim_places.specs.Format.Tickets.{four, wide, field_octets, number_octets, text_octets};
@@ -9,7 +9,7 @@ ghost use Rattle.iim_places.specs.Restoring.{BeginsWithNone, IsFour};
 
 use crate::form::FIRST_VERSION;
 
-/// The first `count` octets, and those that follow.
+/// Splits off the first `count` octets. Returns `None` if there are fewer.
 pub(crate) fn take_front(octets: &[u8], count: u64) -> Option<(&[u8], &[u8])>
     ensures parts { IfSome result (λ r. octets.now ≡ r.0.now ++ r.1.now) }
     ensures len { IfSome result (λ r. length r.0.now ≡ count) }
@@ -21,7 +21,7 @@ pub(crate) fn take_front(octets: &[u8], count: u64) -> Option<(&[u8], &[u8])>
     Some(octets.split_at(count as usize))
 }
 
-/// An octet, and those that follow.
+/// Splits off the first octet. Returns `None` if there is none.
 pub(crate) fn take_octet(octets: &[u8]) -> Option<(u8, &[u8])>
     ensures parts { IfSome result (λ r. octets.now ≡ r.0 ∷ r.1.now) }
     ensures none { IfNone result (octets.now ≡ []) }
@@ -30,7 +30,7 @@ pub(crate) fn take_octet(octets: &[u8]) -> Option<(u8, &[u8])>
     Some((*octet, rest))
 }
 
-/// The number that four octets tell, high octet first.
+/// Returns the number that four octets encode, high octet first.
 fn number_of(octets: &[u8]) -> u64
     requires { length octets.now ≡ 4 }
     ensures is { four result ≡ octets.now }
@@ -40,7 +40,7 @@ fn number_of(octets: &[u8]) -> u64
     u64::from(number)
 }
 
-/// A number in four octets, high octet first, and what follows it.
+/// Parses a number of four octets, high octet first. Returns it and the rest.
 pub(crate) fn take_number(octets: &[u8]) -> Option<(u64, &[u8])>
     ensures parts { IfSome result (λ r. octets.now ≡ four r.0 ++ r.1.now) }
     ensures fits { IfSome result (λ r. r.0 < 2 ^ 32) }
@@ -50,7 +50,7 @@ pub(crate) fn take_number(octets: &[u8]) -> Option<(u64, &[u8])>
     Some((number_of(number), rest))
 }
 
-/// The number that eight octets tell, high octet first.
+/// Returns the number that eight octets encode, high octet first.
 fn wide_number_of(octets: &[u8]) -> u64
     requires { length octets.now ≡ 8 }
     ensures is { to_be_bytes w64 result ≡ octets.now }
@@ -60,7 +60,7 @@ fn wide_number_of(octets: &[u8]) -> u64
     ])
 }
 
-/// A number in eight octets, high octet first, and what follows it.
+/// Parses a number of eight octets, high octet first. Returns it and the rest.
 fn take_eight(octets: &[u8]) -> Option<(u64, &[u8])>
     ensures parts { IfSome result (λ r. octets.now ≡ to_be_bytes w64 r.0 ++ r.1.now) }
     ensures none { IfNone result (length octets.now < 8) }
@@ -69,7 +69,7 @@ fn take_eight(octets: &[u8]) -> Option<(u64, &[u8])>
     Some((wide_number_of(number), rest))
 }
 
-/// A number in as many octets as the version has, high octet first, and what follows it.
+/// Parses a number of the version's width, high octet first. Returns it and the rest.
 pub(crate) fn take_wide(version: u8, octets: &[u8]) -> Option<(u64, &[u8])>
     ensures parts { IfSome result (λ r. octets.now ≡ wide version r.0 ++ r.1.now) }
     ensures fits { IfSome result (λ r. IsWide version r.0) }
@@ -81,7 +81,7 @@ pub(crate) fn take_wide(version: u8, octets: &[u8]) -> Option<(u64, &[u8])>
     take_eight(octets)
 }
 
-/// A text after its length in one octet, and what follows it.
+/// Parses a text after its length in one octet. Returns it and the rest.
 pub(crate) fn take_text(octets: &[u8]) -> Option<(&[u8], &[u8])>
     ensures parts { IfSome result (λ r. octets.now ≡ text_octets r.0.now ++ r.1.now) }
     ensures fits { IfSome result (λ r. IsShort r.0.now) }
@@ -91,7 +91,7 @@ pub(crate) fn take_text(octets: &[u8]) -> Option<(&[u8], &[u8])>
     take_front(rest, u64::from(length))
 }
 
-/// A number that may be absent, and what follows it.
+/// Parses an optional number: a mark, 0 or 1, then after 1 the number. Returns it and the rest.
 pub(crate) fn take_option(version: u8, octets: &[u8]) -> Option<(Option<u64>, &[u8])>
     ensures parts { IfSome result (λ r. octets.now ≡ number_octets version r.0 ++ r.1.now) }
     ensures fits { IfSome result (λ r. IsSizeIn version r.0) }
@@ -108,7 +108,7 @@ pub(crate) fn take_option(version: u8, octets: &[u8]) -> Option<(Option<u64>, &[
     }
 }
 
-/// A dataset, and what follows it.
+/// Parses a dataset: its record, number, length in four octets, and data. Returns it and the rest.
 pub(crate) fn take_field(octets: &[u8]) -> Option<((u8, u8, &[u8]), &[u8])>
     ensures parts { IfSome result (λ r. octets.now ≡ field_octets (dataset r.0.0 r.0.1 r.0.2.now) ++ r.1.now) }
     ensures fits { IfSome result (λ r. length r.0.2.now < 2 ^ 32) }

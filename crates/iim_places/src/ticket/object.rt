@@ -1,4 +1,4 @@
-//! The reader of the object at the place that a ticket tells.
+//! The object reader at the position of a ticket.
 
 ghost use Rattle.std.specs.Prelude.{◌≡◌, Some, None, IsSome, IfSome, IfNone};
 ghost use Rattle.iim_object.specs.Format.Objects.{ObjectEnded, Confirmed, Place, MayFollow, place_after};
@@ -13,7 +13,7 @@ use iim_dataset::Stop;
 use iim_object::{ObjectReader, ObjectSink};
 use iim_tables::records::{CONFIRMED_SIZE, OBJECT, POST_OBJECT};
 
-/// A sink of objects that takes all of it, and keeps nothing.
+/// An object sink that accepts everything and stores nothing.
 #[derive(Drop)]
 struct Nowhere;
 
@@ -39,7 +39,8 @@ impl ObjectSink for Nowhere {
     }
 }
 
-/// The count of a begun subfile, and how many octets of it are to come; None where no subfile is begun.
+/// Returns the count of a partial subfile and how many of its octets remain, or `None` if no
+/// subfile is partial.
 fn begun_subfile(section: u8, phase: &TicketPhase<'_>) -> Option<(u64, u64)>
     ensures { result ≡ begun_of_object section (phase_told phase.now) }
 {
@@ -49,7 +50,7 @@ fn begun_subfile(section: u8, phase: &TicketPhase<'_>) -> Option<(u64, u64)>
     }
 }
 
-/// The reader after the end of the object, or None where the object layer dies with it.
+/// Returns the reader after the end of the object, or `None` if the object layer rejects the end.
 fn ended(object: ObjectReader) -> Option<ObjectReader>
     requires { IsSome object }
     ensures calls { IfSome result IsSome }
@@ -66,7 +67,7 @@ fn ended(object: ObjectReader) -> Option<ObjectReader>
     }
 }
 
-/// The reader after the confirmed size, or None where the object layer dies with it.
+/// Returns the reader after the confirmed size, or `None` if the object layer rejects it.
 fn confirmed(object: ObjectReader, size: u64) -> Option<ObjectReader>
     requires { IsSome object }
     ensures calls { IfSome result IsSome }
@@ -83,8 +84,8 @@ fn confirmed(object: ObjectReader, size: u64) -> Option<ObjectReader>
     }
 }
 
-/// The reader of the object that has ended, where these numbers of record 7 have come, `taken` octets and `heads` heads; or None where no
-/// tokens lead there.
+/// Returns the reader of an object that has ended, after these numbers of record 7, `taken` octets
+/// and `heads` heads. Returns `None` if no input reaches that state.
 fn ended_at(numbers: [Option<u64>; 4], taken: u64, heads: u64) -> Option<ObjectReader>
     ensures calls { IfSome result IsSome }
     ensures leads { IfSome result (λ r. (p : Place) × IsAt numbers taken None heads p
@@ -102,8 +103,8 @@ fn ended_at(numbers: [Option<u64>; 4], taken: u64, heads: u64) -> Option<ObjectR
     ended(object)
 }
 
-/// The reader of the object whose size is confirmed, where these numbers of record 7 have come, `taken` octets and `heads` heads; or None
-/// where no tokens lead there.
+/// Returns the reader of an object whose size is confirmed, after these numbers of record 7,
+/// `taken` octets and `heads` heads. Returns `None` if no input reaches that state.
 fn confirmed_at(numbers: [Option<u64>; 4], taken: u64, heads: u64) -> Option<ObjectReader>
     ensures calls { IfSome result IsSome }
     ensures leads { IfSome result (λ r. (p : Place) × IsAt numbers taken None heads p
@@ -119,8 +120,9 @@ fn confirmed_at(numbers: [Option<u64>; 4], taken: u64, heads: u64) -> Option<Obj
     confirmed(object, taken)
 }
 
-/// The reader of the object where these numbers of record 7 have come, `taken` octets and `heads` heads, and this is begun after a head
-/// of the section; or None where no tokens lead there.
+/// Returns the reader of the object after these numbers of record 7, `taken` octets, `heads` heads,
+/// and the partial dataset of `phase` in record `section`. Returns `None` if no input reaches that
+/// state.
 pub(crate) fn object_at(
     section: u8,
     phase: &TicketPhase<'_>,

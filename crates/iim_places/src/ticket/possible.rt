@@ -1,4 +1,4 @@
-//! Whether an envelope can be at the place that a ticket tells, and the readers there.
+//! Whether the position of a ticket is reachable, and the readers there.
 
 ghost use Rattle.iim_dataset.specs.Format.Datasets.{BeginsTag, count_octets};
 ghost use Rattle.iim_fields.specs.Format.Records.{tells_number, IsWithin};
@@ -24,7 +24,7 @@ use iim_object::ObjectReader;
 use iim_tables::records::{OBJECT, POST_OBJECT, PRE_OBJECT};
 use wire_message::{MessagePart, MessageReader};
 
-/// The readers of a place, but for that of the records, which takes memory.
+/// The readers at a position, except the reader of the records, which allocates memory.
 #[derive(Drop)]
 pub struct Readers {
     /// The reader of tags.
@@ -33,16 +33,18 @@ pub struct Readers {
     pub object: ObjectReader,
     /// The reader of the message.
     pub message: MessageReader,
-    /// How many octets the heads of records 1 and 2 count together, a begun one among them.
+    /// How many octets the heads of records 1 and 2 announce in total, that of a partial dataset
+    /// included.
     pub octets: u32,
-    /// How many heads those are.
+    /// The number of these heads.
     pub fields: u32,
-    /// Whether an octet has come.
+    /// Whether an octet was received.
     pub begun: bool,
 }
 
 impl Readers {
-    /// Which limit the heads of records 1 and 2 pass: that on octets, else that on their number; None where they pass none.
+    /// Returns the limit that the heads of records 1 and 2 exceed, or `None`. The limit on octets
+    /// is checked first, then that on the number of datasets.
     pub fn limit_fault(&self, limits: Limits) -> Option<TicketFault>
         ensures some { IfSome result (IsLimitFault limits self.now.octets self.now.fields) }
         ensures none { IfNone result (IsWithin limits self.now.octets self.now.fields) }
@@ -56,7 +58,8 @@ impl Readers {
     }
 }
 
-/// How many octets the data of the datasets have together, and how many datasets they are; None where either needs more than 32 bits.
+/// Returns the total size of the data and the number of datasets, or `None` if either exceeds 32
+/// bits.
 fn told_fields(fields: TicketFields<'_>) -> Option<(u32, u32)>
     ensures some { IfSome result (λ r. (r.0 ≡ length (joined fields.entry)) × (r.1 ≡ length fields.entry)) }
     ensures none { IfNone result (IsWithin widest (length (joined fields.entry)) (length fields.entry) → ⊥) }
@@ -71,7 +74,8 @@ fn told_fields(fields: TicketFields<'_>) -> Option<(u32, u32)>
     Some((octets, count))
 }
 
-/// The same with a begun dataset of records 1 and 2, which counts its octets.
+/// Returns the total size and the number of the datasets, including a partial dataset of records 1
+/// and 2 with the whole count of its head. Returns `None` if either exceeds 32 bits.
 fn told(section: u8, phase: &TicketPhase<'_>, fields: TicketFields<'_>) -> Option<(u32, u32)>
     ensures some { IfSome result (λ r. (r.0 ≡ length (joined fields.entry) + begun_count section (phase_told phase.now))
         × (r.1 ≡ length fields.entry + begun_fields section (phase_told phase.now))) }
@@ -89,7 +93,7 @@ fn told(section: u8, phase: &TicketPhase<'_>, fields: TicketFields<'_>) -> Optio
     }
 }
 
-/// Whether some subfiles have ended.
+/// Checks whether at least one subfile is complete.
 pub(crate) fn some_ended(section: u8, phase: &TicketPhase<'_>, heads: u64) -> bool
     ensures { cond result 1 0 ≡ one_of_some (heads - begun_subfiles section (phase_told phase.now)) }
 {
@@ -99,7 +103,7 @@ pub(crate) fn some_ended(section: u8, phase: &TicketPhase<'_>, heads: u64) -> bo
     }
 }
 
-/// Whether the message has ended where the object has.
+/// Checks whether the message has ended if the object has.
 fn ends_together(section: u8, part: u8) -> bool
     ensures ends { IsTrue result → section ≡ 9 → part ≡ 11 }
     ensures apart { result ≡ false → (section ≡ 9) × (part ≡ 11 → ⊥) }
@@ -107,8 +111,8 @@ fn ends_together(section: u8, part: u8) -> bool
     section != POST_OBJECT || part == part_number(MessagePart::AfterEnd)
 }
 
-/// The readers where the parts of a ticket tell, or None where no octets lead that an envelope can continue from or end with by
-/// the sizes of the present version.
+/// Returns the readers at the position of a ticket's parts. Returns `None` if no input reaches it
+/// that is incomplete or an envelope by the sizes of the present version.
 fn readers_by_layers(parts: &TicketParts<'_>) -> Option<Readers>
     requires { HasForm (split_told parts.now) }
     ensures some { IfSome result (λ r. AreAt (split_told parts.now) r) }
@@ -148,13 +152,13 @@ fn readers_by_layers(parts: &TicketParts<'_>) -> Option<Readers>
     })
 }
 
-/// The most octets of a count or of a size, as they were when version 1 was made.
+/// The maximum length of a count or a size, in octets, when version 1 was current.
 const COUNT_OCTETS_BEFORE: u8 = 4;
 
-/// The greatest size of an object at that time.
+/// The maximum size of an object when version 1 was current, in octets.
 const GREATEST_SIZE_BEFORE: u64 = 4_294_967_295;
 
-/// Whether octets that begin a tag begin one whose count has no more octets than counts had.
+/// Checks whether the prefix of a tag begins one whose count has at most that length.
 fn is_small_tag(held: &[u8]) -> bool
     requires { BeginsTag count_octets held.now }
     ensures { IsTrue result ↔ BeginsTag count_octets_before held.now }
@@ -168,8 +172,8 @@ fn is_small_tag(held: &[u8]) -> bool
     held[4] <= COUNT_OCTETS_BEFORE
 }
 
-/// Whether begun data of this count, of which `left` octets are to come, were possible by those sizes after `taken` octets of the
-/// object.
+/// Checks whether partial data with this count, of which `left` octets remain, were possible by
+/// those sizes after `taken` octets of the object.
 fn is_small_data(section: u8, taken: u64, count: u64, left: u64) -> bool
     ensures { IsTrue result ↔ ((tells_number section ≡ true → count ≤ count_octets_before)
         × (section ≡ 8 → (count ≤ greatest_size_before) × (taken + left ≤ greatest_size_before))) }
@@ -185,7 +189,7 @@ fn is_small_data(section: u8, taken: u64, count: u64, left: u64) -> bool
     }
 }
 
-/// Whether what is begun was possible by those sizes.
+/// Checks whether the partial dataset was possible by those sizes.
 fn is_small(section: u8, taken: u64, phase: &TicketPhase<'_>) -> bool
     requires { TagsLead section (phase_told phase.now) }
     ensures { IsTrue result ↔ IsSmallPhase section taken (phase_told phase.now) }
@@ -197,8 +201,8 @@ fn is_small(section: u8, taken: u64, phase: &TicketPhase<'_>) -> bool
     }
 }
 
-/// The readers where the parts of a ticket tell, or None where no octets lead that an envelope can continue from or end with by
-/// the sizes of the ticket's version.
+/// Returns the readers at the position of a ticket's parts. Returns `None` if no input reaches it
+/// that is incomplete or an envelope by the sizes of the ticket's version.
 pub fn readers_at(parts: &TicketParts<'_>) -> Option<Readers>
     requires { HasForm (split_told parts.now) }
     ensures some { IfSome result (λ r. AreAtIn (split_told parts.now) r) }

@@ -1,4 +1,4 @@
-//! The readers at the place that a ticket tells, but for the records that it keeps.
+//! The readers at the position of a ticket, except that of the records that it stores.
 
 ghost use Rattle.std.specs.Prelude.{◌≡◌, ◌↔◌, ◌<◌, ℕ, List, length, map, IsSome, IfSome, IfNone, IsTrue, false};
 ghost use Rattle.iim_dataset.specs.Format.Datasets.{Dataset};
@@ -28,12 +28,12 @@ use iim_fields::RecordCheck;
 use iim_tables::records::POST_OBJECT;
 use wire_message::{MessagePart, MessagePlace, MessageReader};
 
-/// What a slice of octets holds are octets.
+/// Proves that the items of a slice of octets are octets.
 fn are_octets(octets: &[u8])
     ensures { Octets octets.now }
 {}
 
-/// The octets in an array, where they fit.
+/// Copies the octets into an array, or returns `None` if they exceed its capacity.
 fn fitted<const ROOM: usize>(octets: &[u8]) -> Option<ArrayVec<u8, ROOM>>
     ensures some { IfSome result (λ array. array.items ≡ octets.now) }
     ensures none { IfNone result (ROOM < length octets.now) }
@@ -41,7 +41,8 @@ fn fitted<const ROOM: usize>(octets: &[u8]) -> Option<ArrayVec<u8, ROOM>>
     ArrayVec::try_from(octets).ok()
 }
 
-/// The reader of tags where this is begun after a head of the section, or None where no octets lead there.
+/// Returns the reader of tags in the partial dataset of `phase`, after a head of record `section`,
+/// or `None` if no input reaches that state.
 pub(crate) fn tags_at(section: u8, phase: &TicketPhase<'_>) -> Option<HeadReader>
     requires { IsPhase present_version section (phase_told phase.now) }
     ensures calls { IfSome result TakesCalls }
@@ -70,14 +71,14 @@ pub(crate) fn tags_at(section: u8, phase: &TicketPhase<'_>) -> Option<HeadReader
     }
 }
 
-/// Whether the last dataset has ended.
+/// Checks whether the last dataset has ended.
 pub(crate) fn has_ended(phase: &TicketPhase<'_>) -> bool
     ensures { result ≡ are_ended (phase_told phase.now) }
 {
     matches!(phase, TicketPhase::Ended)
 }
 
-/// Whether an octet has come.
+/// Checks whether an octet was received.
 pub(crate) fn has_come(section: u8, phase: &TicketPhase<'_>) -> bool
     ensures { result ≡ has_come section (phase_told phase.now) }
 {
@@ -87,7 +88,8 @@ pub(crate) fn has_come(section: u8, phase: &TicketPhase<'_>) -> bool
     }
 }
 
-/// Whether the record layer can continue with this, which is begun, after the datasets that it stands after.
+/// Checks whether the record layer can continue with the partial dataset of `phase`, after the
+/// datasets that `check` has consumed.
 fn can_continue(check: &mut RecordCheck, section: u8, phase: &TicketPhase<'_>) -> bool
     requires { TakesHead check.old }
     ensures lives { IsTrue result → (ds : List Dataset) → HasChecked check.old ds
@@ -109,8 +111,8 @@ fn can_continue(check: &mut RecordCheck, section: u8, phase: &TicketPhase<'_>) -
     }
 }
 
-/// Whether the record layer can be where these fields and numbers of record 7 have come, then subfiles where some have ended, and
-/// 9:10 where the object has; and then this, which is begun.
+/// Checks whether the record layer accepts these fields, these numbers of record 7, a subfile if
+/// `some` are complete, 9:10 if the object has ended, and then the partial dataset of `phase`.
 pub(crate) fn records_lead(
     section: u8,
     phase: &TicketPhase<'_>,
@@ -132,7 +134,7 @@ pub(crate) fn records_lead(
         && can_continue(&mut check, section, phase)
 }
 
-/// The number of a part of a message.
+/// Returns the number that encodes a part of a message.
 pub fn part_number(part: MessagePart) -> u8
     ensures { result ≡ part_number part }
 {
@@ -152,7 +154,7 @@ pub fn part_number(part: MessagePart) -> u8
     }
 }
 
-/// The part of a message with this number.
+/// Returns the part of a message with this number, or `None` if there is no such part.
 fn message_part(number: u8) -> Option<MessagePart>
     ensures some { IfSome result (λ part. part_number part ≡ number) }
     ensures none { IfNone result ((part : MessagePartValue) → part_number part ≡ number → ⊥) }
@@ -174,8 +176,8 @@ fn message_part(number: u8) -> Option<MessagePart>
     }
 }
 
-/// The place of a message that is told by its part, counter, flag and texts, or None where no octets lead there for a text that is
-/// too long or a part that there is not.
+/// Returns the position within a message with this part, counter, flag and texts. Returns `None` if
+/// a text is too long or the part does not exist, so that no input reaches the position.
 fn message_place(part: u8, counter: u8, flag: u8, texts: &[&[u8]; 7]) -> Option<MessagePlace>
     ensures some { IfSome result (IsMessageOf part counter flag (map (λ t. t.now) texts.now)) }
     ensures none { IfNone result ((m : MessagePlaceValue) (octets text : List ℕ)
@@ -196,7 +198,7 @@ fn message_place(part: u8, counter: u8, flag: u8, texts: &[&[u8]; 7]) -> Option<
     })
 }
 
-/// Whether the number is no less than the least, and no more than the greatest where there is one.
+/// Checks whether the number is at least `least`, and at most `greatest` if that is given.
 fn is_between(least: u64, greatest: Option<u64>, count: u64) -> bool
     ensures { IsTrue result ↔ IsOneOf least greatest count }
 {
@@ -206,7 +208,7 @@ fn is_between(least: u64, greatest: Option<u64>, count: u64) -> bool
     }
 }
 
-/// Whether `taken` octets lead to where the reader stands.
+/// Checks whether some input of `taken` octets reaches the position of the reader.
 fn is_reached(reader: &MessageReader, taken: u64) -> bool
     requires { IsSome reader.now }
     ensures { IsTrue result ↔ LeadsIn reader.now taken }
@@ -215,8 +217,8 @@ fn is_reached(reader: &MessageReader, taken: u64) -> bool
     is_between(least, greatest, taken)
 }
 
-/// The reader of messages where this part, counter, flag and texts have been reached by `taken` octets, or None where no octets of
-/// that number lead there.
+/// Returns the message reader with this part, counter, flag and texts, or `None` if no input of
+/// `taken` octets reaches that position.
 pub(crate) fn message_at(
     part: u8,
     counter: u8,

@@ -1,4 +1,4 @@
-//! The reader of the records that a ticket keeps, at the ticket's place.
+//! The reader of the records that are stored in a ticket.
 
 ghost use Rattle.std.specs.Prelude.{◌≡◌, ◌+◌, List, length, IfOk};
 ghost use Rattle.iim_dataset.specs.Format.Datasets.{Dataset};
@@ -22,7 +22,8 @@ use iim_fields::{Fields, Limits};
 use iim_tables::records::OBJECT;
 use std::alloc::{AllocError, Global};
 
-/// Takes what is begun after a head of the section: of data the head, and those that have come. It has none of a subfile.
+/// Passes the partial dataset of `phase`, in record `section`, to the reader: its head, and the
+/// data received. The data of a subfile are not stored.
 fn take_phase(records: &mut Fields, section: u8, phase: &TicketPhase<'_>)
     requires stands { (ds : List Dataset) × StandsAfter records.old ds × RecordsLive section (phase_told phase.now) ds
         × AreWithinWith (limits_of records.old) section (phase_told phase.now) ds }
@@ -53,7 +54,8 @@ fn take_phase(records: &mut Fields, section: u8, phase: &TicketPhase<'_>)
     }
 }
 
-/// The reader of records at a ticket's place, with memory for just what the limits allow. An error says that memory was refused.
+/// Returns the reader of the records at a ticket's position. Allocates exactly the memory that the
+/// limits require; an error means that the allocation failed.
 fn records_at(
     alloc: Global,
     limits: Limits,
@@ -84,8 +86,8 @@ fn records_at(
     Ok(records)
 }
 
-/// The reader of records at the place that a ticket's parts tell, with memory for just what the limits allow. An error says that memory
-/// was refused.
+/// Returns the reader of the records at the position of a ticket's parts. Allocates exactly the
+/// memory that the limits require; an error means that the allocation failed.
 pub fn fields_at(
     alloc: Global,
     limits: Limits,

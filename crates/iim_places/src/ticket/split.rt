@@ -1,4 +1,4 @@
-//! The parts of a ticket, as they stand in it.
+//! Parses the parts of a ticket, without a copy.
 
 ghost use Rattle.std.specs.Prelude.{◌≡◌, ◌<◌, ◌+◌, ◌++◌, ◌∷◌, length, map, IfSome, IfNone, IfOk, IfErr};
 ghost use Rattle.std.specs.List.{flat_map};
@@ -16,57 +16,57 @@ use crate::ticket::front::{
 };
 use iim_tables::records::OBJECT;
 
-/// What each ticket begins with.
+/// The magic number at the start of each ticket.
 const NAME: &[u8] = b"IIMT";
 
-/// What is begun where a ticket was made.
+/// The partial dataset at the position that a ticket encodes.
 #[derive(Drop)]
 pub enum TicketPhase<'a> {
-    /// A tag. These octets of it have come; none between datasets.
+    /// A tag, with its octets received so far. They are empty between datasets.
     Tag(&'a [u8]),
     /// The data of a dataset.
     Data {
         /// The number of the dataset.
         set: u8,
-        /// How many octets it has.
+        /// The count of its head, in octets.
         count: u64,
-        /// How many of them are to come.
+        /// How many of these octets remain.
         left: u64,
-        /// Those that have come. None of a subfile.
+        /// The octets received so far. They are empty for a subfile.
         taken: &'a [u8],
     },
-    /// Nothing: the last dataset has ended.
+    /// No dataset: the last one has ended.
     Ended,
 }
 
-/// The parts of a ticket, whether or not some octets lead to such a place.
+/// The parts of a ticket. They do not prove that any input reaches such a position.
 #[derive(Drop)]
 pub struct TicketParts<'a> {
     /// The version.
     pub version: u8,
     /// The record of the last head.
     pub section: u8,
-    /// What is begun.
+    /// The partial dataset.
     pub phase: TicketPhase<'a>,
     /// The datasets of records 1 and 2.
     pub fields: TicketFields<'a>,
     /// The numbers of 7:10, 7:20, 7:90 and 7:95.
     pub numbers: [Option<u64>; 4],
-    /// How many octets of the object have come.
+    /// How many octets of the object were received.
     pub taken: u64,
-    /// How many heads of 8:10 have come.
+    /// How many heads of 8:10 were received.
     pub heads: u64,
-    /// The number of the message's part.
+    /// The number of the part of the message.
     pub part: u8,
-    /// Its counter.
+    /// The counter of the message's position.
     pub counter: u8,
-    /// Its flag.
+    /// The flag of the message's position.
     pub flag: u8,
-    /// Source, number, priority, category, words, info and trailer, as far as they have come.
+    /// Source, number, priority, category, words, info and trailer, as far as they were received.
     pub texts: [&'a [u8]; 7],
 }
 
-/// What a ticket tells of the message.
+/// The parts of a ticket that describe the message.
 #[derive(Drop)]
 struct MessageParts<'a> {
     part: u8,
@@ -75,7 +75,7 @@ struct MessageParts<'a> {
     texts: [&'a [u8]; 7],
 }
 
-/// The version, and what follows the name and the version.
+/// Parses the name and the version. Returns the version and the rest.
 fn after_name(ticket: &[u8]) -> Result<(u8, &[u8]), TicketFault>
     ensures named { IfOk result (λ r. ticket.now ≡ ticket_name r.0 ++ r.1.now) }
     ensures version { IfOk result (λ r. IsVersion r.0) }
@@ -93,14 +93,14 @@ fn after_name(ticket: &[u8]) -> Result<(u8, &[u8]), TicketFault>
     }
 }
 
-/// How many octets of a tag are held at most.
+/// Returns the maximum number of octets of an incomplete tag.
 fn most_held(version: u8) -> usize
     ensures { result + 1 ≡ 5 + width version }
 {
     if version == FIRST_VERSION { 8 } else { 12 }
 }
 
-/// The octets of a tag that are held, and what follows them.
+/// Parses the octets of an incomplete tag. Returns them and the rest.
 fn take_held(version: u8, octets: &[u8]) -> Option<(&[u8], &[u8])>
     ensures parts { IfSome result (λ r. octets.now ≡ text_octets r.0.now ++ r.1.now) }
     ensures fits { IfSome result (λ r. length r.0.now < 5 + width version) }
@@ -113,7 +113,7 @@ fn take_held(version: u8, octets: &[u8]) -> Option<(&[u8], &[u8])>
     Some((held, rest))
 }
 
-/// Begun data, and what follows them.
+/// Parses partial data. Returns them and the rest.
 fn take_data(version: u8, section: u8, octets: &[u8]) -> Option<(TicketPhase<'_>, &[u8])>
     ensures parts { IfSome result (λ r. 1 ∷ octets.now ≡ phase_octets version (phase_told r.0) ++ r.1.now) }
     ensures fits { IfSome result (λ r. IsPhase version section (phase_told r.0)) }
@@ -136,7 +136,7 @@ fn take_data(version: u8, section: u8, octets: &[u8]) -> Option<(TicketPhase<'_>
     Some((phase, rest))
 }
 
-/// What is begun, and what follows it.
+/// Parses the partial dataset. Returns it and the rest.
 fn take_phase(version: u8, section: u8, octets: &[u8]) -> Option<(TicketPhase<'_>, &[u8])>
     ensures parts { IfSome result (λ r. octets.now ≡ phase_octets version (phase_told r.0) ++ r.1.now) }
     ensures fits { IfSome result (λ r. IsPhase version section (phase_told r.0)) }
@@ -154,7 +154,7 @@ fn take_phase(version: u8, section: u8, octets: &[u8]) -> Option<(TicketPhase<'_
     }
 }
 
-/// What follows the first `count` datasets.
+/// Skips the first `count` datasets and returns the rest, or `None` if there are fewer.
 fn after_fields(octets: &[u8], count: u64) -> Option<&[u8]>
     ensures parts { IfSome result (λ rest. FieldsBefore count octets.now rest.now) }
     ensures none { IfNone result (BeginsWithFewer IsLongField field_octets count octets.now) }
@@ -166,7 +166,7 @@ fn after_fields(octets: &[u8], count: u64) -> Option<&[u8]>
     Some(rest)
 }
 
-/// The datasets after their number, and what follows them.
+/// Parses the number of datasets and the datasets. Returns an iterator over them, and the rest.
 fn take_fields(octets: &[u8]) -> Option<(TicketFields<'_>, &[u8])>
     ensures parts { IfSome result (λ r. octets.now ≡ fields_octets r.0 ++ r.1.now) }
     ensures fits { IfSome result (λ r. AreFields r.0) }
@@ -178,7 +178,7 @@ fn take_fields(octets: &[u8]) -> Option<(TicketFields<'_>, &[u8])>
     Some((walk_over(fields), rest))
 }
 
-/// The numbers of record 7, and what follows them.
+/// Parses the four numbers of record 7. Returns them and the rest.
 fn take_numbers(version: u8, octets: &[u8]) -> Option<([Option<u64>; 4], &[u8])>
     ensures parts { IfSome result (λ r. octets.now ≡ flat_map (number_octets version) r.0 ++ r.1.now) }
     ensures fits { IfSome result (λ r. AreNumbersIn version r.0) }
@@ -191,7 +191,7 @@ fn take_numbers(version: u8, octets: &[u8]) -> Option<([Option<u64>; 4], &[u8])>
     Some(([mode, limit, announced, maximum], rest))
 }
 
-/// The texts of the message, and what follows them.
+/// Parses the seven texts of the message. Returns them and the rest.
 #[tactic(auto, using(crate::proofs::Splitting::cut, crate::proofs::Splitting::seven, std::proofs::lemmas::List::append_assoc))]
 fn take_texts(octets: &[u8]) -> Option<([&[u8]; 7], &[u8])>
     ensures parts { IfSome result (λ r. octets.now ≡ flat_map text_octets (map (λ t. t.now) r.0) ++ r.1.now) }
@@ -209,7 +209,7 @@ fn take_texts(octets: &[u8]) -> Option<([&[u8]; 7], &[u8])>
     Some((texts, rest))
 }
 
-/// What a ticket tells of the message, with which it ends.
+/// Parses the message's parts, with which a ticket ends. Returns `None` if octets are left over.
 fn read_message(octets: &[u8]) -> Option<MessageParts<'_>>
     ensures parts { IfSome result (λ m. octets.now ≡ message_parts m.part m.counter m.flag (map (λ t. t.now) m.texts)) }
     ensures fits { IfSome result (λ m. AreTexts (map (λ t. t.now) m.texts)) }
@@ -230,7 +230,7 @@ fn read_message(octets: &[u8]) -> Option<MessageParts<'_>>
     })
 }
 
-/// What follows the name and the version of a ticket.
+/// Parses what follows the name and the version of a ticket.
 fn read_body(version: u8, octets: &[u8]) -> Option<TicketParts<'_>>
     requires { IsVersion version }
     ensures version { IfSome result (λ parts. (split_told parts).version ≡ version) }
@@ -260,10 +260,17 @@ fn read_body(version: u8, octets: &[u8]) -> Option<TicketParts<'_>>
     })
 }
 
-/// Takes a ticket's octets apart. Whether some octets lead to the place that they tell is not asked, and no memory is taken.
-/// Octets that begin with a ticket's name and another version are refused by [`TicketFault::TicketVersion`], and all others that have
-/// not the form of a ticket by [`TicketFault::TicketForm`]: a part cut short or octets left over; what is begun other than 0, 1 or 2;
-/// more octets of a tag than the version has room for; more octets of data to come than their count; and a number of record 7 marked other than by 0 or 1.
+/// Parses a ticket without a copy. Allocates nothing, and does not check whether any input reaches
+/// the position.
+///
+/// **Errors:** [`TicketFault::TicketVersion`] if the octets begin with a ticket's name and another
+/// version. [`TicketFault::TicketForm`] for all other octets that do not have the form of a ticket:
+///
+/// - a part is incomplete, or octets are left over;
+/// - the kind of the partial dataset is not 0, 1 or 2;
+/// - an incomplete tag is longer than the version allows;
+/// - more octets of data remain than their count;
+/// - the mark of a number of record 7 is not 0 or 1.
 pub fn split_ticket(ticket: &[u8]) -> Result<TicketParts<'_>, TicketFault>
     ensures parts { IfOk result (λ parts. SplitsTicket ticket.now (split_told parts)) }
     ensures fault { IfErr result (λ fault. IsFaultOf ticket.now fault) }

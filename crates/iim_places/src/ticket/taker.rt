@@ -1,4 +1,4 @@
-//! What takes whole datasets, one after another: a check of records, or a reader that keeps them.
+//! Consumers of complete datasets: a check of the records, or a reader that stores them.
 
 ghost use Rattle.std.specs.Prelude.{◌≡◌, [], ◌∷◌, ◌++◌, List, IsTrue, true, cond};
 ghost use Rattle.iim_dataset.specs.Format.Datasets.{Dataset};
@@ -20,21 +20,22 @@ use iim_tables::records::{
     PRE_OBJECT, SIZE_MODE, SUBFILE,
 };
 
-/// What takes the datasets of an envelope, each with its whole data.
+/// A consumer of the datasets of an envelope, each with its complete data.
 pub(crate) trait DatasetTaker {
-    /// It takes a dataset.
+    /// It can accept a dataset.
     ghost ready: { Self → Type 0 };
 
-    /// It stands after these datasets.
+    /// It has consumed exactly these datasets.
     ghost stands: { Self → List Dataset → Type 0 };
 
-    /// The limits that it keeps to.
+    /// The limits that it enforces.
     ghost limits: { Self → LimitsValue };
 
-    /// What it has room for.
+    /// Its capacity.
     ghost room: { Self → Room };
 
-    /// Takes a dataset, or answers that no datasets within the limits can continue with it. It takes no memory.
+    /// Consumes a dataset. Returns `false` if no datasets within the limits can continue with it.
+    /// Allocates nothing.
     fn take(&mut self, rec: u8, set: u8, octets: &[u8]) -> bool
         requires { ready self.old }
         ensures took { TookDatasets ready stands limits self.old (dataset rec set octets.now ∷ []) self.new result }
@@ -46,10 +47,10 @@ impl DatasetTaker for RecordCheck {
 
     ghost stands = { checks.HasChecked };
 
-    // Whatever the limits, none is kept to: the widest say no more than the records do.
+    // No limit is enforced: the widest limits add nothing to the rules of the records.
     ghost limits = { λ _. widest };
 
-    // It keeps nothing.
+    // A check stores nothing.
     ghost room = { λ _. record { octets = 0; entries = 0 } };
 
     fn take(&mut self, rec: u8, set: u8, octets: &[u8]) -> bool {
@@ -95,7 +96,7 @@ impl DatasetTaker for Fields {
     }
 }
 
-/// Takes the datasets of records 1 and 2.
+/// Passes the datasets of records 1 and 2 to `taker`.
 fn take_fields<T: DatasetTaker>(taker: &mut T, fields: TicketFields<'_>) -> bool
     requires { T.ready taker.old }
     ensures kept { IsTrue result → AreKept fields.entry }
@@ -115,7 +116,7 @@ fn take_fields<T: DatasetTaker>(taker: &mut T, fields: TicketFields<'_>) -> bool
     true
 }
 
-/// Takes the mode, 7:10, where there is one.
+/// Passes the mode, 7:10, to `taker` if there is one.
 fn take_mode<T: DatasetTaker>(taker: &mut T, mode: Option<u64>) -> bool
     requires { T.ready taker.old }
     ensures took { TookDatasets T.ready T.stands T.limits taker.old (one_dataset mode_dataset mode) taker.new result }
@@ -128,7 +129,7 @@ fn take_mode<T: DatasetTaker>(taker: &mut T, mode: Option<u64>) -> bool
     }
 }
 
-/// Takes the size 7:`set`, where there is one.
+/// Passes the size 7:`set` to `taker` if there is one.
 fn take_size<T: DatasetTaker>(taker: &mut T, set: u8, size: Option<u64>) -> bool
     requires ready { T.ready taker.old }
     requires fits { IsSize size }
@@ -142,7 +143,7 @@ fn take_size<T: DatasetTaker>(taker: &mut T, set: u8, size: Option<u64>) -> bool
     }
 }
 
-/// Takes the numbers of record 7, in their order.
+/// Passes the numbers of record 7 to `taker`, in their order.
 fn take_numbers<T: DatasetTaker>(taker: &mut T, numbers: [Option<u64>; 4]) -> bool
     requires ready { T.ready taker.old }
     requires fits { AreNumbers numbers }
@@ -157,7 +158,7 @@ fn take_numbers<T: DatasetTaker>(taker: &mut T, numbers: [Option<u64>; 4]) -> bo
         && take_size(taker, MAXIMUM_SIZE, maximum)
 }
 
-/// Takes a subfile without octets, where some have ended.
+/// Passes an empty subfile to `taker` if `some` subfiles are complete.
 fn take_subfile<T: DatasetTaker>(taker: &mut T, some: bool) -> bool
     requires { T.ready taker.old }
     ensures took { TookDatasets T.ready T.stands T.limits taker.old (cond some (dataset 8 10 [] ∷ []) []) taker.new
@@ -167,7 +168,7 @@ fn take_subfile<T: DatasetTaker>(taker: &mut T, some: bool) -> bool
     !some || taker.take(OBJECT, SUBFILE, &[])
 }
 
-/// Takes 9:10 of an object without octets, where it has ended.
+/// Passes 9:10 of an empty object to `taker` if the object has ended.
 fn take_end<T: DatasetTaker>(taker: &mut T, ended: bool) -> bool
     requires { T.ready taker.old }
     ensures took { TookDatasets T.ready T.stands T.limits taker.old (plain_end ended []) taker.new result }
@@ -176,7 +177,7 @@ fn take_end<T: DatasetTaker>(taker: &mut T, ended: bool) -> bool
     !ended || taker.take(POST_OBJECT, CONFIRMED_SIZE, &[0, 0, 0, 0])
 }
 
-/// Takes the datasets of records 1 and 2 and the numbers of record 7.
+/// Passes the datasets of records 1 and 2 and the numbers of record 7 to `taker`.
 fn take_records<T: DatasetTaker>(
     taker: &mut T,
     fields: TicketFields<'_>,
@@ -193,7 +194,7 @@ fn take_records<T: DatasetTaker>(
     take_fields(taker, fields) && take_numbers(taker, numbers)
 }
 
-/// Takes a subfile without octets, where some have ended, and 9:10, where the object has.
+/// Passes an empty subfile to `taker` if `some` are complete, and 9:10 if the object has ended.
 fn take_object<T: DatasetTaker>(taker: &mut T, some: bool, ended: bool) -> bool
     requires { T.ready taker.old }
     ensures took { TookDatasets T.ready T.stands T.limits taker.old
@@ -203,8 +204,9 @@ fn take_object<T: DatasetTaker>(taker: &mut T, some: bool, ended: bool) -> bool
     take_subfile(taker, some) && take_end(taker, ended)
 }
 
-/// Takes the datasets by which the record layer is told a ticket's place: its fields, the numbers of record 7, a subfile without
-/// octets where some have ended, and 9:10 where the object has.
+/// Passes to `taker` the datasets that determine the state of the record layer at a ticket's
+/// position: the fields, the numbers of record 7, an empty subfile if `some` are complete, and 9:10
+/// if the object has ended.
 pub(crate) fn take_told<T: DatasetTaker>(
     taker: &mut T,
     fields: TicketFields<'_>,

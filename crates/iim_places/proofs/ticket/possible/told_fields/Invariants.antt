@@ -2,7 +2,7 @@ use Rattle.std.proofs.Common.{◌≡◌, ◌+◌, length}
 use Rattle.iim_fields.specs.Format.Causes.{joined}
 use Rattle.iim_places.proofs.ticket.possible.told_fields.Given as goal
 
--- the octets of those that are left are to come
+-- the octets of the remaining datasets remain to be counted
 abbrev pub invariant-loop-data : goal.invariant-loop-data
 invariant-loop-data l = record {
   octets : l.octets + length (joined l.fields) ≡ length (joined l.fn.fields);

@@ -2,7 +2,7 @@ use Rattle.std.proofs.Common.{◌≡◌, List, ◌++◌, length, true}
 use Rattle.iim_places.proofs.Words.{Dataset, AreKept, TookDatasets}
 use Rattle.iim_places.proofs.ticket.taker.take_fields.Given as goal
 
--- some datasets are taken
+-- some datasets were consumed
 abbrev pub invariant-loop-rec : goal.invariant-loop-rec
 invariant-loop-rec g l = record {
   done : List Dataset;

@@ -4,7 +4,7 @@ use Rattle.iim_places.proofs.Taking.{no_more, took_more}
 use Rattle.iim_places.proofs.ticket.taker.take_numbers.Goals.{then-take_size, else-take_size, then-take_mode, else-take_mode}
 use Rattle.iim_places.proofs.ticket.taker.take_numbers.Goals as goal
 
--- the mode, and the size of this number at this place
+-- the mode, and the size at this index of the numbers
 mode_in : List (Option ℕ) → List Dataset
 mode_in ns = one_dataset mode_dataset (get_or ns 0 None)
 

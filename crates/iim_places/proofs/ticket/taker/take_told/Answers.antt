@@ -5,7 +5,7 @@ use Rattle.iim_places.proofs.Taking.{no_more, took_more}
 use Rattle.iim_places.specs.TicketParts.{dataset}
 use Rattle.iim_places.proofs.ticket.taker.take_told.Goals as goal
 
--- one subfile without octets, or none
+-- one empty subfile, or none
 subfile : Bool → List Dataset
 subfile some = cond some (dataset 8 10 [] ∷ []) []
 
