@@ -1,5 +1,5 @@
--- What a run of octets, or the end, tells a message, and what the object's refusal of a head says of it.
--- Where heads, data and ends of datasets lead the parts of an unpacker.
+-- Octets, or the end, as input of the message reader, and the object's rejection of a head. The
+-- state of an unpacker's parts after heads, data and ends of datasets.
 use Rattle.iim_unpack.proofs.Words.{AllCanContinue, AreLed, Begun, Bool, CanContinueAt, CountsFor, DataOctet, Dataset, DatasetEvent, FieldsPlace, Head, InData, InTag, IsBetween, IsSome, Limits, List, LowerLaws, MayContinue, MessageCause, MessageRefuses, None, Octets, Option, Parts, PartsRefuse, Some, PartsStandAt, StandsIn, TellsMessage, TellsParts, TextsStandBetweenStxAndEtx, Within, [], ap, append-nil, append_assoc, arith, begun_head, begun_head_of, cond, eqb-true, false, flat_map, handed_on, if◌then◌else◌, length, limits_of, map, message_on, nat_eq, ne_eqb, not_all, object_of, object_so_far, octets_of, refl, same_Some, section, subst, sym, tells_message_nothing, text_so_far, true, ℕ, ◌++◌, ◌==◌, ◌∙◌, ◌∷◌, ◌≡◌}
 use Rattle.wire_message.specs.{Laws.ReadersStandAtLivingOctets, Format.Causes.HasCause}
 use Rattle.wire_message.specs.Format.Messages.{MessageDiesAt, MessageLanguage, MessageLivesWith, StoryLivesIn}
@@ -30,7 +30,7 @@ not_ended [] = refl
 not_ended (x ∷ xs) = not_ended xs
 
 module _ {S : Type 0} (goes : S → List story.StoryEvent → S → Type 0) (failures : S → ℕ) where
-  -- one run of octets, at least one
+  -- one non-empty slice of octets
   pub tells_message_octets : (old new : Option Place) (a b : S) (run : List ℕ) → false ≡ (length run == 0) → IsSome new
       → TakesPiece goes failures old run new a b → TellsMessage goes failures (old, a) (map ObjectOctet run) (new, b)
   tells_message_octets old new a b [] some takes t = absurd cc
@@ -56,7 +56,7 @@ module _ {S : Type 0} (goes : S → List story.StoryEvent → S → Type 0) (fai
     has_cause = rw (octets_told front) has;
   }
 
-  -- the end, with which no message ends
+  -- the end, where no message ends
   pub message_refuses_end : (old new : Option Place) (a : S) (why : MessageCause) → IsSome old → why ≡ Unfinished → goes a [] a
       → ((octets text : List ℕ) → StandsAt old octets text → MessageDiesAt octets End) → MessageRefuses goes failures (Some why) (old, a) [] ObjectEnd (new, a)
   message_refuses_end old new a why some is g dies = record {
@@ -67,7 +67,7 @@ module _ {S : Type 0} (goes : S → List story.StoryEvent → S → Type 0) (fai
     has_cause = λ octets text at. (is, rw (append-nil octets) (dies octets text at));
   }
 
-  -- an empty run
+  -- an empty slice
   pub tells_message_empty : (old : Option Place) (a : S) (run : List ℕ) → true ≡ (length run == 0) → IsSome old → goes a [] a
       → TellsMessage goes failures (old, a) (map ObjectOctet run) (old, a)
   tells_message_empty old a run none some g = rw (nil_from_length run (eqb-true (length run) 0 (sym none))) (tells_message_nothing some g)
@@ -82,16 +82,16 @@ passes_on texts old new o piece more goes at =
     let same = texts (o ++ piece) (text_so_far o ++ more) next.0 next.2 in
     (subst (wire.StandsAt new (o ++ piece)) same next, same)
 
--- ---- where the parts stand
+-- ---- the states of the parts
 
--- The events have led them to datasets and this begun one, with this text.
+-- The parts have consumed the events, up to complete datasets and this partial one, with this text.
 pub record LedTo (p : Parts) (begun : Begun) (events : List DatasetEvent) (text : List ℕ) : Type 0 where
   pub ds : List Dataset
   pub stands : PartsStandAt p ds begun
   pub told : events ≡ handed_on ds begun
   pub is_text : text ≡ text_so_far (object_so_far ds begun)
 
--- This head is begun.
+-- The dataset of this head is partial.
 abbrev pub HasBegun : Parts → Head → Type 0
 HasBegun p h = begun_head_of p.fields ≡ Some h
 
@@ -128,7 +128,7 @@ goes_within p ds h taken at = record {
   object = at.object.alive;
 }
 
--- octets from which a message can continue, before its end
+-- octets after which a message can continue, before its end
 lives_on : (o : List ℕ) (b : Bool) → b ≡ false → MessageLivesWith o → languages.IsAlive MessageLanguage (map Octet o ++ (if b then End ∷ [] else []))
 lives_on o b is lives = rw is (subst (languages.IsAlive MessageLanguage) (sym (append-nil (map Octet o))) lives)
 
@@ -161,13 +161,13 @@ pub counts_for : (cause : MessageCause) (m n : ℕ) → wire.CountsCause m n cau
 counts_for messages.BadOctet m n h = h
 counts_for other m n h = h
 
--- the object, with octets more of a subfile
+-- the object, with more octets of a subfile
 object_more : (ds : List Dataset) (h : Head) (taken run : List ℕ) → h.rec ≡ 8
     → object_so_far ds (InData h taken) ++ run ≡ object_so_far ds (InData h (taken ++ run))
 object_more ds h taken run eight = rw eight (append_assoc (object_of ds) taken run)
 
 module _ {S : Type 0} {goes : S → List story.StoryEvent → S → Type 0} {failures : S → ℕ} (p : Parts) (k : Head) (begun : HasBegun p k) where
-  -- ---- data that is no subfile's
+  -- ---- data of other datasets than subfiles
 
   pub tells_parts_other : {a : S} (run : List ℕ) (checker : FieldsPlace) → (k.rec ≡ 8 → ⊥) → Octets run → goes a [] a → limits_of checker ≡ limits_of p.fields
       → ((ds : List Dataset) (h : Head) (taken : List ℕ) → StandsIn p.fields ds h taken → StandsIn checker ds h (taken ++ run))

@@ -1,5 +1,5 @@
--- Where the end of a dataset leads the parts of an unpacker, and why it is refused.
--- A whole dataset leads the parts of an unpacker on; or a subfile is refused at an octet.
+-- The state of an unpacker's parts after the end of a dataset, and why that end is rejected. The
+-- parts consume a complete dataset, or a subfile is rejected at an octet.
 use Rattle.iim_unpack.proofs.Words.{Admits, AreAfter, AreBetween, Bool, CountsFor, DataOctet, Dataset, DatasetEnd, DatasetEvent, FieldFault, FieldsPlace, HasFewSubfiles, Head, HeadRead, InData, InTag, IsBetween, IsObjectFault, IsRefusedValue, IsValueFault, List, LowerLaws, MessageCause, MessageRefuses, None, NumberRead, Octets, Option, Parts, PartsRefuse, SectionsLive, SectionsLiveAt, Some, Spells, StandsAfter, StandsIn, State, SubfileBegun, Takes, TellsMessage, TellsParts, TellsWhole, TokenFault, Within, [], ap, append-nil, append_assoc, are_octets, arith, begun_head, begun_head_of, cond, data_of, eqb-true, events_at, events_of, false, first_fault, flat_map, get_or, handed_on, head_of, if◌then◌else◌, inl, inr, is_kept, length, limits_of, map, message_on, nat_eq, ne_eqb, not_all, number, object_of, of_field, option_or, place_after_datasets, place_at, refl, section_of, subst, sym, tells_message_nothing, tells_number, text_so_far, true, true≢false, value_fault, value_token, ℕ, ◌++◌, ◌<◌, ◌∙◌, ◌∷◌, ◌≡◌}
 use Rattle.iim_unpack.specs.Routes.{LeadsParts, NotClosed, TookWhole, stopped_joined, tells_parts_joined}
 use Rattle.iim_unpack.specs.States.Unpacking.{has_ended}
@@ -25,21 +25,21 @@ use Rattle.wire_message.specs.declared.place.Place.{Place}
 
 -- ---- numbers
 
--- a value that tells a number
+-- a value that encodes a number
 number_tells : (d : Dataset) (n : ℕ) → Some n ≡ number_told d → (tells_number d.rec ≡ true) × (n ≡ number d.octets)
 number_tells d n told = grind arith
 
--- and one that tells none
+-- a value that encodes no number
 tells_none : (d : Dataset) → None ≡ number_told d → tells_number d.rec ≡ false
 tells_none d told = grind arith
 
--- ---- where the end leads
+-- ---- the state after the end
 
--- The end of the dataset was taken by the records and by the object.
+-- The records and the object have accepted the end of the dataset.
 abbrev Ends : Parts → List Dataset → Dataset → Type 0
 Ends new ds d = StandsAfter new.fields (ds ++ d ∷ []) × objects.StandsAt new.object (place_after_datasets (ds ++ d ∷ []))
 
--- the end of the dataset leads from one to the other
+-- the end of the dataset takes the parts from one state to the other
 abbrev pub ClosesFields : FieldsPlace → FieldsPlace → Option ℕ → Type 0
 ClosesFields old new told = (ds : List Dataset) (h : Head) (taken : List ℕ) → StandsIn old ds h taken → (d : Dataset) → IsOf h taken d
     → StandsAfter new (ds ++ d ∷ []) × (told ≡ number_told d)
@@ -156,14 +156,14 @@ module _ (laws : LowerLaws) (p : Parts) (k : Head) (begun : HasBegun p k) where
 -- ---- the sink
 
 module _ {S : Type 0} (goes : S → List story.StoryEvent → S → Type 0) (failures : S → ℕ) where
-  -- events with which nothing is delivered
+  -- events that deliver nothing
   pub tells_quietly : (old new : Parts) (events : List DatasetEvent) (a : S) → goes a [] a → LeadsParts old events [] new
       → TellsParts goes failures (old, a) events (new, a)
   tells_quietly old new events a nothing leads = record { more = []; leads = leads; told = nothing; calm = refl }
 
 -- ---- a number
 
--- octets that were read as a number spell it
+-- octets that were read as a number encode it
 pub spells_number : {h : Head} {xs : List ℕ} {o : Option ℕ} {n : ℕ} → h.count ≡ length xs → (IsSome o → IsInRange 1 size_octets (length xs)) → o ≡ Some n
     → n ≡ number xs → ((i : ℕ) → get_or xs i 0 < 256) → Spells xs h n
 spells_number {xs = xs} count some is value fits = record { count = count; few = some (ap is_some is); fit = are_octets xs fits; is = value }
@@ -171,16 +171,16 @@ spells_number {xs = xs} count some is value fits = record { count = count; few =
 none_where : {X : Type 0} (o : Option X) → is_none o ≡ true → o ≡ None
 none_where o e = grind arith
 
--- they may come
+-- they are allowed here
 pub admits_where : {f : FieldsPlace} {h : Head} {n : ℕ} {xs : List ℕ} {b : Bool} → Spells xs h n
     → ((ds : List Dataset) (ys : List ℕ) → StandsAfter f ds → Spells ys h n
     → b ≡ is_none (option_or (first_fault (limits_of f) ds h) (value_fault (data_of h ys))))
     → b ≡ true → Admits f h xs
 admits_where {xs = xs} s exactly is = record { count = s.count; octets = s.fit; no_fault = λ ds t. none_where _ (sym (exactly ds xs t s) ∙ is) }
 
--- ---- the kept records
+-- ---- the stored records
 
--- a record that is kept is not the object's, and tells no number
+-- A stored record is not the object's, and encodes no number.
 keeps : (r : ℕ) → is_kept r ≡ true → (nat_eq r 8 ≡ false) × (nat_eq r 9 ≡ false) × (tells_number r ≡ false)
 keeps r kept = elim (or_cases (nat_eq r 1) (nat_eq r 2) kept)
     [ inl one ↦ rw (eqb-true r 1 one) (refl, refl, refl) | inr two ↦ rw (eqb-true r 2 two) (refl, refl, refl) ]
@@ -191,11 +191,11 @@ told_one : (ds : List Dataset) (h : Head) (xs : List ℕ) → h.count ≡ length
     → flat_map events_of ds ++ (HeadRead h ∷ (map DataOctet xs ++ DatasetEnd ∷ [])) ≡ handed_on (ds ++ data_of h xs ∷ []) (InTag [])
 told_one ds h xs count = sym (append_assoc (flat_map events_of ds) (HeadRead h ∷ map DataOctet xs) (DatasetEnd ∷ [])) ∙ end_told ds h xs (sym count)
 
--- it adds nothing to the object
+-- the dataset adds nothing to the object
 same_object : (ds : List Dataset) (h : Head) (xs : List ℕ) → nat_eq h.rec 8 ≡ false → object_of (ds ++ data_of h xs ∷ []) ≡ object_of ds
 same_object ds h xs eight = rw (object_of_more ds (data_of h xs), eight) (append-nil (object_of ds))
 
--- The records took a whole dataset of this head and these data.
+-- The records have consumed a complete dataset with this head and these data.
 pub record TookField (p new : Parts) (h : Head) (xs : List ℕ) : Type 0 where
   pub between : IsBetween p.fields
   pub count : h.count ≡ length xs
@@ -204,7 +204,7 @@ pub record TookField (p new : Parts) (h : Head) (xs : List ℕ) : Type 0 where
   pub message : new.message ≡ p.message
 
 module _ (laws : LowerLaws) {p new : Parts} {h : Head} {xs : List ℕ} (t : TookField p new h xs) where
-  -- the dataset is of no subfile, and leads the object to its place
+  -- The dataset is not a subfile, and the object is in the state after it.
   tells_one : nat_eq h.rec 8 ≡ false → (h.rec ≡ 9 → wire.IsWhole p.message)
       → ((ds : List Dataset) → AreAfter p ds → SectionsLive (ds ++ data_of h xs ∷ [])
       → objects.StandsAt new.object (place_after_datasets (ds ++ data_of h xs ∷ [])))
@@ -260,7 +260,7 @@ module _ (laws : LowerLaws) {p new : Parts} {h : Head} {xs : List ℕ} (t : Took
       let ended = subst (objects.StandsAt leads.ended) next.0.1 (leads.at_end (place_after_datasets ds) at.object next.0.0) in
       subst (objects.StandsAt new.object) next.1.1 (leads.at_number (place_ended ds) ended next.1.0))
 
--- ---- what it takes next
+-- ---- what is accepted next
 
 -- the envelope has ended
 pub end_ends : {p new : Parts} → AreBetween false p → IsBetween new.fields → section_of new.fields ≡ 9 → IsSome new.object → new.message ≡ p.message
@@ -270,7 +270,7 @@ end_ends {new = new} t between section object message =
     let none : begun_head_of new.fields ≡ None = ap begun_head between.between in
     record { is_over = rw (section, none) refl; fields = between; object = object; message = rw message t.message }
 
--- after a dataset before record 9 the parts take a head
+-- after a dataset before record 9 the parts accept a head
 pub takes_next : {new : Parts} (r : ℕ) → nat_eq r 9 ≡ false → IsBetween new.fields → section_of new.fields ≡ r → IsSome new.object → IsSome new.message
     → AreBetween false new
 unfolding has_ended
@@ -284,7 +284,8 @@ takes_either r true t kept between section left object message =
 takes_either r false t kept between section left object message =
     record { fields = between; object = rw object t.object; message = rw message t.message; is_over = rw (left refl) t.is_over }
 
--- The head of a subfile was taken by the records, as by a reader that stands in it, and by the object.
+-- The records, whose reader is then within the subfile, and the object have accepted the head of a
+-- subfile.
 pub record Entered (p : Parts) (h : Head) (fields : FieldsPlace) (object : Option State) : Type 0 where
   pub eight : h.rec ≡ 8
   pub takes : AreBetween false p
@@ -323,9 +324,9 @@ module _ {S : Type 0} {goes : S → List story.StoryEvent → S → Type 0} {fai
       let p1 : Parts = record { fields = e.passes.inside; object = object; message = p.message } in
       stopped_joined joined (tells_parts_in a) (stopped_object p1 h e.passes.head front octet cause laws e.eight halted)
 
--- ---- the answer
+-- ---- the result
 
--- a dataset that was taken, or left
+-- a dataset that was consumed, or not
 pub answered : {S : Type 0} (goes : S → List story.StoryEvent → S → Type 0) (failures : S → ℕ) → ((a : S) → goes a [] a)
     → (old new : Parts) (a : S) (h : Head) (xs : List ℕ)
     (b : Bool) (step : Step) (o : Option Step) → o ≡ then_some b step → (b ≡ true → TellsWhole old h xs new) → (b ≡ false → new ≡ old)

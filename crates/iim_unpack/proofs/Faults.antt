@@ -1,4 +1,4 @@
--- Which fault of a token is the first, and which layer dies with it.
+-- The first error of a token, and the layer that cannot continue after it.
 use Rattle.iim_unpack.proofs.Words.{Bool, Dataset, FieldFault, Head, HeadLeads, IsHeadFault, IsObjectFault, IsOctet, IsRefusedHead, IsRefusedValue, IsValueFault, Limits, List, None, ObjectLanguage, ObjectLives, ObjectToken, Octets, Option, SectionsLive, SectionsLiveAt, Some, State, TokenFault, [], ap, arith, false, first_fault, head_of, head_token, if◌then◌else◌, inl, is_kept, kept, length, max_subfiles, nat_eq, not, number, of_field, of_record, option_map, option_or, place_after_datasets, place_at, refl, section_after, subst, sym, tells_number, too_many_on, true, value_fault, value_token, ℕ, ◌++◌, ◌<◌, ◌||◌, ◌∙◌, ◌∷◌, ◌≡◌, ◌≤◌, ◌⊎◌}
 use Rattle.std.proofs.Common.{nat_lt, ◌&&◌}
 use Rattle.std.proofs.lemmas.Bool.{le-ltb}
@@ -16,9 +16,9 @@ use Rattle.iim_places.specs.declared.refusal.Layer.{Layer}
 use Rattle.iim_places.specs.declared.refusal.Layer.TheVariants as layers
 use Rattle.iim_places.proofs.Places.{ValueLeads}
 
--- ---- the layer of a fault of the records and limits
+-- ---- the layer of an error of the records or the limits
 
--- the fault is the record layer's
+-- the error is the record layer's
 abbrev IsRecords : Option FieldFault → Type 0
 IsRecords None = Unit {0}
 IsRecords (Some fault) = layer_of fault.cause ≡ layers.Record
@@ -60,7 +60,7 @@ dies_by limits ds h fault (Some other) rest by more alive none is dead =
     let layer : layer_of fault.cause ≡ layers.Record = grind arith in
     rw layer (λ goes. let bad : Some other ≡ None = none goes in cc)
 
--- a head that the records or the limits refuse
+-- a head that the records or the limits reject
 pub field_head : HeadsDieWithTheirFault → (limits : Limits) (ds : List Dataset) (h : Head) (f : FieldFault) → IsOctet h.set → SectionsLive ds
     → IsHeadFault limits ds h f
     → IsRefusedHead limits ds h (of_field f)
@@ -76,7 +76,7 @@ field_head dies limits ds h f small alive is =
 records_of : (o : Option FieldFault) (f : FieldFault) → IsRecords o → o ≡ Some f → layer_of f.cause ≡ layers.Record
 records_of o f h is = grind arith
 
--- a value that the records refuse
+-- a value that the records reject
 pub field_value : (ds : List Dataset) (d : Dataset) (f : FieldFault) → IsValueFault ds d f → IsRefusedValue ds d (of_field f)
 field_value ds d f is = record {
   first = ap (λ (o : Option FieldFault). option_or (option_map of_field o) (number_fault ds d)) is.first;
@@ -105,7 +105,7 @@ no_first dies limits ds h alive at is =
 pub have_room : (limits : Limits) (ds : List Dataset) (h : Head) → IsObjects h.rec → (h.rec ≡ 8 → length (of_record 8 ds) < max_subfiles) → HaveRoom limits ds h
 have_room limits ds h is few = record { kept = λ kept. absurd (let bad : true ≡ false = sym kept ∙ not_kept h.rec is in cc); subfiles = few }
 
--- where `max_subfiles` subfiles have come, the head of another is one too many
+-- After `max_subfiles` subfiles, the head of another is one too many.
 pub too_many_head : HeadsDieWithTheirFault → (limits : Limits) (ds : List Dataset) (h : Head) (fault : TokenFault) → SectionsLive ds → SectionsLiveAt ds h
     → h.rec ≡ 8
     → max_subfiles ≤ length (of_record 8 ds) → fault ≡ too_many_on h → IsRefusedHead limits ds h fault
@@ -119,7 +119,7 @@ too_many_head dies limits ds h fault alive at eight many same =
       dead = (at, λ room. let less = room.subfiles eight in omega (arith, less, many));
     })
 
--- the object layer dies with the token, after the tokens of the place
+-- The object layer cannot continue after the token and those before it.
 dead_after : TokensFollow → (old : Option State) (p q : Place) (token : ObjectToken) (cause : SizeCause) → Refuses old token cause → StandsAt old p
     → MayFollow p token
     → place_after p token ≡ q → (ObjectLives q → ⊥) × (cause_at p token ≡ Some cause)
@@ -129,7 +129,7 @@ dead_after follow old p q token cause refuses stands may leads =
       both.1,
     )
 
--- the object refuses a head
+-- the object rejects a head
 pub object_head : HeadsDieWithTheirFault → TokensFollow → (limits : Limits) (ds : List Dataset) (h : Head) (fault : TokenFault) (old : Option State)
     → SectionsLive ds → SectionsLiveAt ds h
     → IsObjects h.rec → (h.rec ≡ 8 → length (of_record 8 ds) < max_subfiles) → HeadLeads ds h → StandsAt old (place_after_datasets ds)
@@ -147,7 +147,7 @@ object_head dies follow limits ds h fault old alive at is few leads stands (caus
     no_subfile : (ds : List Dataset) (h : Head) → IsObjects h.rec → (h.rec ≡ 8 → length (of_record 8 ds) < max_subfiles) → subfile_fault ds h ≡ None
     no_subfile ds h is few = grind arith
 
--- the object refuses the number of a value
+-- the object rejects the number of a value
 pub object_value : ValuesDieWithTheirFault → TokensFollow → (ds : List Dataset) (d : Dataset) (fault : TokenFault) (old : Option State) → Octets d.octets
     → SectionsLiveAt ds (head_of d)
     → SectionsLive (ds ++ d ∷ []) → tells_number d.rec ≡ true → ValueLeads ds d → StandsAt old (place_at ds (head_of d))

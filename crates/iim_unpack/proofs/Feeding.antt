@@ -1,5 +1,4 @@
--- What the reader of tags says of the parts.
--- Where an unpacker stands after a piece.
+-- The reader of tags and the parts. The state of an unpacker after a chunk.
 use Rattle.iim_unpack.proofs.Words.{AllCanContinue, AreAfter, AreBetween, AreInOrder, AreLed, Begun, Bool, Cause, DataOctet, Dataset, DatasetEnd, DatasetEvent, Delivers, Err, HandsOn, Head, HeadRead, InData, InTag, IsDone, IsDoneWith, IsKeptAs, IsLed, IsOctet, IsOpen, IsRefusedIn, IsSome, IsTextOf, IsTruncatedAt, IsUnpacking, LeadsTo, Limits, List, LowerLaws, None, Ok, Option, Parts, Reads, Refusal, Sizes, Some, Stands, StandsAfter, PartsStandAt, StandsSomewhere, Tag, Takes, TakesCalls, TellsParts, TokenFault, Unpacking, Value, [], ap, append-nil, append_assoc, are_some, arith, begun_number, begun_record, between, count_octets, eqb-true, false, get_or, handed_on, has_ended, inl, inr, length, limits_in, limits_of, named_by, nat_eq, not_all, object_of, object_so_far, of_record, place_after_datasets, raised, refl, refusal_at, same_Some, section_after, sections_last, slice_index, subst, sym, take, take_all, text_so_far, to_come, true, true≢false, truncated_in, ℕ, ◌++◌, ◌<◌, ◌||◌, ◌∙◌, ◌∷◌, ◌≡◌, ◌≤◌}
 use Rattle.iim_dataset.specs.declared.head.HeadCause.{HeadCause}
 use Rattle.std.specs.Prelude.{IfErr, IfOk, Result}
@@ -25,7 +24,7 @@ use Rattle.iim_unpack.proofs.Carrying.{all_for}
 use Rattle.iim_unpack.proofs.Sequences.{Reached, by_data, ended_by_record, handed_in_order, reached, text_of, unended_inside}
 
 module _ {S : Type 0} (goes : S → List story.StoryEvent → S → Type 0) (failures : S → ℕ) where
-  -- whatever the reader of tags answers, the header has the room that it had
+  -- The capacity of the header is unchanged, whatever the reader of tags returns.
   pub same_room : (r : Result ℕ Fault) (old : Place) (octets : List ℕ) (new : Place) (a b : Router S)
       → IfOk r (λ used. TakesPiece (Routes goes failures) (λ (r : Router S). Takes r.parts.now) (λ (r : Router S). AreBetween true r.parts.now)
       (old, a) octets (new, b) used)
@@ -39,7 +38,7 @@ module _ {S : Type 0} (goes : S → List story.StoryEvent → S → Type 0) (fai
       by None h = h.0.stopped.3
       by (Some cause) h = h.0.told.3
 
--- ---- where octets have led
+-- ---- the states that octets reach
 
 -- not yet an envelope
 unfinished : LowerLaws → (parts : Parts) (ds : List Dataset) (b : Begun) → PartsStandAt parts ds b → has_ended parts ≡ false → AreSections ds → ⊥
@@ -48,7 +47,7 @@ unfinished laws parts ds (InTag held) at more sections =
     true≢false (sym (ap (λ n. nat_eq n 9) nine) ∙ sym (ended_by_record parts ds at.fields) ∙ more)
 unfinished laws parts ds (InData h taken) at more sections = not_all laws.sections ds h at.fields.alive sections
 
--- octets have one text
+-- octets have exactly one text
 pub one_text : LowerLaws → (p x y : List ℕ) → IsTextOf p x → IsTextOf p y → x ≡ y
 one_text laws p x y (ds, b, reads, is) (es, c, other, that) =
     let hands : HandsOn count_octets p (handed_on ds b) b = record { whole = ds; reads = reads; handed = refl } in
@@ -75,9 +74,9 @@ begun_on : (u v : Bool) (p piece : List ℕ) → u ≡ are_some p → v ≡ (u |
 begun_on u v [] piece was is = rw was at is
 begun_on u v (x ∷ p) piece was is = rw was at is
 
--- ---- a piece
+-- ---- a chunk
 
--- by octets, the parts continued from where events had led them
+-- The octets continue the parts from the state after the events.
 module _ {S : Type 0} {goes : S → List story.StoryEvent → S → Type 0} {failures : S → ℕ} (laws : LowerLaws) {u : Unpacking} {p : List ℕ} (led : IsLed u p)
     (octets : List ℕ) {place : Place} {q : Parts} {a b : S} (t : TellsSink (TellsParts goes failures) u.reader.place octets place (u.parts, a) (q, b)) where
   leads_on : LeadsTo count_octets (p ++ octets) (led.events ++ t.more) place
@@ -89,20 +88,20 @@ module _ {S : Type 0} {goes : S → List story.StoryEvent → S → Type 0} {fai
   text_on : IsTextOf (p ++ octets) (led.text ++ t.told.more)
   text_on = text_of (reached laws.events_tell leads_on led_on)
 
-  -- whatever the text before
+  -- for every text before
   adds_by : Delivers p octets (story.delivered t.told.more)
   adds_by text is =
       let same = one_text laws p text led.text is (text_of (reached laws.events_tell led.leads led.led)) in
       (t.told.more, rw same text_on, refl)
 
--- between datasets, the octets are whole datasets
+-- between datasets, the octets are complete datasets
 stream_of : (p : List ℕ) (whole : List Dataset) (held : List ℕ) → Reads count_octets p whole (InTag held) → [] ≡ held → SpellsStream count_octets whole p
 stream_of p whole held reads keeps =
     let none : reads.rest ≡ [] = reads.is_rest.0 ∙ sym keeps in
     let is : reads.front ≡ p = sym (append-nil reads.front) ∙ ap (λ (xs : List ℕ). reads.front ++ xs) (sym none) ∙ sym reads.parts in
     subst (SpellsStream count_octets whole) is reads.is_front
 
--- What stands after whole octets.
+-- The state after the octets of a complete envelope.
 pub record WholeParts (v : Unpacking) (p : List ℕ) : Type 0 where
   pub ds : List Dataset
   pub after : AreAfter v.parts ds
@@ -135,7 +134,7 @@ whole_parts laws v p last place led =
         }
     by ds (InData h taken) reads keeps after = absurd keeps
 
--- what the sizes of the object are
+-- the sizes of the object
 abbrev pub TellsSizes : Unpacking → Sizes → Type 0
 TellsSizes v s = (ds : List Dataset) (r : AreObjectRecords ds) → objects.StandsAt v.parts.object (place_after_datasets ds) → HaveSizes r.r7 r.r8 r.r9 s
 
@@ -172,7 +171,7 @@ done_by laws v p n s taking ended place counts led sizes =
       within = record { kept = w.after.fields.within; subfiles = w.after.few };
     }
 
--- the value is handed over
+-- the value is returned
 pub tells_value : LowerLaws → AdmittedOctetsHaveOneValue
     → (u : Unpacking) (p : List ℕ) (n : ℕ) (fields : List Dataset) (head : Header) (trailer : List ℕ) (sizes : Sizes) → IsDoneWith u p n
     → wire.head_read u.parts.message ≡ Some head → trailer ≡ wire.trailer_read u.parts.message → TellsSizes u sizes
@@ -188,7 +187,7 @@ tells_value laws one u p n fields head trailer sizes at head_is trailer_is sizes
       ap (λ (x : Value). x.sizes) same,
     )
 
--- an unpacker stands somewhere, or is done
+-- an unpacker has consumed some incomplete input, or an envelope
 pub stood_stands : (u : Unpacking) → has_ended u.parts ≡ false → StandsSomewhere u → (p : List ℕ) × (a : ℕ) × Stands u p a
 stood_stands u more (p, a, inl at) = (p, a, at)
 stood_stands u more (p, a, inr at) = absurd (true≢false (sym at.ended ∙ more))
@@ -197,13 +196,13 @@ pub stood_done : (u : Unpacking) → has_ended u.parts ≡ true → StandsSomewh
 stood_done u last (p, a, inl at) = absurd (true≢false (sym last ∙ at.unended))
 stood_done u last (p, a, inr at) = (p, a, at)
 
--- what stands there then
+-- the state of the parts then
 pub whole_of : LowerLaws → (u now : Unpacking) → u ≡ now → IsDone now → (u.refused ≡ None → IsUnpacking u) → (p : List ℕ) × WholeParts u p
 whole_of laws u now is done sound =
     let (none, last) = subst IsDone (sym is) done in
     let (p, a, at) = stood_done u last (sound none).stood in (p, whole_parts laws u p at.ended at.place at.is_led)
 
--- ---- the answer to a piece
+-- ---- the result of a chunk
 
 module _ {S : Type 0} {goes : S → List story.StoryEvent → S → Type 0} {failures : S → ℕ} (laws : LowerLaws) (u v : Unpacking) {piece : List ℕ} {used : ℕ}
     {a b : S}
@@ -289,12 +288,12 @@ bad_tag laws {limits} {parts} {p} {text} {place} {next} {cause} same r more dies
           (tag_causes dies.held cause dies.concerns);
     }
 
--- why an event is refused after these datasets
+-- why an event is rejected after these datasets
 abbrev Why : Limits → List ℕ → DatasetEvent → TokenFault → List Dataset → Begun → Type 0
 Why limits text event fault ds b =
     (text ≡ text_so_far (object_so_far ds b)) × AllCanContinue limits ds b × (AreSections ds → ⊥) × RefusesAt limits ds b event fault
 
--- it is refused for the same after datasets that are told alike
+-- The event is rejected for the same cause after datasets with the same events.
 refused_as : LowerLaws → {limits : Limits} {events : List DatasetEvent} {text : List ℕ} {event : DatasetEvent} {fault : TokenFault}
     → Refused limits events text event fault → (ds : List Dataset) (b : Begun) → events ≡ handed_on ds b → Why limits text event fault ds b
 refused_as laws {limits} {events} {text} {event} {fault} r ds b told =
@@ -316,7 +315,7 @@ end_text octets next ds h given text other is (inl (taken, reads, parts, count))
 )
 end_text octets next ds h given text other is (inr (held, reads, tag, count, none)) = (ds, InTag held, reads, is)
 
--- the events up to one that an octet completes
+-- the events up to the one that an octet completes
 completed_in_order : (octets : List ℕ) (next : ℕ) (events : List DatasetEvent) (event : DatasetEvent) → Completes octets next events event
     → AreInOrder (events ++ event ∷ [])
 completed_in_order octets next events event c =
@@ -324,7 +323,7 @@ completed_in_order octets next events event c =
     (subst AreInOrder (sym (append_assoc events (event ∷ []) c.later))
     (handed_in_order (octets ++ next ∷ []) (events ++ event ∷ c.later) c.next_begun c.with_next))
 
--- the event that an octet completes is refused, and so is the octet after those before it
+-- The event that an octet completes is rejected, and so is the octet after those before it.
 token_refused : LowerLaws → (limits : Limits) (octets : List ℕ) (next : ℕ) (events : List DatasetEvent) (text : List ℕ) (event : DatasetEvent)
     (fault : TokenFault) → CompletesNow octets next events event
     → Refused limits events text event fault → IsTextOf octets text × RefusesByTests limits octets next fault
@@ -365,7 +364,7 @@ token_refused laws limits octets next events text DatasetEnd fault c r =
       }))),
     )
 
--- octet k of a piece is refused, after octets on which the unpacker stands
+-- Octet k of a chunk is rejected, after the octets that the unpacker has consumed.
 refused_by : LowerLaws → RefusalsTellTheLowestCause → (u : Unpacking) (piece : List ℕ) (k : ℕ) (fault : TokenFault) (e : Refusal) (added : List ℕ)
     → k < length piece → IsOctet (slice_index piece k) → e ≡ refusal_at (raised u.octets k) fault → (p : List ℕ) (n : ℕ) (at : Stands u p n)
     → IsTextOf (p ++ take k piece) (at.is_led.text ++ added) × RefusesByTests (limits_in u) (p ++ take k piece) (slice_index piece k) fault
@@ -384,7 +383,7 @@ refused_by laws tests u piece k fault e added within low is p n at told = record
   refuses = (tests (limits_in u) (p ++ take k piece) (slice_index piece k) fault).1 (low, told.1);
 }
 
--- the sink's answer at a refusal
+-- the sink's count at a refusal
 pub refused_in : {S : Type 0} (goes : S → List story.StoryEvent → S → Type 0) (failures : S → ℕ) → LowerLaws → RefusalsTellTheLowestCause
     → (u : Unpacking) (piece : List ℕ)
     (k : ℕ) (fault : TokenFault) (a : S) (new : Place) (q : Parts) (b : S) (e : Refusal) → k < length piece → IsOctet (slice_index piece k)
@@ -432,7 +431,7 @@ truncated_by u p a at =
           ∙ ap (truncated_in a) (named_as u.reader.place led.leads.begun led.leads.keeps);
     }
 
--- an unpacker of which no octet has come
+-- an unpacker that has received no octet
 pub stands_new : LowerLaws → (u : Unpacking) → u.refused ≡ None → u.octets ≡ 0 → u.begun ≡ false
     → LeadsTo count_octets [] [] u.reader.place → TakesCalls u.reader → u.reader.place ≡ between → StandsAfter u.parts.fields []
     → objects.StandsAt u.parts.object (place_after_datasets []) → wire.StandsAt u.parts.message (object_of []) (text_so_far (object_of []))

@@ -1,4 +1,4 @@
--- Where a head leads the parts of an unpacker, and why it is refused.
+-- The state of an unpacker's parts after a head, and why a head is rejected.
 use Rattle.iim_unpack.proofs.Words.{AreAfter, AreBetween, Bool, CountsFor, Dataset, DatasetEvent, FieldFault, FieldsPlace, HasFewSubfiles, Head, HeadLeads, HeadRead, InData, InTag, IsHeadFault, IsRefusedHead, List, LowerLaws, ObjectLanguage, ObjectLives, Option, Parts, PartsRefuse, SectionsLiveAt, Some, StandsAfter, StandsIn, State, SubfileBegun, TellsMessage, TellsParts, TextsStandBetweenStxAndEtx, TokenFault, Within, [], ap, append-nil, arith, cases_Bool, cond, events_at, events_of, false, flat_map, head_token, inl, inr, length, limits_of, max_subfiles, message_on, nat_eq, ne_eqb, object_of, object_so_far, octets_of, of_field, of_record, place_after_datasets, place_at, refl, same_Some, sections_last, subst, sym, text_so_far, too_many_on, true≢false, ℕ, ◌++◌, ◌<◌, ◌∙◌, ◌∷◌, ◌≡◌, ◌≤◌, ◌⊎◌}
 use Rattle.std.proofs.lemmas.List.{length-map}
 use Rattle.iim_dataset.specs.Format.Octets as languages
@@ -13,7 +13,7 @@ use Rattle.iim_places.proofs.Places.{end_leads, subfile_leads}
 use Rattle.iim_unpack.proofs.{Faults.IsObjects, Faults.field_head, Faults.have_room, Faults.object_head, Faults.too_many_head, Sequences.ended_by_record}
 use Rattle.iim_unpack.proofs.Carrying.{after_all, all_for, counts_for, passes_on}
 
--- the text stays what it was
+-- the text is unchanged
 abbrev AddsNone : List Dataset → List ℕ → Type 0
 AddsNone ds more = text_so_far (object_of ds) ++ more ≡ text_so_far (object_of ds)
 
@@ -34,7 +34,7 @@ same_text texts old new o more goes at = rw (append-nil o) at (passes_on texts o
 
 -- ---- each kind of head
 
--- how many subfiles the object has
+-- the number of subfiles of the object
 as_many : (ds : List Dataset) → length (place_after_datasets ds).lengths ≡ length (of_record 8 ds)
 as_many ds = length-map (of_record 8 ds) (λ (d : Dataset). length d.octets)
 
@@ -62,7 +62,7 @@ begins_other p ds h checker other8 other9 at inside =
     }
 
 module _ {S : Type 0} {goes : S → List story.StoryEvent → S → Type 0} {failures : S → ℕ} (p : Parts) (h : Head) where
-  -- a head, from after whole datasets
+  -- a head, after complete datasets
   pub tells_parts_head : {new : Parts} {a b : S} (more : List ℕ) → AreBetween false p → limits_of new.fields ≡ limits_of p.fields
       → goes a (story.delivered more) b → failures b ≡ failures a → ((ds : List Dataset) → AreAfter p ds → Within new ds h [] × AddsNone ds more)
       → TellsParts goes failures (p, a) (HeadRead h ∷ []) (new, b)
@@ -85,7 +85,7 @@ module _ {S : Type 0} {goes : S → List story.StoryEvent → S → Type 0} {fai
     };
   }
 
-  -- a head of the object's, which is not of a value
+  -- a head of the object, which is not a value's
   pub begins_object : LowerLaws → {a b : S} (ds : List Dataset) (checker : FieldsPlace) {object : Option State} {message : Option Place} → IsObjects h.rec
       → (h.rec ≡ 8 → HasFewSubfiles p.object) → AreAfter p ds → StandsIn checker ds h [] → objects.LeadsOn p.object (head_token h.rec h.count) object
       → (passed : TellsMessage goes failures (p.message, a) (events_at h.rec) (message, b))
@@ -108,7 +108,7 @@ module _ {S : Type 0} {goes : S → List story.StoryEvent → S → Type 0} {fai
 
   -- ---- refusals
 
-  -- a head is refused, and the sink was told what is delivered of no more text
+  -- A head is rejected, and the sink received no more text.
   stopped_head : {a b : S} {new : Parts} (fault : TokenFault) (more : List ℕ) → LowerLaws → AreBetween false p → goes a (story.delivered more) b
       → CountsFor fault.cause (failures a) (failures b)
       → ((ds : List Dataset) → AreAfter p ds
@@ -145,7 +145,7 @@ module _ {S : Type 0} {goes : S → List story.StoryEvent → S → Type 0} {fai
 
   module _ (checker : FieldsPlace) (laws : LowerLaws) (takes : AreBetween false p)
       (inside : (ds : List Dataset) → StandsAfter p.fields ds → StandsIn checker ds h []) where
-    -- the object refuses it, or the message refuses the end of the object
+    -- The object rejects it, or the message rejects the end of the object.
     pub stopped_by : {a b : S} {message : Option Place} {new : Parts} (fault : TokenFault)
         → RefusesObject goes failures p.object h (p.message, a) (message, b) fault
         → IsObjects h.rec → (h.rec ≡ 8 → HasFewSubfiles p.object) → PartsRefuse goes failures (Some fault) (p, a) [] (HeadRead h) (new, b)

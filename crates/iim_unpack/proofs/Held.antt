@@ -1,5 +1,5 @@
--- An unpacker holds few octets and entries.
--- The ticket that is spelled of an unpacker is that of its place, and how long it is.
+-- An unpacker stores few octets and entries. The ticket written for an unpacker is that of its
+-- position; its length.
 use Rattle.iim_unpack.proofs.Words.{Begun, Dataset, DatasetPlace, EventsTellTheDatasets, Head, HoldsFew, InData, InTag, Inside, IsDoneWith, IsKeptAs, IsLed, IsTicketOf, LeadsToSaved, List, MessagePlace, Option, Parts, Place, Reads, Some, Stands, StandsAfter, PartsStandAt, StandsIn, StandsSomewhere, Tag, Unpacking, [], ap, arith, begun_head, begun_head_of, cases_Bool, count_octets, count_of, false, has_ended, if◌then◌else◌, inl, inr, is_kept, kept, length, limits_in, nat_eq, numbers_of, object_of, object_so_far, of_record, place_after_datasets, place_at, place_of, present_version, refl, section, section_after, stated_numbers, subst, sym, ℕ, ◌*◌, ◌+◌, ◌-◌, ◌<◌, ◌∙◌, ◌≡◌, ◌≤◌, ◌⊎◌}
 use Rattle.iim_fields.specs.Format.Causes.{joined}
 use Rattle.iim_places.proofs.{Bounds.is_one, Tickets.heads_by, Tickets.message_at, Tickets.stated_by, Tickets.taken_by, Tickets.total_of}
@@ -38,7 +38,7 @@ few_of_tag (tags.Inside head left) begun p ds keeps reads = omega arith
 
 -- ---- the records
 
--- what the records hold
+-- what the records store
 record FewFields (parts : Parts) : Type 0 where
   octets : length (joined parts.fields.kept) + length parts.fields.taken ≤ parts.fields.limits.octets + 8
   entries : length parts.fields.kept + begun_entries (begun_head_of parts.fields) ≤ parts.fields.limits.fields
@@ -90,9 +90,9 @@ holds_few tell u (p, a, stood) =
     by ds (InData h taken) reads stands tag =
         sum (few_in u.parts ds h taken stands.fields reads.is_rest.2) tag (few_of_message u.parts.message _ _ stands.message)
 
--- ---- the place
+-- ---- the position
 
--- what the readers tell, part by part, of whole datasets and a begun one
+-- The states of the readers, part by part, after complete datasets and a partial one.
 record Parted (place : DatasetPlace) (parts : Parts) (ticket : List ℕ) (s : IsSpelled place parts ticket) (whole : List Dataset) (begun : Begun) : Type 0 where
   pub section : s.section ≡ section whole begun
   pub phase : phase_in place parts ≡ phase_of whole begun
@@ -131,7 +131,7 @@ parted parts ticket ds (InData h given) (Inside g left) s (is, many) at =
     }
 parted parts ticket ds begun place s keeps at = absurd keeps
 
--- the place that is spelled
+-- the position that is encoded
 abbrev told_place : (place : DatasetPlace) (parts : Parts) (ticket : List ℕ) → IsSpelled place parts ticket → Place
 told_place place parts ticket s = record {
   section = s.section;
@@ -143,7 +143,7 @@ told_place place parts ticket s = record {
   message = s.message;
 }
 
--- The ticket is that of octets that led here.
+-- The ticket is that of the octets consumed.
 pub record Placed (u : Unpacking) (p ticket : List ℕ) : Type 0 where
   pub whole : List Dataset
   pub begun : Begun
@@ -190,7 +190,7 @@ ticket_by tell u p ticket a s stood =
 
 -- ---- a ticket
 
--- with the kept datasets, what is begun is within the limits and some octets
+-- With the stored datasets, the partial one is within the limits plus some octets.
 begun_length : (parts : Parts) (p : List ℕ) (ds : List Dataset) (b : Begun) → Reads count_octets p ds b → PartsStandAt parts ds b
     → length (phase_octets present_version (phase_of ds b)) + (6 * length (kept ds) + length (joined (kept ds))) ≤ 26
     + (parts.fields.limits.octets + 6 * parts.fields.limits.fields)
@@ -207,7 +207,7 @@ begun_length parts p ds (InData h taken) reads stands =
       | inr (inr few) ↦ omega (arith, phase, some, less, few, stands.fields.others.octets_in, stands.fields.others.fields_in)
     ]
 
--- Wherever the unpacker stands, its ticket is short.
+-- The ticket of an unpacker is short in every state.
 pub short_ticket : EventsTellTheDatasets → (u : Unpacking) (ticket : List ℕ) → IsSpelled u.reader.place u.parts ticket → StandsSomewhere u
     → length ticket ≤ (limits_in u).octets + 6 * (limits_in u).fields + 256
 short_ticket tell u ticket s (p, a, stood) =

@@ -1,5 +1,4 @@
--- Blocks, and the line of an intake.
--- What an intake feeds, piece after piece.
+-- Blocks, and the remaining input of an intake. What an intake feeds, chunk after chunk.
 use Rattle.iim_unpack.proofs.Words.{Bool, CountsFor, Delivers, DeliveryMayBeCut, Done, Progresses, HasFed, HasParts, IsDoneWith, IsOpen, IsReady, IsRefusedIn, IsTruncatedAt, LeftAs, Limits, List, More, None, Option, Refusal, Some, Stands, StandsSomewhere, Unpacked, Unpacking, Value, [], ap, append-nil, append_assoc, arith, drop, false, get_or-append-add, in_line, inl, inr, length, length-append, length-take-le, limits_in, raised, refl, refusal_at, same_Some, subst, sym, take, take-append-add, take-append-drop, take_all, true≢false, with_held, ℕ, ◌++◌, ◌+◌, ◌-◌, ◌<◌, ◌^◌, ◌∙◌, ◌≡◌, ◌≤◌}
 use Rattle.std.proofs.Common.{length-take}
 use Rattle.std.proofs.lemmas.List.{drop-drop, drop-take}
@@ -33,23 +32,23 @@ used_up : (n : ℕ) (xs : List ℕ) (o : Option (List ℕ)) → Consumes (put_be
 used_up n xs None = tt
 used_up n xs (Some rest) = ap (λ w. w ++ rest) (sym (take-append-drop n xs)) ∙ append_assoc (take n xs) (drop n xs) rest
 
--- Octets of the block were used.
+-- Octets of the block were consumed.
 pub line_passed : (n : ℕ) (held new : List ℕ) (d : Device) → new ≡ drop n held → HasGiven (with_held held d) (with_held new d) (take n held)
 line_passed n held new d is = rw is (used_up n held d.octets, (omega arith, omega arith))
 
--- where `used` octets at least are held, they can be passed
+-- If at least `used` octets are buffered, they can be discarded.
 pub fits : (octets : List ℕ) (from to used : ℕ) (held : List ℕ) → slice_range octets from to ≡ held → from ≤ to → used ≤ length held → from + used ≤ to
 fits octets from to used held is order le =
     let few : length (take (to - from) (drop from octets)) ≤ to - from = omega (arith, length-take (to - from) (drop from octets)) in
     omega (arith, order, le, rw is at few)
 
--- The whole block was used.
+-- The whole block was consumed.
 pub line_used : (n : ℕ) (held new piece : List ℕ) (d : Device) → n ≡ length held → piece ≡ held → new ≡ drop n held
     → HasGiven (with_held held d) (with_held new d) piece
 line_used n held new piece d all same is =
     subst (λ (ys : List ℕ). HasGiven (with_held held d) (with_held new d) ys) (take_all n held (omega (arith, all)) ∙ sym same) (line_passed n held new d is)
 
--- Some of it was.
+-- Part of the block was consumed.
 pub line_front : (n : ℕ) (held new piece : List ℕ) (d : Device) → piece ≡ held → new ≡ drop n held
     → HasGiven (with_held held d) (with_held new d) (take n piece)
 line_front n held new piece d same is = subst (λ (ys : List ℕ). HasGiven (with_held held d) (with_held new d) (take n ys)) (sym same)
@@ -77,23 +76,23 @@ adds_more cut p x y m n one two text is =
       ap (λ (es : List story.StoryEvent). es ++ n) told ∙ ap (λ (es : List story.StoryEvent). story.delivered first ++ es) told' ∙ sym (cut first second),
     )
 
--- ---- octets on which the unpacker stands already, and then more
+-- ---- octets that the unpacker has consumed, and then more
 
--- what is so of the unpacker now, on all octets, from what is so on the piece
+-- what holds of the unpacker for all octets, from what holds for the chunk
 on_all : (used more : List ℕ) (p : List ℕ) (n : ℕ) (P : List ℕ → ℕ → Type 0) → P ((p ++ used) ++ more) (raised (raised n (length used)) (length more))
     → P (p ++ (used ++ more)) (raised n (length (used ++ more)))
 on_all used more p n P is = rw (length-append used more, ← raised_twice n (length used) (length more), ← append_assoc p used more) is
 
--- no octets more
+-- no further octets
 stands_still : (u : Unpacking) → u.octets < 2 ^ 64 → StandsOn u u [] []
 stands_still u low p n at =
     let same : n ≡ raised n 0 = omega (arith, at.counts, low) in
     (rw (append-nil p, ← same) at, adds_none p)
 
--- ---- one piece
+-- ---- one chunk
 
 module _ {S : Type 0} (goes : S → List story.StoryEvent → S → Type 0) (d : Device) (held rest piece : List ℕ) (same : piece ≡ held) {a b : S} where
-  -- all of the block came
+  -- the whole block was removed from the input
   came_whole : {more : List story.StoryEvent} (n : ℕ) → n ≡ length held → rest ≡ drop n held → goes a more b
       → Came goes (with_held held d) (with_held rest d) a b piece more
   came_whole n all drops told = record { given = line_used n held rest piece d all same drops; told = told; patience = omega arith }
@@ -149,9 +148,9 @@ module _ {S : Type 0} (goes : S → List story.StoryEvent → S → Type 0) (d :
         };
   }
 
--- ---- one piece, after a read
+-- ---- one chunk, after a read
 
--- what came with the piece came since before the read
+-- The octets of the chunk were removed from the input since before the read.
 came_read : {S : Type 0} {goes : S → List story.StoryEvent → S → Type 0} {old mid new : Device} {a b : S} {octets : List ℕ} {more : List story.StoryEvent}
     → GiftsJoin → HasGiven old mid [] → WithinInterruptionLimit 1 old mid → new.interruptions ≡ mid.interruptions
     → Came goes mid new a b octets more → Came goes old new a b octets more
@@ -185,7 +184,7 @@ read_and_refused goes failures state old mid new {u} {v} {a} {b} joins none limi
     record { octets = h.octets; more = h.more; came = came; counts = h.counts; refused = h.refused; refuses = h.refuses } in
     (e.octet, failed, rw is (refl, inl was))
 
--- ---- nothing came
+-- ---- nothing was received
 
 module _ {S : Type 0} (goes : S → List story.StoryEvent → S → Type 0) (failures : S → ℕ) (old new : Device) (u : Unpacking) (a : S) (low : u.octets < 2 ^ 64)
     (nothing : goes a [] a) (limit : WithinInterruptionLimit 1 old new) where
@@ -230,7 +229,7 @@ told_truncated q k answer e is (f, same, told) = subst (λ (x : Refusal). IsTrun
 pub not_told : (answer : Option Refusal) (q : List ℕ) (k : ℕ) → answer ≡ None → ((f : Refusal) × (answer ≡ Some f) × IsTruncatedAt q k f) → ⊥
 not_told answer q k none (f, same, told) = let bad : None ≡ Some f = sym none ∙ same in cc
 
--- what is missing at the end of the input, where the unpacker stands on some octets
+-- what is missing at the end of the input, if the unpacker has consumed some octets
 pub none_missing : (answer : Option Refusal) (u : Unpacking) → ((p : List ℕ) (n : ℕ) → Stands u p n → (e : Refusal) × (answer ≡ Some e) × IsTruncatedAt p n e)
     → IfNone answer ((p : List ℕ) (n : ℕ) → Stands u p n → p ≡ [])
 none_missing None u told = λ p n at. absurd (not_told None p n refl (told p n at))
@@ -243,7 +242,7 @@ some_missing None u fresh stale begun told = tt
 some_missing (Some e) u fresh stale begun told = λ p n at.
     (λ none. true≢false (sym ((begun p n at).1 none) ∙ stale), told_truncated p n (Some e) e refl (told p n at))
 
--- ---- what is given
+-- ---- what is returned
 
 pub given_by : {S : Type 0} {goes : S → List story.StoryEvent → S → Type 0} {old new : Device} {u v : Unpacking} {a b : S} {used : ℕ} {got : Unpacked}
     → WasDone goes old new u v a b used → ((p : List ℕ) (n : ℕ) → IsDoneWith v p n → (w : Value) → Admits p w → HasParts got w)
@@ -262,7 +261,7 @@ given_by done' parts = record {
       );
 }
 
--- ---- pieces, one after another
+-- ---- chunks, one after another
 
 pub fed_none : {S : Type 0} (goes : S → List story.StoryEvent → S → Type 0) → GiftsJoin → (d : Device) (u : Unpacking) (a : S) → u.octets < 2 ^ 64 → goes a [] a
     → HasFed goes d d u u a a 0
@@ -278,7 +277,7 @@ stands_then cut {w = w} xs ys first more one two p n at =
     (on_all xs ys p n (Stands w) then_, adds_more cut p xs ys first more adds adds')
 
 module _ {S : Type 0} {goes : S → List story.StoryEvent → S → Type 0} where
-  -- the sink was told nothing in between
+  -- the sink received nothing in between
   pub fed_on : {old new : Device} {u v : Unpacking} {a b c : S} {used : ℕ} → Joined goes → HasFed goes old new u v a b used → goes b [] c
       → HasFed goes old new u v a c used
   fed_on {a = a} {b = b} {c = c} joined fed still = record {
@@ -291,7 +290,7 @@ module _ {S : Type 0} {goes : S → List story.StoryEvent → S → Type 0} wher
     stands = fed.stands;
   }
 
-  -- octets came after those that were fed
+  -- octets were received after those that were fed
   came_then : {old mid new : Device} {u v : Unpacking} {a b c : S} {used : ℕ} {octets : List ℕ} {more : List story.StoryEvent} → Joined goes → GiftsJoin
       → (one : HasFed goes old mid u v a b used) → Came goes mid new b c octets more → Came goes old new a c (one.octets ++ octets) (one.more ++ more)
   came_then {old} {mid} {new} {a = a} {b = b} {c = c} {octets = octets} {more = more} joined joins one two = record {
@@ -326,7 +325,7 @@ module _ {S : Type 0} {goes : S → List story.StoryEvent → S → Type 0} wher
         (on_all one.octets two.octets p n (IsDoneWith w) then_, adds_more cut p one.octets two.octets one.more two.more adds adds');
   }
 
-  -- the unpacker stands on no octets, so none came
+  -- The unpacker has consumed no octet, so none was received.
   pub fed_nothing : {old mid new : Device} {u v : Unpacking} {a b c : S} {used : ℕ} (fed : HasFed goes old mid u v a b used) (p : List ℕ) (n : ℕ) → Stands u p n
       → WasEnded mid new v b c → fed.octets ≡ []
   fed_nothing fed p n at ended = (nothing_of_two p fed.octets (ended.none (p ++ fed.octets) (raised n (length fed.octets)) (fed.stands p n at).0)).1
@@ -427,7 +426,7 @@ module _ {S : Type 0} {goes : S → List story.StoryEvent → S → Type 0} {old
   fed_and_faults Read one calm was = missed_then io.Failed one calm was
   fed_and_faults Interrupted one calm was = missed_then io.Interrupted one calm was
 
--- octets on which the unpacker stood are open, and it counts them
+-- The octets that the unpacker has consumed are incomplete, and it counts them.
 pub missed_open : {S : Type 0} (goes : S → List story.StoryEvent → S → Type 0) (failures : S → ℕ) (old new : Device) (u v : Unpacking) (a b : S) (kept : ℕ)
     (fault : IoFault)
     → (was : WasMissed goes failures old new u v a b kept fault) → (p : List ℕ) (n : ℕ) → Stands u p n
@@ -437,7 +436,7 @@ missed_open goes failures old new u v a b kept fault was p n at =
     (subst (λ (l : Limits). IsOpen l (p ++ was.octets)) was.limits there.is_open, adds, was.counts ∙ there.counts)
 
 module _ {S : Type 0} {goes : S → List story.StoryEvent → S → Type 0} {old new : Device} {u v : Unpacking} {a b : S} {used : ℕ} where
-  -- some octets came
+  -- some octets were received
   pub some_came : 0 < used → (fed : HasFed goes old new u v a b used) → fed.octets ≡ [] → ⊥
   some_came some fed none = absurd (omega (arith, some, fed.counts, ap length none))
 
@@ -446,7 +445,7 @@ module _ {S : Type 0} {goes : S → List story.StoryEvent → S → Type 0} {old
   fed_few law fed low few p n at =
       omega (arith, fed.counts, length-append p fed.octets, law (limits_in v) (p ++ fed.octets) low few (fed.stands p n at).0.is_open)
 
-  -- what the answer of a piece says
+  -- the clauses of a chunk's result
   pub more_of : {fed : Fed} → fed ≡ piece.More used → FedPiece goes (old, u, a) (new, v, b) fed → (0 < used) × IsReady v × HasFed goes old new u v a b used
   more_of is f = subst (λ (x : Fed). FedPiece goes (old, u, a) (new, v, b) x) is f
 

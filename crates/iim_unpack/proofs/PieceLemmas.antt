@@ -1,4 +1,4 @@
--- What an unpacker says of a stream that comes in pieces.
+-- What an unpacker returns for a stream that is split into chunks.
 use Rattle.iim_unpack.proofs.Words.{Answer, Answers, Bor, Cause, CountsFor, Delivers, DeliveryMayBeCut, Done, Err, Finished, Progresses, HasFedPieces, HasParts, InTag, IsDone, IsDoneWith, IsEnvelopeWithin, IsFinished, IsOpen, IsRefusedIn, IsTruncatedAt, IsTurnedDown, Limits, List, LowerLaws, More, None, Ok, Option, PlaceLaws, Progress, Refusal, Refused, Result, Some, Stands, StreamsHaveOneAnswer, Truncated, Unpacked, Unpacking, Value, [], ap, append-nil, append_assoc, arith, drop, flat_map-append, get_or, get_or-append-add, inl, inr, length, length-append, length-take-le, limits_in, object_of, raised, reads_envelope, refl, refusal_at, slice_index, stream_of, subst, sym, take, take-append-add, take-append-drop, text_so_far, ℕ, ◌++◌, ◌+◌, ◌-◌, ◌<◌, ◌^◌, ◌∙◌, ◌∷◌, ◌≡◌, ◌≤◌, ◌⊎◌}
 use Rattle.std.proofs.Common.{IfErr}
 use Rattle.std.proofs.lemmas.List.{get_or_append_left, take-append-le, take_more}
@@ -23,16 +23,16 @@ exact n k less = omega (arith, less)
 
 module _ {S : Type 0} {goes : S → List story.StoryEvent → S → Type 0} (joined : Joined goes) (cut : DeliveryMayBeCut) (laws : PlaceLaws) {limits : Limits}
     (low : AreLow limits) (o piece : List ℕ) where
-  -- ---- a piece that was taken
+  -- ---- a chunk that was consumed
 
-  -- the unpacker stood, and stands on the piece too
+  -- the unpacker has consumed incomplete input, and the chunk too
   on_more : {v : Unpacking} → limits_in v ≡ limits → Stands v (o ++ piece) (raised (length o) (length piece)) → Stands v (o ++ piece) (length (o ++ piece))
   on_more {v} same at =
       let less = laws.open_octets_are_bounded limits (o ++ piece) low.octets low.fields (subst (λ (l : Limits). IsOpen l (o ++ piece)) same at.is_open) in
       let sum = length-append o piece in
       subst (Stands v (o ++ piece)) (exact (length o) (length piece) (omega (arith, less, sum)) ∙ sym sum) at
 
-  -- or it is done with a front of it
+  -- or it has completed an envelope that is a prefix
   on_done : {v : Unpacking} (more next : List story.StoryEvent) (used : ℕ) → limits_in v ≡ limits → used ≤ length piece
       → IsDoneWith v (o ++ take used piece) (raised (length o) used) → Delivers [] o more → Delivers o (take used piece) next
       → DoneIn v (o ++ piece) (more ++ next)
@@ -81,7 +81,7 @@ module _ {S : Type 0} {goes : S → List story.StoryEvent → S → Type 0} (joi
             });
           }
 
-  -- ---- a piece of which an octet is refused
+  -- ---- a chunk of which an octet is rejected
 
   refused_there : {next : List story.StoryEvent} {e : Refusal} → (r : IsRefusedIn limits o (length o) piece next e) → e.octet ≡ length o + r.k
   refused_there r =
@@ -114,7 +114,7 @@ module _ {S : Type 0} {goes : S → List story.StoryEvent → S → Type 0} (joi
         (more ++ next, joined a b c more next told then', rw front (adds_more cut [] o (take r.k piece) more next adds delivered)),
       )
 
-  -- the answer of feeding it
+  -- the result of feeding it
   pub turned_down : {u : Unpacking} {a b c : S} (rest : List ℕ) {answer : Result Progress Refusal} {e : Refusal} → HasFedPieces goes limits u a b o
       → answer ≡ Err e → ((more : List story.StoryEvent) × goes b more c × ((p : List ℕ) (n : ℕ) → Stands u p n → IsRefusedIn (limits_in u) p n piece more e))
       → (IsDone u → answer ≡ Ok (Done 0)) → IsTurnedDown goes limits (o ++ (piece ++ rest)) a c e
@@ -127,7 +127,7 @@ module _ {S : Type 0} {goes : S → List story.StoryEvent → S → Type 0} (joi
 
 -- ---- the end
 
--- what is delivered of an envelope is its lines
+-- the text delivered of an envelope is its lines
 lines_of : LowerLaws → TextsAreDeliveredAsLines → (octets : List ℕ) (v : Value) (more : List story.StoryEvent) → Admits octets v → Delivers [] octets more
     → more ≡ story.events_of_lines v.lines
 lines_of laws delivered octets v more a adds =
@@ -138,7 +138,7 @@ lines_of laws delivered octets v more a adds =
     (a.datasets, InTag [], reads_envelope octets v a, refl) in
     told ∙ ap story.delivered (same ∙ sym text) ∙ delivered a.text v.lines a.lines
 
--- what is known of an unpacker that is done with a front of the stream
+-- An unpacker that has completed an envelope which is a prefix of the stream.
 pub record Finishes {S : Type 0} (goes : S → List story.StoryEvent → S → Type 0) (v : Unpacking) (a b : S) (stream : List ℕ) : Type 0 where
   pub more : List story.StoryEvent
   pub told : goes a more b
@@ -161,7 +161,7 @@ is_unpacked goes laws delivered {limits} {v} a b {stream} {got} {used} same f va
       told = subst (λ (es : List story.StoryEvent). goes a es b) (lines_of laws delivered front d.done.value f.more d.done.admits d.adds) f.told;
     }
 
--- ---- pieces, one after another
+-- ---- chunks, one after another
 
 pub stream_step : (ps : List (Bor (List ℕ))) (k : ℕ) (d : Bor (List ℕ)) → k < length ps
     → stream_of (take (k + 1) ps) ≡ stream_of (take k ps) ++ (get_or ps k d).now
@@ -180,7 +180,7 @@ pub still_taking : {S : Type 0} {goes : S → List story.StoryEvent → S → Ty
     → HasFedPieces goes limits u a b o → u.refused ≡ None
 still_taking fed = elim fed.stood [ inl at ↦ at.0.taking | inr d ↦ d.done.taking ]
 
--- ---- the answer of a stream
+-- ---- the result of a stream
 
 module _ {S : Type 0} (goes : S → List story.StoryEvent → S → Type 0) (one : StreamsHaveOneAnswer) {limits : Limits} {stream : List ℕ} {a b : S} where
   pub only_down : {e : Refusal} → IsTurnedDown goes limits stream a b e → (answer : Answer) → Answers limits stream answer → (e.cause ≡ Message Sink → ⊥)
@@ -200,11 +200,11 @@ only_on limits stream (Ok got) e is only answer answers other = absurd is
 only_on limits stream (Err f) e is only answer answers other =
     subst (λ (x : Refusal). IsAnswer (Err x) answer) (sym is) (only answer answers (subst (λ (x : Refusal). x.cause ≡ Message Sink → ⊥) is other))
 
--- what is missing at the end, after all pieces
+-- what is missing at the end, after all chunks
 module _ {S : Type 0} {goes : S → List story.StoryEvent → S → Type 0} {limits : Limits} {v : Unpacking} {a b : S} {stream : List ℕ} {answer : Option Refusal}
     (fed : HasFedPieces goes limits v a b stream) (truncated : (p : List ℕ) (n : ℕ) → Stands v p n → (f : Refusal) × (answer ≡ Some f) × IsTruncatedAt p n f)
   where
-    -- where the envelope has ended, nothing is
+    -- nothing is missing if the envelope has ended
     not_done : {e : Refusal} → answer ≡ Some e → (IsDone v → answer ≡ None) → DoneIn v stream fed.more → ⊥
     not_done {e} is done' d = let bad : Some e ≡ None = sym is ∙ done' (d.done.taking, d.done.ended) in cc
 

@@ -1,4 +1,5 @@
--- Readers that were made for a possible place stand at all octets that lead there, and an unpacker that is made of them is sound.
+-- Readers that were created for a possible position are in the state after all octets that reach
+-- it, and an unpacker with these readers satisfies its invariant.
 use Rattle.iim_unpack.proofs.Words.{AreAfter, AreBetween, Begun, CanContinue, CanContinueAt, Dataset, DatasetPlace, FieldsPlace, Head, InData, InTag, Inside, IsDoneWith, IsEnvelopeWithin, IsKeptAs, IsOpen, IsRestored, IsSome, IsUnpacking, LeadsToSaved, Limits, List, LowerLaws, MayContinue, MessagePlace, None, Octets, Parts, Place, PlaceLaws, Reads, SectionsLiveAt, Sizes, Split, Stands, PartsStandAt, Tag, Takes, TakesCalls, Unpacking, Value, Within, [], alive_of, ap, arith, between, count_octets, count_of, false, fields_after, fields_in, handed_on, has_ended, head_alive, heads_within, if◌then◌else◌, inl, inr, kept, length, limits_in, limits_of, nat_eq, ne_eqb, numbers_of, object_of, object_so_far, of_record, one_reading, opened, place_after_datasets, place_of, reads_envelope, refl, section_after, sections_last, some_read, stated_after_all, stated_numbers, subst, sym, text_so_far, ticket_at, to_come, true, true≢false, ℕ, ◌+◌, ◌<◌, ◌∙◌, ◌≡◌, ◌⊎◌}
 use Rattle.iim_fields.specs.States.Standing as records
 use Rattle.iim_object.specs.{Format.Objects.NotEnded, Laws.ReadersTellSizes}
@@ -11,9 +12,9 @@ use Rattle.iim_unpack.proofs.{Sequences.ended_by_record, Sequences.reached, Sequ
 use Rattle.iim_fields.specs.Format.Records.{IsWithin}
 use Rattle.iim_places.specs.declared.ticket.possible.Readers.{Readers}
 
--- ---- between datasets, or in a tag, or at the end
+-- ---- between datasets, in a tag, or at the end
 
--- The unpacker was made of the readers of the place, and counts `at` octets.
+-- The unpacker has the readers of the position, and its count of octets is `at`.
 pub record IsMadeFor (place : Place) (numbers : Numbers) (limits : Limits) (at : ℕ) (u : Unpacking) : Type 0 where
   pub taking : u.refused ≡ None
   pub counts : u.octets ≡ at
@@ -25,11 +26,11 @@ pub record IsMadeFor (place : Place) (numbers : Numbers) (limits : Limits) (at :
   pub object : ObjectStands u.parts.object place
   pub message : MessageStands u.parts.message place
 
--- what readers that were made for a place stand on
+-- the states of readers that were created for a position
 abbrev pub AreMadeFor : Limits → ℕ → Unpacking → Place → Type 0
 AreMadeFor limits at u place = (l : LeadsByLayers place) × IsMadeFor place l.numbers limits at u
 
--- Readers that were made for the place of whole datasets, and perhaps a tag, stand after them.
+-- Readers created for the position of complete datasets, and perhaps a tag, have consumed these.
 after_datasets : LowerLaws → (limits : Limits) (at : ℕ) (u : Unpacking) (ds : List Dataset) (held : List ℕ) (m : MessagePlace) (text : List ℕ)
     → AreMadeFor limits at u (place_of ds (InTag held) m) → CanContinue limits ds
     → LeadsToSaved (object_of ds) text m → AreAfter u.parts ds
@@ -60,7 +61,7 @@ after_datasets laws limits at u ds held m text (l, made) goes leads =
 
 -- ---- in data
 
--- Readers that were made for the place of whole datasets and a begun one stand in it.
+-- Readers created for the position of complete datasets and a partial one have consumed these.
 within_data : LowerLaws → (limits : Limits) (at : ℕ) (u : Unpacking) (ds : List Dataset) (h : Head) (xs : List ℕ) (m : MessagePlace) (text : List ℕ)
     → AreMadeFor limits at u (place_of ds (InData h xs) m) → CanContinueAt limits ds h → nat_eq (section_after ds) 9 ≡ false → Octets xs
     → length xs < h.count → LeadsToSaved (object_so_far ds (InData h xs)) text m → Within u.parts ds h xs
@@ -85,7 +86,7 @@ within_data laws limits at u ds h xs m text (l, made) goes open' octets less lea
           (l.message.4 nine);
     }
 
--- ---- open octets
+-- ---- incomplete octets
 
 stands_for : LowerLaws → (limits : Limits) (at : ℕ) (u : Unpacking) (p : List ℕ) (ds : List Dataset) (b : Begun) (m : MessagePlace) (text : List ℕ)
     → AreMadeFor limits at u (place_of ds b m) → Reads count_octets p ds b → MayContinue limits ds b
@@ -99,7 +100,7 @@ ended_for parts ds (InTag held) open' stand = ended_by_record parts ds stand.fie
 ended_for parts ds (InData h xs) open' stand = unended_inside parts h stand.fields.inside.0 stand.fields.inside.1
 
 module _ (laws : LowerLaws) (place : Place) (limits : Limits) (at : ℕ) (u : Unpacking) (made : AreMadeFor limits at u place) where
-  -- An unpacker that was made for a place stands on all octets that lead there and are open.
+  -- An unpacker created for a position has consumed all incomplete input that reaches it.
   pub made_stands : (p : List ℕ) → IsPlaceOf p place → IsOpen limits p → Stands u p at
   made_stands p is opens =
       let ds = is.whole in
@@ -125,7 +126,7 @@ module _ (laws : LowerLaws) (place : Place) (limits : Limits) (at : ℕ) (u : Un
         is_open = subst (λ (l : Limits). IsOpen l p) (sym here.1.limits_are) opens;
       }
 
-  -- It is done with all octets that lead there and are an envelope.
+  -- It has completed all envelopes that reach the position.
   pub made_done : (s : Sizes) → TellsSizes u s → IsSome u.parts.object → IsSome u.parts.message → (p : List ℕ) (v : Value) → IsPlaceOf p place
       → IsEnvelopeWithin limits p v → IsDoneWith u p at
   made_done s sizes object message p v is whole =
@@ -154,7 +155,7 @@ module _ (laws : LowerLaws) (place : Place) (limits : Limits) (at : ℕ) (u : Un
       })
       sizes
 
--- What comes next is taken where the readers stand at open octets.
+-- Readers in the state after incomplete octets accept what comes next.
 takes_at : (parts : Parts) (place : DatasetPlace) (ds : List Dataset) (b : Begun) → PartsStandAt parts ds b → IsKeptAs place b → has_ended parts ≡ false
     → IsSome parts.object → IsSome parts.message → Takes parts (to_come place)
 takes_at parts (Tag held) ds (InTag octets) stand keeps more object message =
@@ -165,14 +166,15 @@ takes_at parts (Inside k left) ds (InData h xs) stand keeps more object message 
     record { head = h; fields = record { head = stand.fields.inside.1.head; to_come = to_come }; object = object; message = message }
 takes_at parts place ds b stand keeps more object message = absurd keeps
 
--- The last dataset has ended where the readers say so.
+-- The last dataset has ended if the readers say so.
 ended_at : (parts : Parts) (ds : List Dataset) (b : Begun) → PartsStandAt parts ds b → has_ended parts ≡ true → IsSome parts.object → IsSome parts.message
     → AreBetween true parts
 ended_at parts ds (InTag held) stand last object message = record { is_over = last; fields = stand.fields.between; object = object; message = message }
 ended_at parts ds (InData h xs) stand last object message =
     absurd (true≢false (sym last ∙ unended_inside parts h stand.fields.inside.0 stand.fields.inside.1))
 
--- An unpacker that was made of the readers of a possible place, within the limits, is sound, and restored from the place's ticket.
+-- An unpacker with the readers of a possible position, within the limits, satisfies its invariant,
+-- and is restored from the position's ticket.
 readers_make : LowerLaws → LimitsAreToldByPlace → ReadersTellSizes → (place : Place) (limits : Limits) (at : ℕ) (u : Unpacking) (ticket : List ℕ)
     → IsTicketAt ticket place
     → AreHeadsWithin limits place → (l : LeadsByLayers place) → IsMadeFor place l.numbers limits at u → IsSome u.parts.object → IsSome u.parts.message
@@ -199,7 +201,7 @@ readers_make laws told sizes place limits at u ticket is within leads made objec
       record { place = place; is_ticket = is; within = within; limits_are = made.limits_are; stands = stands; done = done; some = (octets, led, here) },
     )
 
--- the unpacker that is made of these
+-- the unpacker with these readers
 abbrev pub made_of : Readers → FieldsPlace → ℕ → Unpacking
 made_of r fields count =
     record { reader = r.tags; parts = record { fields = fields; object = r.object; message = r.message }; octets = count; begun = r.begun; refused = None }

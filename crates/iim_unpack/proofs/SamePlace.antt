@@ -1,5 +1,5 @@
--- What is read of octets of one place leaves the parts of an unpacker alike.
--- What unpackers that stand alike answer, and that a restored one stands as the saved one.
+-- Octets that reach one position leave the parts of an unpacker in the same state. The results of
+-- unpackers in the same state, and that a restored one is in the state of the saved one.
 use Rattle.iim_unpack.proofs.Words.{AllCanContinue, Answer, Answers, AreAfter, AreWithin, Begun, CanContinue, CanContinueAt, Dataset, Done, Err, Finished, Head, InData, InTag, IsDoneWith, IsEnvelopeWithin, IsFinished, IsKeptAs, IsOpen, IsRefusedIn, Limits, List, LowerLaws, More, Octets, Ok, Parts, Place, Progress, Reads, Refusal, Refused, Result, Stands, PartsStandAt, StreamsHaveOneAnswer, TokenFault, Truncated, Unpacking, Within, [], alive_of, ap, are_some, arith, begun_number, begun_record, count_octets, fields_after, fields_in, get_or-append-add, handed_on, head_alive, if◌then◌else◌, inl, inr, length, length-append, limits_in, nat_eq, object_of, object_so_far, one_reading, opened, place_after_datasets, place_at, place_of, raised, refl, refusal_at, section_after, slice_index, some_read, stated_after_all, subst, sym, take, take-append-add, text_so_far, ℕ, ◌++◌, ◌+◌, ◌==◌, ◌∙◌, ◌∷◌, ◌≡◌, ◌≤◌, ◌⊎◌}
 use Rattle.iim_fields.specs.States.Standing as records
 use Rattle.iim_unpack.specs.Laws.{AnswersPiece, IsOfNoSink, PieceIsAnsweredAlike, PiecesAreAnsweredAlike, RestoredStandAlike, RestoredStandAsSaved, StandAlike, StandOnSame, UnpackersStandByPlace}
@@ -59,7 +59,7 @@ module _ (laws : LowerLaws) (limits : Limits) (parts : Parts) (ds es : List Data
       → CanContinueAt limits es g → Within parts es g ys) same.head (within_as h xs ys same.many (octets_of q es k ys reads) at) same.given all goes.sizes
   parts_as c d q same reads at all goes = absurd same
 
--- ---- the whole unpacker
+-- ---- the complete unpacker
 
 pub same_stands : LowerLaws → UnpackersStandByPlace
 same_stands laws u p q a place at there stands opens =
@@ -111,9 +111,10 @@ same_stands laws u p q a place at there stands opens =
       is_open = opens;
     }
 
--- ---- an answer to a piece as the answer to all octets
+-- ---- the result of a chunk as the result of all octets
 
--- The answer of octets, of which n came before, tells the same as that of the piece, before which `a` were counted.
+-- The result of all octets, `n` of which came before, represents the result of the chunk, before
+-- which `a` octets were counted.
 abbrev Matches : ℕ → ℕ → Result Progress Refusal → Answer → Type 0
 Matches n a (Ok More) (Truncated e) = Unit {0}
 Matches n a (Ok (Done used)) (Finished all value) = all ≡ n + used
@@ -123,14 +124,14 @@ Matches n a _ _ = ⊥
 same_refusal : (n a : ℕ) (e e' f : Refusal) → Matches n a (Err e) (Refused f) → Matches n a (Err e') (Refused f) → e ≡ e'
 same_refusal n a e e' f (k, fault, all, is) (k', fault', all', is') = grind arith
 
--- one answer to all octets is told by one answer to the piece
+-- One result of all octets represents one result of the chunk.
 one_answer : (n a : ℕ) (one other : Result Progress Refusal) (all : Answer) → Matches n a one all → Matches n a other all → one ≡ other
 one_answer n a (Ok More) (Ok More) (Truncated e) h k = refl
 one_answer n a (Ok (Done used)) (Ok (Done used')) (Finished all value) h k = let same : used ≡ used' = omega (arith, h, k) in ap (λ (m : ℕ). Ok (Done m)) same
 one_answer n a (Err e) (Err e') (Refused f) h k = ap Err (same_refusal n a e e' f h k)
 one_answer n a one other all h k = absurd (search rules)
 
--- what all octets are answered
+-- the result of all octets
 abbrev AnswersAll : Limits → List ℕ → ℕ → ℕ → Result Progress Refusal → Type 0
 AnswersAll limits stream n a answer = (all : Answer) × Answers limits stream all × Matches n a answer all
 
@@ -169,9 +170,9 @@ answers_all u u' p piece a (Err e) at w calm =
     } in
     (Refused (refusal_at (length p + r.k) r.fault), (was, λ is. calm (ap (λ (x : Refusal). x.cause) r.refusal ∙ is)), (r.k, r.fault, refl, r.refusal))
 
--- ---- after a piece
+-- ---- after a chunk
 
--- two answers of the same octets are one
+-- two results of the same octets are equal
 same_answers : StreamsHaveOneAnswer → (limits : Limits) (stream : List ℕ) (n a : ℕ) (one other : Result Progress Refusal) → AnswersAll limits stream n a one
     → AnswersAll limits stream n a other → one ≡ other
 same_answers law limits stream n a one other (all, is, h) (all', is', k) =
@@ -218,7 +219,7 @@ piece_alike law u v u' v' piece one other alike w w' calm calm' = by alike
         let its = w'.again r.0 r.2 in
         (mine.0 ∙ sym its.0, rw (mine.1, its.1) (inr r))
 
--- ---- piece after piece
+-- ---- chunk after chunk
 
 pub pieces_alike : StreamsHaveOneAnswer → PiecesAreAnsweredAlike
 pieces_alike law u v [] [] [] alike w w' = refl
@@ -235,7 +236,7 @@ restored_alike law u v p ticket a octets fields stood is restored =
     let stands = law u v p ticket a octets fields is restored in
     inl (record { limits = restored.limits_are; octets = p; count = a; both = elim stood [ inl at ↦ inl (at, stands.0 at) | inr d ↦ inr (d, stands.1 d) ] })
 
--- ---- a restored unpacker stands where the saved one stands
+-- ---- a restored unpacker is in the state of the saved one
 
 pub restored_stand : TicketsTellOnePlace → RestoredStandAsSaved
 restored_stand one u v p ticket a less few is restored = (

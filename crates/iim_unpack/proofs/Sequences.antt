@@ -1,5 +1,5 @@
--- Whether the last dataset has ended.
--- Where octets lead reader and parts; events in order: what is handed on of octets is in order, and a dataset ends where its head says.
+-- Whether the last dataset has ended. The states of reader and parts after octets; events in order:
+-- the events of octets are in order, and a dataset ends where its head says.
 use Rattle.iim_unpack.proofs.Words.{AreInOrder, AreLed, Begun, DataOctet, Dataset, DatasetEnd, DatasetEvent, DatasetPlace, EventsTellTheDatasets, HandsOn, Head, HeadRead, InData, InTag, IsDoneWith, IsKeptAs, IsLed, IsTextOf, LeadsTo, List, None, Parts, Reads, Some, Stands, StandsAfter, PartsStandAt, Unpacking, [], ap, append-nil, append_assoc, arith, begun_head, begun_head_of, count_octets, data_of, events_of, false, flat_map, flat_map-append, handed_on, head_of, inl, inr, length, length-append, map, nat_eq, ne_eqb, not, object_so_far, refl, section_after, section_of, subst, sym, text_so_far, ℕ, ◌++◌, ◌-◌, ◌<◌, ◌∙◌, ◌∷◌, ◌≡◌, ◌⊎◌}
 use Rattle.std.proofs.Common.{is_some, replicate}
 use Rattle.iim_fields.specs.States.Standing.{section_at, IsInside}
@@ -29,15 +29,16 @@ pub unended_by : (p : Parts) (section : ℕ) → section ≡ section_of p.fields
 unfolding has_ended
 unended_by p section is other = let apart = ne_eqb section 9 other in rw (← is, apart) refl
 
--- ---- the events of a begun dataset
+-- ---- the events of a partial dataset
 
--- What holds of begun octets holds of others that tell the same, where it does of tags.
+-- What holds of a partial dataset holds of others with the same events, if it holds of tags.
 pub by_data : (P : Begun → Type 0) → ((x y : List ℕ) → P (InTag x) → P (InTag y)) → (b c : Begun) → begun_data b ≡ begun_data c → P b → P c
 by_data P tags (InTag x) (InTag y) same p = tags x y p
 by_data P tags (InData h xs) (InData k ys) same p = let pair : (h, xs) ≡ (k, ys) = cc in subst (λ (x : Head × List ℕ). P (InData x.0 x.1)) pair p
 by_data P tags b c same p = absurd cc
 
--- Octets are read as whole datasets and a begun one, and the reader of tags and the parts stand there, with this text.
+-- The octets are complete datasets and a partial one, which the reader of tags and the parts have
+-- consumed, with this text.
 pub record Reached (place : DatasetPlace) (parts : Parts) (p text : List ℕ) : Type 0 where
   pub whole : List Dataset
   pub begun : Begun
@@ -60,12 +61,12 @@ reached tell {parts = parts} {text = text} leads led =
 pub text_of : {place : DatasetPlace} {parts : Parts} {p text : List ℕ} → Reached place parts p text → IsTextOf p text
 text_of r = (r.whole, r.begun, r.reads, r.is_text)
 
--- where it stands, or is done
+-- what it has consumed, incomplete or complete
 pub led_of : {u : Unpacking} {p : List ℕ} {a : ℕ} → Stands u p a ⊎ IsDoneWith u p a → IsLed u p
 led_of (inl at) = at.is_led
 led_of (inr at) = at.is_led
 
--- some octets more
+-- some more octets
 pub data_more : (ds : List Dataset) (h : Head) (taken run : List ℕ)
     → handed_on ds (InData h taken) ++ map DataOctet run ≡ handed_on ds (InData h (taken ++ run))
 data_more ds h taken run = simp (append_assoc, map-append)
@@ -78,9 +79,9 @@ end_told ds h taken whole =
     simp (append_assoc, append-nil, flat_map-append)
     (ap (λ (k : Head). flat_map events_of ds ++ (HeadRead k ∷ (map DataOctet taken ++ DatasetEnd ∷ []))) same)
 
--- ---- what is handed on is in order
+-- ---- the events of octets are in order
 
--- the octets that a begun dataset lacks
+-- the octets that a partial dataset lacks
 abbrev lacking : Head → List ℕ → List ℕ
 lacking h taken = replicate (h.count - length taken) 0
 
@@ -103,7 +104,7 @@ handed_in_order octets events (InData h taken) hands = record {
       ∙ filled hands.whole h taken hands.reads.is_rest.2;
 }
 
--- ---- where a dataset ends
+-- ---- the end of a dataset
 
 -- the first dataset, and what follows it
 first_then : (d : Dataset) (es : List DatasetEvent) → events_of d ++ es ≡ HeadRead (head_of d) ∷ (map DataOctet d.octets ++ DatasetEnd ∷ es)
@@ -130,7 +131,7 @@ ends_full (x ∷ ds) h taken later (d ∷ whole) e =
     let tails : map DataOctet x.octets ++ DatasetEnd ∷ rest ≡ map DataOctet d.octets ++ DatasetEnd ∷ flat_map events_of whole = cc in
     ends_full ds h taken later whole (same_data x.octets d.octets rest (flat_map events_of whole) tails).1
 
--- where the end of a begun dataset comes in order, it has as many octets as its head counts
+-- If the end of a partial dataset is in order, the dataset has as many octets as its head counts.
 pub all_came : (events : List DatasetEvent) (ds : List Dataset) (h : Head) (taken : List ℕ) → events ≡ handed_on ds (InData h taken)
     → AreInOrder (events ++ DatasetEnd ∷ []) → length taken ≡ h.count
 all_came events ds h taken told order =

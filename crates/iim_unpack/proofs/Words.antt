@@ -1,4 +1,4 @@
--- The names that several proofs bring in, passed on from one place.
+-- Names that several proofs use, re-exported from one module.
 pub use Rattle.iim_dataset.proofs.Lists.{no_some}
 pub use Rattle.iim_dataset.proofs.OctetLists.{are_octets}
 pub use Rattle.iim_dataset.specs.Format.Datasets.{Dataset, count_octets, head_of, of_record, Begun, InData, InTag, Reads}

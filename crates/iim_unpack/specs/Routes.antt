@@ -1,4 +1,5 @@
--- What a router of datasets does: what it is told, in which order, and what its parts are led to and told.
+-- The router of datasets: the events that it receives, their order, and their effect on its parts
+-- and its sink. (Private to proofs.)
 use Rattle.std.specs.Prelude.{◌≡◌, ℕ, ◌≤◌, ◌<◌, ◌⊎◌, Bool, true, false, List, [], ◌∷◌, ◌++◌, length, flat_map, fold, Option, Some, IsSome, map, None}
 use Rattle.std.proofs.Common.{refl, sym, subst, ◌∙◌, append_assoc, append-nil, ap}
 use Rattle.std.proofs.lemmas.List.Concat.{flat_map-append}
@@ -26,7 +27,7 @@ use Rattle.wire_message.specs.Format.Causes as wire_format
 use Rattle.iim_unpack.specs.States.Unpacking.{AreLed, has_ended, CountsFor, Parts}
 use Rattle.iim_unpack.specs.declared.parts.{message.ToMessage.ToMessage, router.Router.Router}
 
--- an event as an octet of the object
+-- the octet of an event of the object, or none
 abbrev pub octets_of : ObjectEvent → List ℕ
 octets_of (ObjectOctet b) = b ∷ []
 octets_of ObjectEnd = []
@@ -35,30 +36,31 @@ abbrev pub is_end : ObjectEvent → Bool
 is_end (ObjectOctet b) = false
 is_end ObjectEnd = true
 
--- whether the end has come and no octet after it, where it had or had not before the events
+-- whether the last event so far is the end, given whether it was before these events
 abbrev pub end_is_last : Bool → List ObjectEvent → Bool
 end_is_last before events = fold (λ (last : Bool) (event : ObjectEvent). is_end event) before events
 
--- why the event is refused after these octets
+-- The event is rejected after these octets for this cause.
 abbrev pub HasCauseAt : MessageCause → List ℕ → ObjectEvent → Type 0
 HasCauseAt cause octets (ObjectOctet b) = HasCause cause octets b
 HasCauseAt cause octets ObjectEnd = (cause ≡ Unfinished) × MessageDiesAt octets End
 
--- The object refused the token: the layer dies with it wherever the reader stands, and the fault tells the first cause.
+-- The object reader rejected the token: the layer cannot continue after it in any state of the
+-- reader, and the error has the first cause.
 abbrev pub IsObjectFault : Option State → ObjectToken → Head → TokenFault → Type 0
 IsObjectFault old token h fault = (cause : SizeCause) × Refuses old token cause × (fault ≡ size_on h cause)
 
--- Wherever the object stands, there may be one subfile more.
+-- In every state of the object, one more subfile is allowed.
 abbrev pub HasFewSubfiles : Option State → Type 0
 HasFewSubfiles object = (p : ObjectPlace) → objects.StandsAt object p → length p.lengths < max_subfiles
 
--- The events come in order: with some later ones they are those of whole datasets, one after another.
+-- The events are in order: they are a prefix of the events of complete datasets, one after another.
 pub record AreInOrder (events : List DatasetEvent) : Type 0 where
   pub later : List DatasetEvent
   pub whole : List Dataset
   pub are : events ++ later ≡ flat_map events_of whole
 
--- why an event is refused after whole datasets and a begun one
+-- The event is rejected with this error after complete datasets and a partial one.
 abbrev pub RefusesAt : Limits → List Dataset → Begun → DatasetEvent → TokenFault → Type 0
 RefusesAt limits ds (InTag held) (HeadRead h) fault = IsRefusedHead limits ds h fault ⊎ IsUnfinished limits ds h fault
 RefusesAt limits ds (InData h taken) (DataOctet b) fault =
@@ -66,7 +68,7 @@ RefusesAt limits ds (InData h taken) (DataOctet b) fault =
 RefusesAt limits ds (InData h taken) DatasetEnd fault = (h.rec ≡ 8 → ⊥) × IsRefusedValue ds (data_of h taken) fault
 RefusesAt limits ds begun event fault = ⊥
 
--- The event is refused after those, of which this is the text.
+-- The event is rejected after these events, whose text is `text`.
 pub record Refused (limits : Limits) (events : List DatasetEvent) (text : List ℕ) (event : DatasetEvent) (fault : TokenFault) : Type 0 where
   pub whole : List Dataset
   pub begun : Begun
@@ -76,40 +78,42 @@ pub record Refused (limits : Limits) (events : List DatasetEvent) (text : List �
   pub unfinished : AreSections whole → ⊥
   pub refuses : RefusesAt limits whole begun event fault
 
--- No dataset is begun, and the last one has ended or not.
+-- No dataset is partial. `over` states whether the last dataset has ended.
 pub record AreBetween (over : Bool) (parts : Parts) : Type 0 where
   pub fields : records.IsBetween parts.fields
   pub object : IsSome parts.object
   pub message : IsSome parts.message
   pub is_over : has_ended parts ≡ over
 
--- Of the begun dataset `left` octets are to come.
+-- A dataset is partial, and `left` octets of it remain.
 pub record TakesData (parts : Parts) (left : ℕ) : Type 0 where
   pub head : Head
   pub fields : records.IsInside parts.fields head left
   pub object : IsSome parts.object
   pub message : IsSome parts.message
 
--- From parts to parts by these events, if they come in order, which add this to the text.
+-- If the events are in order, they take the parts from the first state to the second, and add the
+-- text `more`.
 pub record LeadsParts (old : Parts) (events : List DatasetEvent) (more : List ℕ) (new : Parts) : Type 0 where
   pub limits : records.limits_of new.fields ≡ records.limits_of old.fields
   pub leads : (before : List DatasetEvent) (text : List ℕ) → AreInOrder (before ++ events) → AreLed old before text
       → AreLed new (before ++ events) (text ++ more)
 
--- They took a whole dataset of this head and these data, which adds nothing to the text.
+-- The parts consumed a complete dataset with this head and these data, which adds nothing to the
+-- text.
 abbrev pub TellsWhole : Parts → Head → List ℕ → Parts → Type 0
 TellsWhole old h xs new = LeadsParts old (HeadRead h ∷ (map DataOctet xs ++ DatasetEnd ∷ [])) [] new
 
--- The event is refused after these, which add this to the text, if all come in order.
+-- If the events are in order, the event is rejected after them, and they add the text `more`.
 abbrev pub RefusesEvent : Parts → List DatasetEvent → List ℕ → DatasetEvent → TokenFault → Type 0
 RefusesEvent old events more event fault = (before : List DatasetEvent) (text : List ℕ) → AreInOrder ((before ++ events) ++ event ∷ [])
     → AreLed old before text → Refused (records.limits_of old.fields) (before ++ events) (text ++ more) event fault
 
--- The end of the dataset is refused, and not by a sink.
+-- The end of the dataset is rejected, and not because a sink stopped.
 abbrev pub NotClosed : Parts → TokenFault → Type 0
 NotClosed old fault = ((n : ℕ) → CountsFor fault.cause n n) × RefusesEvent old [] [] DatasetEnd fault
 
--- The parts take a head, or `left` octets.
+-- The parts accept a head, or `left` octets of data.
 abbrev pub Takes : Parts → Option ℕ → Type 0
 Takes parts None = AreBetween false parts
 Takes parts (Some left) = TakesData parts left
@@ -120,17 +124,20 @@ TakesNext router left = Takes router.parts.now left
 abbrev pub IsOver : {S : Type 0} → Router S → Type 0
 IsOver router = AreBetween true router.parts.now
 
--- (What a sink of stories may be told is `goes`, and `failures` are how often it stopped.)
+-- (`goes` relates the states of a sink of stories before and after events; `failures` counts how
+-- often it stopped.)
 module _ {S : Type 0} (goes : S → List story.StoryEvent → S → Type 0) (failures : S → ℕ) where
-  -- The reader took the events, and the sink was told what is delivered of the text that they add. (Reader and sink, before and after.)
+  -- The reader consumed the events, and the sink received the text that they add. (Reader and sink,
+  -- before and after.)
   pub record TellsMessage (old : Option Place × S) (events : List ObjectEvent) (new : Option Place × S) : Type 0 where
     pub takes_calls : IsSome new.0
     pub told : TellsStory goes old.1 old.0 (flat_map octets_of events) new.0 new.1
     pub calm : failures new.1 ≡ failures old.1
     pub whole : (before : Bool) → (before ≡ true → IsWhole old.0) → end_is_last before events ≡ true → IsWhole new.0
 
-  -- The reader took the events and refused the next one for this cause; the sink was told what is delivered of those. (Reader and sink,
-  -- before and after: of the reader after it nothing is said.)
+  -- The reader consumed the events and rejected the next one for this cause; the sink received the
+  -- text of the events consumed. (Reader and sink, before and after. The final state of the reader
+  -- is not specified.)
   pub record MessageRefuses (cause : Option MessageCause)
       (old : Option Place × S) (events : List ObjectEvent) (refused : ObjectEvent) (new : Option Place × S) : Type 0 where
     pub why : MessageCause
@@ -139,21 +146,23 @@ module _ {S : Type 0} (goes : S → List story.StoryEvent → S → Type 0) (fai
     pub counts : CountsCause (failures old.1) (failures new.1) why
     pub has_cause : (octets text : List ℕ) → StandsAt old.0 octets text → HasCauseAt why (octets ++ flat_map octets_of events) refused
 
-  -- The object refused the token of the head, and the sink was told nothing; or it took the end, and the message refused that. (Message and
-  -- sink, before and after.)
+  -- The object reader rejected the token of the head, and the sink received nothing; or it accepted
+  -- the end, and the message reader rejected that. (Message and sink, before and after.)
   abbrev pub RefusesObject : Option State → Head → Option Place × S → Option Place × S → TokenFault → Type 0
   RefusesObject object h old new fault =
       (IsObjectFault object (head_token h.rec h.count) h fault × TellsMessage old [] new)
       ⊎ ((why : MessageCause) × (fault ≡ message_on h why) × (head_token h.rec h.count ≡ ObjectEnded) × LivesWith object (head_token h.rec h.count)
       × MessageRefuses (Some why) old [] ObjectEnd new)
 
-  -- The head of a subfile is one too many, wherever the object stands, and the sink was told nothing; or object or message refused it.
+  -- In every state of the object, the head begins one subfile too many, and the sink received
+  -- nothing; or object or message rejected the head.
   abbrev pub RefusesSubfile : Option State → Head → Option Place × S → Option Place × S → TokenFault → Type 0
   RefusesSubfile object h old new fault =
       (((p : ObjectPlace) → objects.StandsAt object p → max_subfiles ≤ length p.lengths) × (fault ≡ too_many_on h) × (new.1 ≡ old.1))
       ⊎ (HasFewSubfiles object × RefusesObject object h old new fault)
 
-  -- the same of the sink that holds a reader and a sink: its references stay what they are
+  -- The relations of the sink that contains a reader and a sink. Its references still point to the
+  -- same places.
   abbrev pub PassesTo : ToMessage S → List ObjectEvent → ToMessage S → Type 0
   PassesTo a events b = (a.message.ghost_name ≡ b.message.ghost_name) × (a.sink.ghost_name ≡ b.sink.ghost_name)
       × (IsSome a.message.now → TellsMessage (a.message.now, a.sink.now) events (b.message.now, b.sink.now))
@@ -162,16 +171,16 @@ module _ {S : Type 0} (goes : S → List story.StoryEvent → S → Type 0) (fai
   HaltsAt a events refused b = (a.message.ghost_name ≡ b.message.ghost_name) × (a.sink.ghost_name ≡ b.sink.ghost_name)
       × (IsSome a.message.now → MessageRefuses b.cause (a.message.now, a.sink.now) events refused (b.message.now, b.sink.now))
 
-  -- From parts to parts by these events, and the sink was told what is delivered of the text that they add. (Parts and sink, before and
-  -- after.)
+  -- The events take the parts from the first state to the second, and the sink received the text
+  -- that they add. (Parts and sink, before and after.)
   pub record TellsParts (old : Parts × S) (events : List DatasetEvent) (new : Parts × S) : Type 0 where
     pub more : List ℕ
     pub leads : LeadsParts old.0 events more new.0
     pub told : goes old.1 (story.delivered more) new.1
     pub calm : failures new.1 ≡ failures old.1
 
-  -- The parts took the events and refused the next one. (What was refused; parts and sink, before and after: of the parts after it nothing
-  -- is said.)
+  -- The parts consumed the events and rejected the next one. (The error; parts and sink, before and
+  -- after. The final state of the parts is not specified.)
   pub record PartsRefuse (refused : Option TokenFault) (old : Parts × S) (events : List DatasetEvent) (event : DatasetEvent) (new : Parts × S) : Type 0 where
     pub fault : TokenFault
     pub is_fault : refused ≡ Some fault
@@ -189,7 +198,8 @@ module _ {S : Type 0} (goes : S → List story.StoryEvent → S → Type 0) (fai
       × PartsRefuse b.refused (a.parts.now, a.sink.now) events event (b.parts.now, b.sink.now)
       × (room_of b.parts.now.fields ≡ room_of a.parts.now.fields)
 
-  -- The parts took a whole dataset, and take a head or have ended after it; or nothing was taken. (Parts and sink, before and after.)
+  -- The parts consumed a complete dataset, and then accept a head or have ended; or nothing was
+  -- consumed. (Parts and sink, before and after.)
   abbrev pub TookWhole : Parts × S → Head → List ℕ → Parts × S → Option Step → Type 0
   TookWhole old h xs new None = (new.0 ≡ old.0) × (new.1 ≡ old.1)
   TookWhole old h xs new (Some step) =
@@ -198,7 +208,8 @@ module _ {S : Type 0} (goes : S → List story.StoryEvent → S → Type 0) (fai
 pub goes_nowhere : (old : Option Place) → LeadsOn old [] [] old
 goes_nowhere old octets text at = rw (append-nil octets, append-nil text) at
 
--- What holds after some events, from wherever the reader stands, and then after others, holds after both.
+-- What holds after some events from each state of the reader, and then after others, holds after
+-- both.
 after_both : (p q : Option Place) (xs ys : List ObjectEvent) (added more : List ℕ) (P : List ℕ → List ℕ → Type 0) → LeadsOn p (flat_map octets_of xs) added q
     → ((octets text : List ℕ) → StandsAt q octets text → P (octets ++ flat_map octets_of ys) (text ++ more)) → (octets text : List ℕ) → StandsAt p octets text
     → P (octets ++ flat_map octets_of (xs ++ ys)) (text ++ (added ++ more))
@@ -206,7 +217,7 @@ after_both p q xs ys added more P first then octets text at =
     rw (flat_map-append octets_of xs ys, ← append_assoc octets (flat_map octets_of xs) (flat_map octets_of ys), ← append_assoc text added more)
     (then (octets ++ flat_map octets_of xs) (text ++ added) (first octets text at))
 
--- the events before others
+-- A prefix of events in order is in order.
 pub front_in_order : (xs ys : List DatasetEvent) → AreInOrder (xs ++ ys) → AreInOrder xs
 front_in_order xs ys order = record { later = ys ++ order.later; whole = order.whole; are = sym (append_assoc xs ys order.later) ∙ order.are }
 
@@ -218,7 +229,8 @@ module _ {S : Type 0} {goes : S → List story.StoryEvent → S → Type 0} {fai
   tells_parts_nothing g =
       record { more = []; leads = record { limits = refl; leads = λ before text _ led. rw (append-nil before, append-nil text) led }; told = g; calm = refl }
 
-  -- what is told one after another is told joined: the laws of the sinks
+  -- The effects of events in turn are the effect of their concatenation: the lemmas that the sinks
+  -- need.
   module _ (joined : (a b c : S) (xs ys : List story.StoryEvent) → goes a xs b → goes b ys c → goes a (xs ++ ys) c) where
     pub tells_message_joined : {d e f : Option Place × S} {xs ys : List ObjectEvent} → TellsMessage goes failures d xs e → TellsMessage goes failures e ys f
         → TellsMessage goes failures d (xs ++ ys) f
@@ -277,7 +289,7 @@ module _ {S : Type 0} {goes : S → List story.StoryEvent → S → Type 0} {fai
           (k.why (before ++ xs) (text ++ h.more) in_order (h.leads.leads before text first led));
     }
 
--- parts of which the last dataset has ended take nothing: no head comes after it, and no dataset is begun
+-- Parts whose last dataset has ended accept nothing: no head follows, and no dataset is partial.
 pub ended_takes_nothing : (parts : Parts) (left : Option ℕ) → AreBetween true parts → Takes parts left → ⊥
 ended_takes_nothing parts None ended takes = let both : true ≡ false = sym ended.is_over ∙ takes.is_over in cc
 ended_takes_nothing parts (Some left) ended takes =

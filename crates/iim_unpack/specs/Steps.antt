@@ -1,4 +1,5 @@
--- How an intake feeds an unpacker, how it answers, and what its readers tell of a ticket.
+-- Steps of an intake and of an unpacker, and the ticket of the readers' states. (Private to
+-- proofs.)
 use Rattle.std.specs.Prelude.{◌≡◌, ℕ, ◌≤◌, ◌⊎◌, List, [], length, take, ◌-◌, ◌==◌, if◌then◌else◌, sum, Option, true, false, slice_index, Some, None}
 use Rattle.wire_story.specs.Format.Texts as story
 use Rattle.iim_unpack.specs.States.Unpacking.{Unpacking, Stands, IsDoneWith, limits_in, has_ended, Parts}
@@ -22,36 +23,37 @@ use Rattle.iim_dataset.specs.declared.head.HeadCause.TheVariants as heads
 use Rattle.iim_places.specs.declared.refusal.Cause.TheVariants as causes
 use Rattle.iim_places.specs.declared.refusal.Layer.TheVariants as layers
 
--- The unpacker is done with a front of the octets.
+-- The unpacker has completed an envelope that is a prefix of the octets.
 pub record DoneIn (v : Unpacking) (octets : List ℕ) (more : List story.StoryEvent) : Type 0 where
   pub used : ℕ
   pub fits : used ≤ length octets
   pub done : IsDoneWith v (take used octets) used
   pub adds : Delivers [] (take used octets) more
 
--- The unpacker stands on the octets, or is done with a front of them; and the sink was told what is delivered of what it took.
+-- The unpacker has consumed the octets, or an envelope that is a prefix of them; and the sink
+-- received the text of what was consumed.
 pub record HasFedPieces {S : Type 0} (goes : S → List story.StoryEvent → S → Type 0) (limits : Limits) (v : Unpacking) (a b : S) (octets : List ℕ) : Type 0 where
   pub limits_are : limits_in v ≡ limits
   pub more : List story.StoryEvent
   pub told : goes a more b
   pub stood : (Stands v octets (length octets) × Delivers [] octets more) ⊎ DoneIn v octets more
 
--- the fault of an intake whose reader had this one
+-- the error of an intake whose reader had this error
 abbrev pub read_fault : IoFault → IntakeFault
 read_fault io.Failed = Read
 read_fault io.Interrupted = Interrupted
 
--- what is begun, by the reader of tags and the parts
+-- the partial dataset, by the reader of tags and the parts
 abbrev pub phase_in : DatasetPlace → Parts → Phase
 phase_in place parts = if has_ended parts then AllEnded
     else elim place [ Tag held ↦ TagBegun held.items | Inside h left ↦ DataBegun h.set h.count left parts.fields.taken ]
 
--- how many octets of a begun subfile are to come
+-- how many octets of a partial subfile remain
 abbrev pub left_in : DatasetPlace → ℕ
 left_in (Tag held) = 0
 left_in (Inside h left) = if h.rec == 8 then left else 0
 
--- The ticket is spelled of what these readers tell, wherever they stand.
+-- The ticket is the encoding of these readers' states, whatever octets they have consumed.
 pub record IsSpelled (place : DatasetPlace) (parts : Parts) (ticket : List ℕ) : Type 0 where
   pub section : ℕ
   pub numbers : List (Option ℕ)
@@ -65,51 +67,53 @@ pub record IsSpelled (place : DatasetPlace) (parts : Parts) (ticket : List ℕ) 
   pub message_is : IsAt parts.message message
   pub spelled : ticket ≡ ticket_of (record { section = section; phase = phase_in place parts; fields = parts.fields.kept; numbers = numbers; taken = taken; heads = heads; message = message })
 
--- ---- How the faults of the layers are told.
+-- ---- How the errors of the layers are reported.
 
--- a fault of a tag
+-- the cause for an error of a tag
 abbrev pub cause_of_tag : HeadCause → Cause
 cause_of_tag heads.Marker = causes.Marker
 cause_of_tag heads.CountForm = causes.CountForm
 
--- the fault of a begun tag, of which these numbers are named
+-- the error of a partial tag, which names these numbers
 abbrev pub tag_fault : ℕ × ℕ → HeadCause → TokenFault
 tag_fault names cause = record { layer = layers.Dataset; rec = names.0; set = names.1; cause = cause_of_tag cause }
 
--- ---- how a router leaves what it holds: parts and sink
+-- ---- the state in which a router leaves its parts and its sink
 
 module _ {S : Type 0} (goes : S → List story.StoryEvent → S → Type 0) (failures : S → ℕ) where
-  -- The first `used` octets of the piece were used, and parts and sink went by what these complete: all of the piece, or those up to the
-  -- end of the last dataset. (The place, the parts and the sink before; the reader, the parts and the sink after.)
+  -- The first `used` octets of the chunk were consumed, and parts and sink received what they
+  -- complete: the whole chunk, or the octets up to the end of the last dataset. (The state, the
+  -- parts and the sink before; the reader, the parts and the sink after.)
   pub record HasAdvanced (old : Place × Parts × S) (piece : List ℕ) (new : Reader × Parts × S) (used : ℕ) : Type 0 where
     pub takes_calls : TakesCalls new.0
     pub within : used ≤ length piece
     pub told : TellsSink (TellsParts goes failures) old.0 (take used piece) new.0.place (old.1, old.2) (new.1, new.2)
     pub onward : TookAll Takes (AreBetween true) new.0.place new.1 (length piece) used
 
-  -- They went by what the octets before octet k complete, and no tag continues with it.
+  -- Parts and sink received what the octets before octet k complete, and no tag continues with
+  -- octet k.
   pub record StuckInTag (old : Place × Parts × S) (octets : List ℕ) (k : ℕ) (cause : HeadCause) (new : Place × Parts × S) : Type 0 where
     pub told : TellsSink (TellsParts goes failures) old.0 (take k octets) new.0 (old.1, old.2) (new.1, new.2)
     pub takes : Takes new.1 (to_come new.0)
     pub dies : TagDies new.0 (slice_index octets k) cause
 
-  -- Why octet k is refused: no tag continues with it, or the parts refused what it completes. (What they refused; the place, the parts and
-  -- the sink, before and after.)
+  -- Why octet k is rejected: no tag continues with it, or the parts rejected what it completes.
+  -- (Their error; the state, the parts and the sink, before and after.)
   abbrev pub IsStoppedBy : Option HeadCause → Option TokenFault → Place × Parts × S → List ℕ → ℕ → Place × Parts × S → Type 0
   IsStoppedBy None refused old octets k new = Stops (PartsRefuse goes failures refused) old.0 octets k (old.1, old.2) (new.1, new.2)
   IsStoppedBy (Some cause) refused old octets k new = StuckInTag old octets k cause new
 
-  -- why octet k of a piece is refused (the place, the parts and the sink, before and after)
+  -- Why octet k of a chunk is rejected. (The state, the parts and the sink, before and after.)
   abbrev pub IsStoppedWith : Place × Parts × S → List ℕ → ℕ → TokenFault → Place × Parts × S → Type 0
   IsStoppedWith old octets k fault new =
       ((cause : HeadCause) × StuckInTag old octets k cause new × (fault ≡ tag_fault (named_by new.0) cause))
       ⊎ Stops (PartsRefuse goes failures (Some fault)) old.0 octets k (old.1, old.2) (new.1, new.2)
 
--- It stands on some octets, or is done with some.
+-- The unpacker has consumed some incomplete input, or some envelope.
 abbrev pub StandsSomewhere : Unpacking → Type 0
 StandsSomewhere u = (p : List ℕ) × (a : ℕ) × (Stands u p a ⊎ IsDoneWith u p a)
 
--- what holds of an unpacker between calls
+-- the invariant of an unpacker between calls
 pub record IsUnpacking (u : Unpacking) : Type 0 where
   pub calls : TakesCalls u.reader
   pub takes : ((has_ended u.parts ≡ false) × Takes u.parts (to_come u.reader.place)) ⊎ AreBetween true u.parts

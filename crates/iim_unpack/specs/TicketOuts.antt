@@ -1,11 +1,12 @@
--- What octets of a ticket lead to that are written to memory or to a buffer, and the laws of these, handed in by their impls.
+-- The effect of writing octets of a ticket to memory or to a buffer, and the lemmas about it that
+-- the implementations pass on. (Private to proofs.)
 use Rattle.std.proofs.Common.{◌≡◌, ℕ, ◌≤◌, List, [], ◌++◌, length, take, false, refl, sym, ap, subst, ◌∙◌, append-nil, append_assoc}
 use Rattle.iim_places.specs.Format.Streams.{raised}
 use Rattle.iim_unpack.specs.declared.ticket.out.{Grown.Grown, Front.Front}
 
 -- ---- memory that grows
 
--- If no memory was refused, none was before, and these octets came after those before.
+-- If no allocation has failed, none had failed before, and the octets were appended.
 abbrev pub GrowsBy : Grown → List ℕ → Grown → Type 0
 GrowsBy old octets new = new.is_refused ≡ false → (old.is_refused ≡ false) × (new.ticket.items ≡ old.ticket.items ++ octets)
 
@@ -18,13 +19,13 @@ grows_joined a b c xs ys first then calm =
     let before = first later.0 in
     (before.0, later.1 ∙ (ap (λ (t : List ℕ). t ++ ys) before.1 ∙ append_assoc a.ticket.items xs ys))
 
--- ---- the front of a buffer
+-- ---- the start of a buffer
 
--- So many octets came, and stand at the front of the buffer, where it has room for them.
+-- The count is the number of octets written, and they are at the start of the buffer if they fit.
 abbrev pub HoldsFront : List ℕ → ℕ → List ℕ → Type 0
 HoldsFront out count octets = (count ≡ raised 0 (length octets)) × (length octets ≤ length out → take (length octets) out ≡ octets)
 
--- From one value to another these octets came after those before, into one buffer.
+-- The octets were appended, in the same buffer.
 pub record WritesFront (old : Front) (octets : List ℕ) (new : Front) : Type 0 where
   pub same : new.out.ghost_name ≡ old.out.ghost_name
   pub room : length new.out.now ≡ length old.out.now

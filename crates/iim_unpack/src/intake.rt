@@ -1,4 +1,4 @@
-//! Envelopes, one after another, from a source.
+//! Parses envelopes, one after another, from a source.
 
 ghost use Rattle.std.specs.Prelude.{◌≡◌, ◌<◌, [], ℕ, List, Option, Some, None, Ok, Err, true, false, length, IfSome, IfNone, IfOk, IfErr, IsTrue, OnOk, OnErr, ◌↔◌};
 ghost use Rattle.std.specs.Io.KnownBytes.{IsAtEnd};
@@ -24,16 +24,16 @@ use thiserror::Error;
 use wire_story::StorySink;
 use wire_story::laws::delivery_may_be_cut;
 
-/// Why an intake gave no envelope.
+/// Why an intake returned no envelope.
 #[derive(Clone, Copy, Debug, PartialEq, Eq, Error)]
 pub enum IntakeFault {
-    /// The octets were refused, or they end inside an envelope; or the intake had answered a fault before.
+    /// The input is rejected or ends inside an envelope, or an earlier call failed.
     #[error("{0}")]
     Refused(Refusal),
     /// The reader failed (71).
     #[error("the reader failed")]
     Read,
-    /// A million interruptions came in a row (72).
+    /// A read was interrupted a million times in a row (72).
     #[error("a million interruptions came in a row")]
     Interrupted,
 }
@@ -41,7 +41,7 @@ pub enum IntakeFault {
 impl IntakeFault {
     ghost use Rattle.iim_unpack.specs.Format.Faults.{intake_number, intake_name};
 
-    /// Returns the number of the cause, as it is printed: for a refusal, that of its cause.
+    /// Returns the number of the cause, as it is printed. A refusal has the number of its cause.
     pub fn number(self) -> u8
         ensures { result ≡ intake_number self }
     {
@@ -52,7 +52,7 @@ impl IntakeFault {
         }
     }
 
-    /// Returns the name of the cause, as it is printed: for a refusal, that of its cause.
+    /// Returns the name of the cause, as it is printed. A refusal has the name of its cause.
     pub fn name(self) -> &'static str
         ensures { result.now ≡ intake_name self }
     {
@@ -64,7 +64,8 @@ impl IntakeFault {
     }
 }
 
-/// Sees to it that a block has octets: reads once where it has none. Answers false at the end of the source.
+/// Reads once if the block is empty. Returns `false` at the end of the source, otherwise the block
+/// is non-empty.
 fn next_piece<R: Source>(block: &mut Block, reader: &mut R) -> Result<bool, IoFault>
     ensures given { OnOk result (HasGiven (with_held block.old (R.state reader.old))
         (with_held block.new (R.state reader.new)) []) }
@@ -97,18 +98,18 @@ fn read_fault(fault: IoFault) -> IntakeFault
     }
 }
 
-/// What a piece of an input came to.
+/// The result of feeding one chunk of an input.
 #[derive(Clone, Copy, Debug, PartialEq, Eq)]
 pub enum Fed {
-    /// So many octets were fed, and the envelope has not ended.
+    /// This many octets were fed, and the envelope has not ended.
     More(u64),
-    /// So many octets were fed, with the last of which the envelope ended.
+    /// This many octets were fed, and the last of them ended the envelope.
     Done(u64),
-    /// Nothing is next in line, and the unpacker stands on no octets.
+    /// No input is left, and the unpacker has consumed no octet.
     End,
 }
 
-/// What is missing where nothing is next in line: None where the unpacker stands on no octets.
+/// Returns the refusal at the end of the input, or `None` if the unpacker has consumed no octet.
 #[tactic(auto, using(crate::proofs::Intakes::none_missing, crate::proofs::Intakes::some_missing))]
 fn missing_at_end(unpacker: &Unpacker) -> Option<Refusal>
     ensures none { IfNone result ((p : List ℕ) (n : ℕ) → Stands unpacker.now p n → p ≡ []) }
@@ -121,8 +122,8 @@ fn missing_at_end(unpacker: &Unpacker) -> Option<Refusal>
     unpacker.end_of_input()
 }
 
-/// The octets of a source, from which envelopes are taken one after another, a block of 4,096 at a time. No octet is lost or read
-/// twice. After a fault each call answers it as a refusal of cause 61.
+/// Reads envelopes, one after another, from a source, in blocks of 4,096 octets. No octet is lost
+/// or read twice. After an error every call returns a refusal with cause 61.
 #[derive(Drop)]
 pub struct Intake<R> {
     reader: R,
@@ -132,7 +133,7 @@ pub struct Intake<R> {
 }
 
 impl<R: Source> Intake<R> {
-    /// An intake that has given no envelope.
+    /// Creates an intake that has read nothing.
     pub fn new(reader: R) -> Intake<R>
         ensures reader { result.reader ≡ reader }
         ensures block { result.block ≡ [] }
@@ -147,21 +148,22 @@ impl<R: Source> Intake<R> {
         }
     }
 
-    /// How many octets were used for the envelope that was given last; 0 where the last call gave none.
+    /// Returns how many octets the last call consumed for the envelope that it returned, or 0 if it
+    /// returned none.
     pub fn octets(&self) -> u64
         ensures { result ≡ self.now.octets }
     {
         self.octets
     }
 
-    /// Whether octets were read and not used yet: then [`Intake::next_piece`] reads nothing.
+    /// Checks whether octets are buffered. If so, the next [`Intake::next_piece`] does not read.
     pub fn holds_octets(&self) -> bool
         ensures { IsTrue result ↔ (0 < length self.now.block) }
     {
         !self.block.held().is_empty()
     }
 
-    /// Feeds an unpacker the octets that are held.
+    /// Feeds the buffered octets to an unpacker.
     fn feed_held<S: StorySink>(
         &mut self,
         unpacker: &mut Unpacker,
@@ -198,8 +200,11 @@ impl<R: Source> Intake<R> {
         }
     }
 
-    /// Feeds an unpacker the octets that were read and not used yet; where there are none, reads once, past interruptions, and feeds
-    /// it what came. After a fault each call answers it as a refusal, as [`Intake::next_envelope`] does.
+    /// Feeds the buffered octets to an unpacker. If there are none, reads once, retrying after
+    /// interruptions, and feeds what was read.
+    ///
+    /// **Errors:** a refusal, or an error of the reader. After an error every call returns a
+    /// refusal, as [`Intake::next_envelope`] does.
     pub fn next_piece<S: StorySink>(
         &mut self,
         unpacker: &mut Unpacker,
@@ -211,9 +216,10 @@ impl<R: Source> Intake<R> {
         ensures calm { OnOk result ((self.new.failed ≡ None) × (S.failures sink.new ≡ S.failures sink.old)) }
         ensures faults { self.old.failed ≡ None → IfErr result (GivesNothing S.goes S.failures R.state
             (self.old, unpacker.old, sink.old) (self.new, unpacker.new, sink.new)) }
-        // Where octets were held, nothing is read: so no fault of the reader comes, and no end. At such a fault nothing was fed.
+        // If octets were buffered, nothing is read: so there is no error of the reader, and no end
+        // of the input. At an error of the reader nothing was fed.
         ensures reads { ReadsWhereEmpty self.old self.new unpacker.old unpacker.new sink.old sink.new result }
-        // A million interruptions at most came.
+        // There were at most a million interruptions.
         ensures patience { WithinInterruptionLimit 1 (R.state self.old.reader) (R.state self.new.reader) }
         ensures octets { self.new.octets ≡ self.old.octets }
         ensures again { (octet : ℕ) → self.old.failed ≡ Some octet → (result ≡ Err (RefusedFault (failed_at octet)))
@@ -241,10 +247,12 @@ impl<R: Source> Intake<R> {
         }
     }
 
-    /// Feeds an unpacker up to the end of the next envelope, whose first octets it may have been fed: answers whether there was one,
-    /// false where the input ends and the unpacker stands on no octets. The octets after the envelope stay next in line.
+    /// Feeds an unpacker up to the end of the next envelope, the beginning of which it may have
+    /// consumed already. Returns `true` at that end, and `false` if the input ends and the unpacker
+    /// has consumed no octet. The octets after the envelope remain in the buffer.
     ///
-    /// After a fault of the reader the unpacker stands on the octets that came, and may be fed more by another intake.
+    /// After an error of the reader the unpacker has consumed the octets that were read, and
+    /// another intake may feed it more.
     pub fn feed_envelope<S: StorySink>(
         &mut self,
         unpacker: &mut Unpacker,
@@ -283,8 +291,9 @@ impl<R: Source> Intake<R> {
         }
     }
 
-    /// The next envelope, whose first octets the unpacker may have been fed; None where the input ends and the unpacker
-    /// stands on no octets. The octets after the envelope stay next in line.
+    /// Returns the next envelope, the beginning of which the unpacker may have consumed already.
+    /// Returns `None` if the input ends and the unpacker has consumed no octet. The octets after
+    /// the envelope remain in the buffer.
     pub fn next_envelope<S: StorySink>(
         &mut self,
         unpacker: Unpacker,

@@ -1,4 +1,4 @@
-//! What holds of all envelopes.
+//! Lemmas about all unpackers.
 
 ghost use Rattle.std.specs.Prelude.{◌≡◌, ℕ, List, None};
 ghost use Rattle.iim_unpack.specs.States.Unpacking.{HoldsFew, IsDone, IsDoneWith, Stands};
@@ -8,8 +8,8 @@ use crate::unpacker::Unpacker;
 use iim_places::laws::lower_laws;
 pub use iim_places::laws::place_laws;
 
-/// An unpacker that has refused nothing stands on some octets, or is done with some. And it holds what its limits allow, and 256 octets
-/// at most beside that.
+/// Proves that an unpacker without a refusal has consumed some incomplete input or an envelope. It
+/// stores what its limits allow, and at most 256 octets more.
 #[tactic(auto, using(crate::proofs::Feeding::stood_done))]
 pub fn unpackers_stand_somewhere(unpacker: &Unpacker)
     ensures stands { unpacker.now.refused ≡ None → (IsDone unpacker.now → ⊥) → (octets : List ℕ) × (count : ℕ)
@@ -21,7 +21,8 @@ pub fn unpackers_stand_somewhere(unpacker: &Unpacker)
     unpacker.stands_somewhere();
 }
 
-/// What holds of unpackers that stand at one place, or are saved and restored: a field for each law.
+/// Proves the lemmas about unpackers at one position, and about saved and restored ones. The record
+/// has a field for each.
 pub fn unpacker_laws()
     ensures { UnpackerLaws }
 {

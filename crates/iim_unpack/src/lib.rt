@@ -1,12 +1,16 @@
-//! Takes envelopes of the Information Interchange Model apart.
+//! Parses envelopes of the Information Interchange Model.
 //!
-//! Stands on the readers of the layers: `iim_dataset`, `iim_fields`, `iim_object`, `wire_message` and `wire_story`; and on
-//! `iim_places`, which says what octets are and where they lead, and whose types and laws stand here too. The crates above use
-//! [`Unpacker::feed`], which takes a stream in any pieces and finishes exactly at the end of the envelope that it begins with, or
-//! says at which octet, by which layer, on which dataset and why it is refused; [`Unpacker::save`] and [`Unpacker::restore`], by
-//! which it stops and continues later; [`Intake`], which takes one envelope after another from a source; and the laws that a stream
-//! has one answer (`streams_have_one_answer`) and that octets of one place continue alike
-//! (`places_continue_alike`).
+//! Depends on the readers of the layers: `iim_dataset`, `iim_fields`, `iim_object`, `wire_message`
+//! and `wire_story`; and on `iim_places`, which defines the format, and whose types and lemmas are
+//! re-exported here. The crates above use:
+//!
+//! - [`Unpacker::feed`], which parses a stream in chunks of any size. It finishes exactly at the
+//!   end of the envelope that the stream begins with, or reports the octet, layer, dataset and
+//!   cause of the refusal;
+//! - [`Unpacker::save`] and [`Unpacker::restore`], to stop and to resume later;
+//! - [`Intake`], which reads one envelope after another from a source;
+//! - the lemmas that a stream has one result (`streams_have_one_answer`), and that octets at one
+//!   position have the same continuations (`places_continue_alike`).
 #![tactic(auto)]
 
 mod intake;

@@ -1,4 +1,4 @@
-//! The readers of an unpacker after that of the tags, as one.
+//! The readers of an unpacker below the reader of tags, as one.
 
 ghost use Rattle.std.specs.Prelude.{◌≡◌, true, false, IsTrue, ◌<◌, ◌≤◌, ◌-◌, ℕ, nat_lt, [], ◌∷◌, length, map, take, slice_index, Some, None, IsSome, IfSome, IfOk, IfErr, OnOk};
 ghost use Rattle.iim_dataset.specs.States.Reading.{HeadRead, DataOctet, DatasetEnd};
@@ -24,28 +24,28 @@ use iim_tables::records::{OBJECT, POST_OBJECT, PRE_OBJECT};
 use wire_message::{MessageFault, MessageReader};
 use wire_story::StorySink;
 
-/// What an unpacker has taken of an envelope: its records, its object and its message. What is begun, and how much of it is to
-/// come, the readers tell.
+/// The state of an unpacker after the complete tags and data: of its records, its object and its
+/// message. The readers also store the partial dataset, and how much of it remains.
 #[derive(Drop)]
 pub(crate) struct Parts {
-    /// The reader of the records, with the datasets that it keeps.
+    /// The reader of the records, which stores their datasets.
     pub fields: Fields,
     /// The reader of the object's sizes.
     pub object: ObjectReader,
-    /// The reader of the message that the object is.
+    /// The reader of the message in the object.
     pub message: MessageReader,
 }
 
-/// Octets of data are refused.
+/// A rejected octet of data.
 #[derive(Clone, Copy)]
 pub(crate) struct Halt {
-    /// How many octets of the data stand before the refused one.
+    /// How many octets of the data precede the rejected one.
     pub taken: usize,
-    /// What is refused.
+    /// The error.
     pub fault: TokenFault,
 }
 
-/// The refusal of an octet of a subfile.
+/// Returns the error for a rejected octet of a subfile.
 fn halt_on(head: Head, fault: MessageFault) -> Halt
     ensures { result ≡ record { taken = fault.taken; fault = message_on head fault.cause } }
 {
@@ -55,7 +55,7 @@ fn halt_on(head: Head, fault: MessageFault) -> Halt
     }
 }
 
-/// Whether one subfile more may come after so many.
+/// Checks whether one more subfile is allowed after this many.
 #[inline(always)]
 fn may_begin(subfiles: u64) -> bool
     ensures { result ≡ nat_lt subfiles max_subfiles }
@@ -63,7 +63,7 @@ fn may_begin(subfiles: u64) -> bool
     subfiles < MAX_SUBFILES
 }
 
-/// Takes the head of a subfile.
+/// Consumes the head of a subfile.
 #[inline(always)]
 fn subfile<S: StorySink>(
     object: &mut ObjectReader,
@@ -87,7 +87,7 @@ fn subfile<S: StorySink>(
     pass_head(object, message, head, sink)
 }
 
-/// Hands the number of a value to the object.
+/// Passes the number of a value to the object.
 #[inline(always)]
 fn tell_number(object: &mut ObjectReader, head: Head, number: u64) -> Result<(), TokenFault>
     requires { IsSome object.old }
@@ -102,7 +102,7 @@ fn tell_number(object: &mut ObjectReader, head: Head, number: u64) -> Result<(),
     }
 }
 
-/// Whether the message is whole, and the object lives with its end and this number of 9:10.
+/// Checks whether the message is complete, and the object can end here with this number of 9:10.
 #[inline(always)]
 fn may_end(object: &ObjectReader, message: &MessageReader, number: u64) -> bool
     requires { IsSome object.now }
@@ -113,7 +113,7 @@ fn may_end(object: &ObjectReader, message: &MessageReader, number: u64) -> bool
 }
 
 impl Parts {
-    /// Whether the last dataset has ended.
+    /// Checks whether the last dataset has ended.
     #[inline(always)]
     pub(crate) fn has_ended(&self) -> bool
         ensures { result ≡ has_ended self.now }
@@ -121,7 +121,7 @@ impl Parts {
         self.fields.section() == POST_OBJECT && self.fields.begun_head().is_none()
     }
 
-    /// Takes the next head, or tells the first fault of it.
+    /// Consumes the next head, or returns its first error.
     pub(crate) fn head<S: StorySink>(&mut self, head: Head, sink: &mut S) -> Result<(), TokenFault>
         requires { AreBetween false self.old }
         ensures takes { OnOk result (TakesData self.new head.count) }
@@ -144,7 +144,8 @@ impl Parts {
         Ok(())
     }
 
-    /// Takes a whole dataset of record 7; or changes nothing.
+    /// Consumes a complete dataset of record 7 and returns `true`, or returns `false` and changes
+    /// nothing.
     #[inline(never)]
     fn whole_number(&mut self, set: u8, count: u64, octets: &[u8]) -> bool
         requires takes { AreBetween false self.old }
@@ -172,7 +173,8 @@ impl Parts {
         true
     }
 
-    /// Takes a whole 9:10, with which the envelope ends; or changes nothing.
+    /// Consumes a complete 9:10, with which the envelope ends, and returns `true`; or returns
+    /// `false` and changes nothing.
     #[inline(never)]
     fn whole_end(&mut self, set: u8, count: u64, octets: &[u8]) -> bool
         requires takes { AreBetween false self.old }
@@ -199,7 +201,8 @@ impl Parts {
         true
     }
 
-    /// Takes a whole dataset of record 1 or 2; or changes nothing.
+    /// Consumes a complete dataset of record 1 or 2 and returns `true`, or returns `false` and
+    /// changes nothing.
     #[inline(always)]
     fn whole_field(&mut self, head: Head, octets: &[u8]) -> bool
         requires takes { AreBetween false self.old }
@@ -213,7 +216,8 @@ impl Parts {
         self.fields.whole(head, octets)
     }
 
-    /// Takes a whole subfile, or only its head and the octets before the one that is refused; or answers false and changes nothing.
+    /// Consumes a complete subfile, or returns `None` and changes nothing. On an error it has
+    /// consumed the head and the octets before the rejected one.
     #[inline(always)]
     fn whole_subfile<S: StorySink>(
         &mut self,
@@ -246,8 +250,8 @@ impl Parts {
         }
     }
 
-    /// Takes a whole dataset, or of a subfile only its head and the octets before the one that is refused; or answers None and
-    /// changes nothing.
+    /// Consumes a complete dataset, or returns `None` and changes nothing. On an error, which only
+    /// a subfile can have here, it has consumed the head and the octets before the rejected one.
     #[inline(always)]
     pub(crate) fn whole<S: StorySink>(
         &mut self,
@@ -280,7 +284,8 @@ impl Parts {
         }
     }
 
-    /// Takes octets of the begun dataset, or only those before the one that is refused.
+    /// Consumes octets of the partial dataset. On an error it has consumed those before the
+    /// rejected one.
     pub(crate) fn run<S: StorySink>(&mut self, run: &[u8], sink: &mut S) -> Result<(), Halt>
         requires { (left : ℕ) × TakesData self.old left × (length run.now ≤ left) }
         ensures takes { OnOk result ((left : ℕ) → TakesData self.old left
@@ -308,7 +313,7 @@ impl Parts {
         }
     }
 
-    /// Ends the begun dataset, or tells the first fault of its value.
+    /// Ends the partial dataset, or returns the first error of its value.
     pub(crate) fn close(&mut self) -> Result<(), TokenFault>
         requires { TakesData self.old 0 }
         ensures object { OnOk result (IsSome self.new.object) }

@@ -1,4 +1,4 @@
-//! A stream in pieces.
+//! Parses a stream that is split into chunks.
 
 ghost use Rattle.std.specs.Prelude.{◌≡◌, ◌≢◌, [], IfOk, IfErr, OnOk};
 ghost use Rattle.iim_unpack.specs.States.Unpacking.{CountsFor, Stands, limits_in};
@@ -14,7 +14,7 @@ use iim_places::laws::{lower_laws, place_laws};
 use wire_story::StorySink;
 use wire_story::laws::{delivery_may_be_cut, texts_are_delivered_as_lines};
 
-/// Feeds pieces, one after another.
+/// Feeds the chunks, one after another.
 fn feed_pieces<S: StorySink>(
     unpacker: &mut Unpacker,
     pieces: &[&[u8]],
@@ -38,11 +38,12 @@ fn feed_pieces<S: StorySink>(
     Ok(())
 }
 
-/// Unpacks the envelope that a stream begins with, whatever pieces it comes in: answers the envelope and how many octets it
-/// has. The unpacker has been fed nothing before.
+/// Parses the envelope that a stream begins with, in chunks of any size. Returns the envelope and
+/// its length in octets. The unpacker must not have consumed any octet before.
 ///
-/// Any other stream is refused at the first octet with which a layer is dead, or at its end, where it is truncated; or the
-/// sink stopped ([`crate::Cause::SINK`]). A stream has one of these answers, and no other.
+/// **Errors:** the refusal of the first octet after which some layer cannot continue; the refusal
+/// at the end of a truncated stream; or the sink stopped ([`crate::Cause::SINK`]). A stream has
+/// exactly one of these results.
 pub fn unpack_pieces<S: StorySink>(
     unpacker: Unpacker,
     pieces: &[&[u8]],
@@ -53,7 +54,7 @@ pub fn unpack_pieces<S: StorySink>(
         IsUnpacked S.goes (limits_in unpacker) (stream_of pieces.now) sink.old sink.new got.0 got.1) }
     ensures refused { IfErr result (IsTurnedDown S.goes (limits_in unpacker) (stream_of pieces.now) sink.old sink.new) }
 
-    // What the stream is answered is the result, unless the sink stopped.
+    // The result of the stream is returned, unless the sink stopped.
     ensures only { (answer : Answer) → Answers (limits_in unpacker) (stream_of pieces.now) answer
         → IfErr result (λ e. e.cause ≢ Message Sink) → IsAnswer result answer }
     ensures calm { OnOk result (S.failures sink.new ≡ S.failures sink.old) }

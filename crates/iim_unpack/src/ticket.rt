@@ -1,4 +1,4 @@
-//! Tickets: the place of an unpacker as octets, and the unpacker made again from them.
+//! Tickets: saves the position of an unpacker, and restores an unpacker from it.
 
 pub(crate) mod fault;
 pub(crate) mod out;

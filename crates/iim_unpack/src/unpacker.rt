@@ -1,4 +1,4 @@
-//! The streaming unpacker.
+//! The streaming parser of one envelope.
 
 ghost use Rattle.std.specs.Prelude.{◌≡◌, ◌+◌, ◌*◌, ◌^◌, [], is_some, ◌<◌, ◌≤◌, ◌⊎◌, ◌||◌, ℕ, List, Option, Some, None, Ok, Err, false, length, IsTrue, ◌↔◌, IsSome, IsOk, IfSome, IfOk, IfErr, OnOk, OnErr};
 ghost use Rattle.iim_dataset.specs.States.Reading.{to_come, TakesCalls, tag_cause_of};
@@ -33,16 +33,17 @@ use std::marker::Model;
 use wire_message::{MessageHead, MessageReader};
 use wire_story::StorySink;
 
-/// How far an unpacker came with a piece.
+/// How far the unpacker got with a chunk.
 #[derive(Clone, Copy, Debug, PartialEq, Eq)]
 pub enum Progress {
-    /// All of it was used, and the envelope can continue.
+    /// The whole chunk was consumed, and the envelope is not complete.
     More,
-    /// The envelope ends after `used` octets of it.
+    /// The envelope is complete after `used` octets of the chunk.
     Done { used: usize },
 }
 
-/// `feed` of the tags at a router, whose references stay what they are.
+/// Feeds a chunk to the reader of tags, with a router as its sink. The references in the router
+/// still point to the same places.
 fn feed_router<'p, 's, S: StorySink>(
     reader: &mut HeadReader,
     piece: &[u8],
@@ -76,7 +77,8 @@ fn tag_fault(names: (u8, u8), cause: Cause) -> TokenFault
     }
 }
 
-/// Takes a piece, all of it or up to the end of the last dataset, and answers how much.
+/// Consumes a chunk up to its end or the end of the last dataset. Returns how many octets were
+/// consumed.
 fn advance<S: StorySink>(
     reader: &mut HeadReader,
     parts: &mut Parts,
@@ -124,38 +126,39 @@ fn advance<S: StorySink>(
     }
 }
 
-/// What an envelope has, but for its lines, which went to the sink.
+/// The value of an envelope, except its lines, which were passed to the sink.
 #[derive(Drop)]
 pub struct Unpacked {
-    /// Its datasets of records 1 and 2.
+    /// The datasets of records 1 and 2.
     pub envelope: Envelope,
-    /// The header of its message.
+    /// The header of the message.
     pub head: MessageHead,
-    /// What stands between ETX and EOT, 64 octets at most.
+    /// The octets between ETX and EOT, at most 64.
     pub trailer: ArrayVec<u8, 64>,
-    /// What records 7 to 9 say of the object's size.
+    /// The sizes of the object that records 7 to 9 state.
     pub sizes: Sizes,
 }
 
-/// What an envelope has, but for its lines, where it lies in its unpacker.
+/// The value of an envelope, except its lines, borrowed from its unpacker.
 #[derive(Drop)]
 pub struct UnpackedRef<'u> {
-    /// Its datasets of records 1 and 2.
+    /// The datasets of records 1 and 2.
     pub envelope: EnvelopeRef<'u>,
-    /// The header of its message.
+    /// The header of the message.
     pub head: &'u MessageHead,
-    /// What stands between ETX and EOT.
+    /// The octets between ETX and EOT.
     pub trailer: &'u [u8],
-    /// What records 7 to 9 say of the object's size.
+    /// The sizes of the object that records 7 to 9 state.
     pub sizes: Sizes,
 }
 
-/// An unpacker of one envelope, which is fed its octets in any pieces.
+/// A push parser of one envelope, which is fed in chunks of any size.
 ///
-/// It holds the data of records 1 and 2, at most `Limits.octets` octets in at most `Limits.fields` entries, and less than 256
-/// octets more: those of a begun tag (12 at most), a begun number of record 7 or 9 (8), the header and the trailer of the message
-/// (163), and CR that no LF has followed yet (2). [`Unpacker::new`] and [`Unpacker::restore`] allocate all of it. Of the calls on an
-/// unpacker, [`Unpacker::save`] alone allocates more, for the ticket that it returns.
+/// It stores the data of records 1 and 2, at most `Limits.octets` octets in at most `Limits.fields`
+/// entries, and fewer than 256 octets more: those of a partial tag (at most 12), a partial number
+/// of record 7 or 9 (8), the header and the trailer of the message (163), and CR that no LF has
+/// followed yet (2). [`Unpacker::new`] and [`Unpacker::restore`] allocate all of it. Of the calls
+/// on an unpacker only [`Unpacker::save`] allocates more, for the ticket that it returns.
 #[derive(Drop)]
 pub struct Unpacker {
     reader: HeadReader,
@@ -179,7 +182,7 @@ impl Model for Unpacker {
         (record { reader = u.reader; parts = u.parts; octets = u.octets; begun = u.begun; refused = u.refused }) };
 }
 
-/// The refusal for a fault, at this octet.
+/// Returns the refusal for an error at this octet.
 fn refusal_at(octet: u64, fault: TokenFault) -> Refusal
     ensures { result ≡ refusal_at octet fault }
 {
@@ -192,7 +195,7 @@ fn refusal_at(octet: u64, fault: TokenFault) -> Refusal
     }
 }
 
-/// The answer after a refusal at this octet.
+/// Returns the refusal of a call after a refusal at this octet.
 pub(crate) fn failed_at(octet: u64) -> Refusal
     ensures { result ≡ failed_at octet }
 {
@@ -205,14 +208,14 @@ pub(crate) fn failed_at(octet: u64) -> Refusal
     }
 }
 
-/// A count, raised; it stays at the greatest number of 64 bits.
+/// Adds to a count, saturating at the greatest number of 64 bits.
 pub(crate) fn raised(octets: u64, more: u64) -> u64
     ensures { result ≡ raised octets more }
 {
     octets.saturating_add(more)
 }
 
-/// Whether an octet has come, after a piece.
+/// Checks whether an octet was received, after a chunk.
 fn begins(begun: bool, piece: &[u8]) -> bool
     ensures { result ≡ (begun || are_some piece.now) }
 {
@@ -220,7 +223,8 @@ fn begins(begun: bool, piece: &[u8]) -> bool
 }
 
 impl Unpacker {
-    /// An unpacker that stands on no octets, with memory for just what the limits allow: no later call takes any.
+    /// Creates an unpacker that has consumed nothing. Allocates exactly the memory that the limits
+    /// require: no later call allocates. An error means that the allocation failed.
     pub fn new(alloc: Global, limits: Limits) -> Result<Unpacker, AllocError>
         ensures stands { IfOk result (λ u. Stands u [] 0) }
         ensures limits { IfOk result (λ u. limits_in u ≡ limits) }
@@ -229,7 +233,7 @@ impl Unpacker {
         Ok(Unpacker::begin(Fields::new(alloc, limits)?))
     }
 
-    /// An unpacker that stands on no octets.
+    /// Returns an unpacker that has consumed nothing.
     fn begin(fields: Fields) -> Unpacker
         requires { StandsAfter fields [] }
         ensures stands { Stands result [] 0 }
@@ -250,8 +254,8 @@ impl Unpacker {
         }
     }
 
-    /// Begins again, on the same memory and within the same limits: whatever was fed before, it stands on no octets. It takes no
-    /// memory.
+    /// Resets the unpacker, with the same memory and limits, to one that has consumed nothing.
+    /// Allocates nothing.
     pub fn again(&mut self)
         ensures stands { Stands self.new [] 0 }
         ensures limits { limits_in self.new ≡ limits_in self.old }
@@ -267,7 +271,8 @@ impl Unpacker {
         self.refused = None;
     }
 
-    /// An unpacker of these readers, which has taken `octets` octets; `begun` tells whether an octet has come.
+    /// Returns an unpacker with these readers, which has consumed `octets` octets. `begun` states
+    /// whether any octet was received.
     pub(crate) fn at_place(reader: HeadReader, parts: Parts, octets: u64, begun: bool) -> Unpacker
         requires { IsUnpacking (record
             { reader = reader; parts = parts; octets = octets; begun = begun; refused = None }) }
@@ -282,69 +287,74 @@ impl Unpacker {
         }
     }
 
-    /// Whether an envelope has ended.
+    /// Checks whether the envelope is complete.
     pub fn is_done(&self) -> bool
         ensures { IsTrue result ↔ IsDone self.now }
     {
         self.parts.has_ended() && self.refused.is_none()
     }
 
-    /// Whether something was refused.
+    /// Checks whether an octet was rejected.
     pub fn is_failed(&self) -> bool
         ensures { result ≡ is_some self.now.refused }
     {
         self.refused.is_some()
     }
 
-    /// It stands on some octets, or is done with some, unless something was refused.
+    /// Proves that an unpacker without a refusal has consumed some incomplete input or an envelope.
     pub(crate) fn stands_somewhere(&self)
         ensures stood { self.now.refused ≡ None → StandsSomewhere self.now }
         ensures counts { self.now.octets < 2 ^ 64 }
         ensures octets { (limits_in self.now).octets < 2 ^ 32 }
         ensures fields { (limits_in self.now).fields < 2 ^ 32 }
     {
-        // Both are asked for what the types of their answers say.
+        // Both are called for what the types of their results state.
         let _octets = self.octets();
         let _limits = self.parts.fields.limits();
     }
 
-    /// Whether it stands on no octets.
+    /// Checks whether no octet was consumed.
     pub(crate) fn is_fresh(&self) -> bool
         ensures { (p : List ℕ) (a : ℕ) → Stands self.now p a → IsTrue result ↔ (p ≡ []) }
     {
         !self.begun
     }
 
-    /// How many octets were taken.
+    /// Returns how many octets were consumed.
     pub fn octets(&self) -> u64
         ensures { result ≡ self.now.octets }
     {
         self.octets
     }
 
-    /// Takes the next octets of the stream, which may be none, and tells the sink what is delivered of the text among them:
-    /// slices of the piece. After the end of the envelope no octet is used.
+    /// Feeds the next octets of the stream (possibly none) and passes the story text among them to
+    /// `sink`, as slices of `piece`. Returns `Done` at the end of the envelope and consumes nothing
+    /// after it. Allocates nothing.
     ///
-    /// An error is the refusal of the first octet with which a layer is dead, or of one at which the sink stopped
-    /// ([`Cause::SINK`]); later calls answer [`Cause::Failed`]. No call takes memory.
+    /// **Errors:** the refusal of the first octet after which some layer cannot continue, or at
+    /// which the sink stopped ([`Cause::SINK`]). After an error every call returns
+    /// [`Cause::Failed`].
     pub fn feed<S: StorySink>(&mut self, piece: &[u8], sink: &mut S) -> Result<Progress, Refusal>
-        // It stands on the octets so far, or an envelope ends with them; and the sink was told what they add, and did not fail.
+        // The octets so far are incomplete or an envelope. The sink received the text that the
+        // chunk adds, and did not fail.
         ensures goes { IfOk result (λ progress. (S.failures sink.new ≡ S.failures sink.old)
             × ((more : List story.StoryEvent) × S.goes sink.old more sink.new
             × ((p : List ℕ) (a : ℕ) → Stands self.old p a → Progresses self.new p a piece.now more progress))) }
 
-        // The first dead token is one that octet k completes; the sink was told what the octets before it add.
+        // Octet k completes the first rejected token. The sink received the text that the octets
+        // before it add.
         ensures refused { IfErr result (λ e. (more : List story.StoryEvent) × S.goes sink.old more sink.new
             × ((p : List ℕ) (a : ℕ) → Stands self.old p a → IsRefusedIn (limits_in self.old) p a piece.now more e)) }
         ensures counted { IfErr result (λ e. CountsFor e.cause (S.failures sink.old) (S.failures sink.new)) }
         ensures failed { IfErr result (λ e. self.new.refused ≡ Some e.octet) }
 
-        // After an envelope, and after a refusal, nothing changes any more.
+        // After an envelope and after a refusal, calls change nothing.
         ensures done { IsDone self.old → (result ≡ Ok (Progress.Done 0)) × LeftAs self.old sink.old self.new sink.new }
         ensures again { (octet : ℕ) → self.old.refused ≡ Some octet → (result ≡ Err (failed_at octet))
             × LeftAs self.old sink.old self.new sink.new }
         ensures limits { self.old.refused ≡ None → OnOk result (limits_in self.new ≡ limits_in self.old) }
-        // It holds what the limits allow, and 256 octets at most beside that; and whatever it answers, it takes no memory.
+        // It stores what the limits allow and at most 256 octets more. It never allocates, whatever
+        // it returns.
         ensures memory { (room_in self.new ≡ room_in self.old) × (self.new.refused ≡ None → HoldsFew self.new) }
     {
         lower_laws();
@@ -373,7 +383,8 @@ impl Unpacker {
         }
     }
 
-    /// What is missing where the input ends here: None after an envelope; else its octets are truncated.
+    /// Returns the refusal if the input ends here: `None` after an envelope, [`Cause::Truncated`]
+    /// within one.
     pub fn end_of_input(&self) -> Option<Refusal>
         ensures done { IsDone self.now → result ≡ None }
         ensures failed { (octet : ℕ) → self.now.refused ≡ Some octet → result ≡ Some (failed_at octet) }
@@ -396,8 +407,9 @@ impl Unpacker {
         })
     }
 
-    /// The ticket of the place that the octets so far have led to, in the middle of an envelope or at its end. The same octets
-    /// have one ticket, however they were cut. It tells nothing of the sink, and not the limits.
+    /// Returns the ticket of the current position, within an envelope or at its end. The ticket
+    /// depends only on the octets consumed, not on their split into chunks. It encodes neither the
+    /// sink nor the limits.
     pub fn save(&self, alloc: Global) -> Result<Vec<u8>, SaveFault>
         ensures failed { (octet : ℕ) → self.now.refused ≡ Some octet → result ≡ Err SaveFault.Failed }
         ensures memory { self.now.refused ≡ None → IfErr result (λ fault. fault ≡ SaveFault.OutOfMemory) }
@@ -417,8 +429,8 @@ impl Unpacker {
         }
     }
 
-    /// Writes the same ticket to the front of a buffer, exactly if that has room for it, and returns how many octets the ticket has. It
-    /// takes no memory, and fails only if something was refused before.
+    /// Writes the ticket to the start of a buffer if it fits, and returns its length in octets in
+    /// any case. Allocates nothing, and fails only after a refusal.
     pub fn save_at(&self, out: &mut [u8]) -> Result<usize, SaveFault>
         ensures failed { (octet : ℕ) → self.now.refused ≡ Some octet → result ≡ Err SaveFault.Failed }
         ensures saved { self.now.refused ≡ None → IsOk result }
@@ -432,7 +444,8 @@ impl Unpacker {
         Ok(spell_at(out, &self.reader, &self.parts))
     }
 
-    /// The value of the envelope where it lies, where one has ended. It stays there until the unpacker begins again.
+    /// Returns the value of a complete envelope, borrowed from the unpacker, or `None` if the
+    /// envelope is not complete.
     pub fn unpacked(&self) -> Option<UnpackedRef<'_>>
         ensures done { IsSome result ↔ IsDone self.now }
         ensures value { IfSome result (λ got. (p : List ℕ) (a : ℕ) → IsDoneWith self.now p a → (v : Value) → Admits p v
@@ -457,7 +470,8 @@ impl Unpacker {
         })
     }
 
-    /// The value of the envelope, where one has ended. Else the unpacker is handed back as it was.
+    /// Returns the value of a complete envelope. If the envelope is not complete, returns the
+    /// unpacker unchanged, as an error.
     pub fn into_unpacked(self) -> Result<Unpacked, Unpacker>
         ensures done { OnOk result (IsDone self) }
         ensures value { IfOk result (λ got. (p : List ℕ) (a : ℕ) → IsDoneWith self p a → (v : Value) → Admits p v

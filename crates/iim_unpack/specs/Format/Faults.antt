@@ -1,4 +1,5 @@
--- The causes of an unpacker that gave no state, and of an intake that gave no envelope, by their numbers and names.
+-- Numbers and names of the errors of an unpacker that returned no ticket, and of an intake that
+-- returned no envelope.
 use Rattle.std.specs.Prelude.{ℕ, List, codes}
 use Rattle.iim_places.specs.Format.Causes.{cause_number, cause_name}
 use Rattle.iim_unpack.specs.declared.{ticket.spelling.SaveFault.SaveFault, intake.IntakeFault.IntakeFault}

@@ -1,4 +1,4 @@
--- What a stream that comes in pieces is answered, and the value that is handed over.
+-- The result of a stream that is split into chunks, and the value that is returned.
 use Rattle.std.specs.Prelude.{◌≡◌, ℕ, ◌⊎◌, List, [], take, flat_map, Result, Ok, Err}
 use Rattle.std.specs.Borrow.{Bor}
 use Rattle.iim_places.specs.{Format.Admitted.Value, Format.Open.Delivers, declared.refusal.Refusal.Refusal}
@@ -8,42 +8,43 @@ pub use Rattle.iim_unpack.specs.declared.unpacker.Unpacked.{Unpacked}
 use Rattle.iim_unpack.specs.declared.unpacker.UnpackedRef.{UnpackedRef}
 use Rattle.iim_fields.specs.declared.limits.Limits.{Limits}
 
--- It has the parts of the value, but for the lines.
+-- It has the parts of the value, except the lines.
 pub record HasParts (got : Unpacked) (v : Value) : Type 0 where
   pub fields : got.envelope ≡ v.fields
   pub head : got.head ≡ v.head
   pub trailer : got.trailer.items ≡ v.trailer
   pub sizes : got.sizes ≡ v.sizes
 
--- The same of the value where it lies.
+-- The borrowed value has the parts of the value, except the lines.
 pub record ShowsParts (got : UnpackedRef) (v : Value) : Type 0 where
   pub fields : got.envelope ≡ v.fields
   pub head : got.head.now ≡ v.head
   pub trailer : got.trailer.now ≡ v.trailer
   pub sizes : got.sizes ≡ v.sizes
 
--- the stream of which these are the pieces
+-- the stream that is the concatenation of these chunks
 abbrev pub stream_of : List (Bor (List ℕ)) → List ℕ
 stream_of pieces = flat_map (λ piece. piece.now) pieces
 
--- From a to b the sink was told exactly what is delivered of the octets.
+-- From state `a` to state `b`, the sink received exactly the text of the octets.
 abbrev pub TellsText : {S : Type 0} → (S → List story.StoryEvent → S → Type 0) → S → List ℕ → S → Type 0
 TellsText {S} goes a octets b = (more : List story.StoryEvent) × goes a more b × Delivers [] octets more
 
--- The stream begins with an envelope of `used` octets; its parts are these, and the sink was told its lines.
+-- The stream begins with an envelope of `used` octets, whose value has these parts, and the sink
+-- received its lines.
 pub record IsUnpacked {S : Type 0} (goes : S → List story.StoryEvent → S → Type 0) (limits : Limits) (stream : List ℕ) (a b : S) (got : Unpacked) (used : ℕ) : Type 0 where
   pub value : Value
   pub finished : IsFinished limits stream used value
   pub parts : HasParts got value
   pub told : goes a (story.events_of_lines value.lines) b
 
--- Why a stream has no envelope at its front: an octet is refused, and the sink was told what is delivered of those before it; or all
--- octets are open and there are no more, and it was told what is delivered of them.
+-- Why a stream does not begin with an envelope. Either an octet is rejected, and the sink received
+-- the text of the octets before it; or the stream is truncated, and the sink received all its text.
 abbrev pub IsTurnedDown : {S : Type 0} → (S → List story.StoryEvent → S → Type 0) → Limits → List ℕ → S → S → Refusal → Type 0
 IsTurnedDown goes limits stream a b e =
     (IsRefused limits stream e × TellsText goes a (take e.octet stream) b) ⊎ (IsTruncated limits stream e × TellsText goes a stream b)
 
--- The result is the answer.
+-- The function's result represents the result of the stream.
 abbrev pub IsAnswer : Result (Unpacked × ℕ) Refusal → Answer → Type 0
 IsAnswer (Ok got) (Finished used value) = HasParts got.0 value × (got.1 ≡ used)
 IsAnswer (Err e) (Refused f) = e ≡ f

@@ -1,4 +1,4 @@
--- What an intake has next in line.
+-- The remaining input of an intake, and the results of its calls.
 use Rattle.std.specs.Prelude.{◌≡◌, ◌≢◌, ℕ, ◌+◌, ◌<◌, ◌⊎◌, false, List, [], ◌++◌, length, take, slice_index, Option, None, Some, Bool, true, Result, IfOk, IfErr}
 use Rattle.std.specs.Io.KnownBytes.{IsAtEnd}
 use Rattle.iim_dataset.specs.States.Devices.{Device, HasGiven, MissedAfter, WithinInterruptionLimit}
@@ -15,22 +15,23 @@ use Rattle.iim_unpack.specs.declared.intake.{Fed.Fed, Intake.Intake, IntakeFault
 use Rattle.iim_unpack.specs.declared.intake.IntakeFault.TheVariants.{Refused, Read, Interrupted}
 use Rattle.iim_unpack.specs.declared.intake.Fed.TheVariants as piece
 
--- an intake's reader as a device, with the octets of the block put before its own: what is next in line
+-- the remaining input of an intake, as a source: the octets of the block, then those of the reader
 abbrev pub in_line : {R : Type 0} → (R → Device) → Intake R → Device
 in_line state i = with_held i.block (state i.reader)
 
--- The unpacker is neither done nor failed.
+-- The unpacker has neither completed an envelope nor failed.
 abbrev pub IsReady : Unpacking → Type 0
 IsReady u = (u.refused ≡ None) × (has_ended u.parts ≡ false)
 
--- Just these octets came from the line, and the sink was told this. A million interruptions at most came for each octet, and a million
--- more.
+-- Exactly these octets were removed from the remaining input, and the sink received these events.
+-- There were at most a million interruptions per octet, and a million more.
 pub record Came {S : Type 0} (goes : S → List story.StoryEvent → S → Type 0) (old new : Device) (a b : S) (octets : List ℕ) (more : List story.StoryEvent) : Type 0 where
   pub given : HasGiven old new octets
   pub told : goes a more b
   pub patience : WithinInterruptionLimit (length octets + 1) old new
 
--- Nothing came, nothing is next in line, and the unpacker stands on no octets. A million interruptions at most came.
+-- No octet was consumed, no input remains, and the unpacker has consumed no octet before. There
+-- were at most a million interruptions.
 pub record WasEnded {S : Type 0} (old new : Device) (u : Unpacking) (a b : S) : Type 0 where
   pub given : HasGiven old new []
   pub at_end : IsAtEnd new.octets
@@ -38,11 +39,13 @@ pub record WasEnded {S : Type 0} (old new : Device) (u : Unpacking) (a b : S) : 
   pub still : b ≡ a
   pub none : (p : List ℕ) (n : ℕ) → Stands u p n → p ≡ []
 
--- The unpacker stands on what it stood on and these octets, of which this is delivered.
+-- The unpacker has consumed these octets after those before, and the events `more` are delivered
+-- for them.
 abbrev pub StandsOn : Unpacking → Unpacking → List ℕ → List story.StoryEvent → Type 0
 StandsOn u v octets more = (p : List ℕ) (a : ℕ) → Stands u p a → Stands v (p ++ octets) (raised a (length octets)) × Delivers p octets more
 
--- Octets came, on which the unpacker stands now; `used` tells how many. A million interruptions at most came for each.
+-- Octets were consumed, after which the envelope is incomplete; `used` is their number. There were
+-- at most a million interruptions per octet.
 pub record HasFed {S : Type 0} (goes : S → List story.StoryEvent → S → Type 0) (old new : Device) (u v : Unpacking) (a b : S) (used : ℕ) : Type 0 where
   pub octets : List ℕ
   pub more : List story.StoryEvent
@@ -52,7 +55,7 @@ pub record HasFed {S : Type 0} (goes : S → List story.StoryEvent → S → Typ
   pub limits : limits_in v ≡ limits_in u
   pub stands : StandsOn u v octets more
 
--- Octets came, with which the unpacker is done; `used` tells how many.
+-- Octets were consumed, with which the envelope is complete; `used` is their number.
 pub record WasDone {S : Type 0} (goes : S → List story.StoryEvent → S → Type 0) (old new : Device) (u v : Unpacking) (a b : S) (used : ℕ) : Type 0 where
   pub octets : List ℕ
   pub more : List story.StoryEvent
@@ -61,22 +64,24 @@ pub record WasDone {S : Type 0} (goes : S → List story.StoryEvent → S → Ty
   pub counts : used ≡ raised 0 (length octets)
   pub done : (p : List ℕ) (n : ℕ) → Stands u p n → IsDoneWith v (p ++ octets) (raised n (length octets)) × Delivers p octets more
 
--- What one piece came to: octets came, some, and the unpacker takes more; or it is done with them; or there are none, and it is as it
--- was, on none. (What is next in line, the unpacker and the sink, before and after.)
+-- The result of feeding one chunk: a non-empty chunk was consumed, and the unpacker accepts more;
+-- or the envelope is complete; or no input remains, and the unpacker is unchanged and has consumed
+-- nothing. (The remaining input, the unpacker and the sink, before and after.)
 abbrev pub FedPiece : {S : Type 0} → (S → List story.StoryEvent → S → Type 0) → Device × Unpacking × S → Device × Unpacking × S
     → Fed → Type 0
 FedPiece goes (old, u, a) (new, v, b) (piece.More used) = (0 < used) × IsReady v × HasFed goes old new u v a b used
 FedPiece goes (old, u, a) (new, v, b) (piece.Done used) = WasDone goes old new u v a b used
 FedPiece goes (old, u, a) (new, v, b) piece.End = (v ≡ u) × WasEnded old new u a b
 
--- What feeding up to the end of an envelope came to: the unpacker is done with the octets that came, or there are none, and it is as it
--- was, on none. (What is next in line, the unpacker and the sink, before and after; and how many octets were used.)
+-- The result of feeding up to the end of an envelope: it is complete; or no input remains, and the
+-- unpacker is unchanged and has consumed nothing. (The remaining input, the unpacker and the sink,
+-- before and after; and the number of octets used.)
 abbrev pub FedEnvelope : {S : Type 0} → (S → List story.StoryEvent → S → Type 0) → Device × Unpacking × S → Device × Unpacking × S
     → ℕ → Bool → Type 0
 FedEnvelope goes (old, u, a) (new, v, b) used true = WasDone goes old new u v a b used
 FedEnvelope goes (old, u, a) (new, v, b) used false = (used ≡ 0) × ((v ≡ u) × WasEnded old new u a b)
 
--- Octet k of those that came is refused, and of the octets before it this is delivered.
+-- Octet k of the octets is rejected, and the events `more` are delivered for the octets before it.
 pub record IsRefusedOf (limits : Limits) (p : List ℕ) (a : ℕ) (octets : List ℕ) (more : List story.StoryEvent) (e : Refusal) : Type 0 where
   pub k : ℕ
   pub within : k < length octets
@@ -85,7 +90,7 @@ pub record IsRefusedOf (limits : Limits) (p : List ℕ) (a : ℕ) (octets : List
   pub adds : Delivers p (take k octets) more
   pub refuses : RefusesNext limits (p ++ take k octets) (slice_index octets k) fault
 
--- Octets came, of which one is refused, and the unpacker has refused it.
+-- Octets were consumed, one of which the unpacker has rejected.
 pub record WasRefused {S : Type 0} (goes : S → List story.StoryEvent → S → Type 0) (failures : S → ℕ) (old new : Device) (u v : Unpacking) (a b : S) (e : Refusal) : Type 0 where
   pub octets : List ℕ
   pub more : List story.StoryEvent
@@ -94,14 +99,15 @@ pub record WasRefused {S : Type 0} (goes : S → List story.StoryEvent → S →
   pub refused : v.refused ≡ Some e.octet
   pub refuses : (p : List ℕ) (n : ℕ) → Stands u p n → IsRefusedOf (limits_in u) p n octets more e
 
--- Octets that are open and not none, and that are told to be truncated.
+-- The octets after `p` are incomplete and non-empty, and the refusal reports that they are
+-- truncated.
 pub record IsTruncatedIn (limits : Limits) (p : List ℕ) (a : ℕ) (octets : List ℕ) (more : List story.StoryEvent) (e : Refusal) : Type 0 where
   pub is_open : IsOpen limits (p ++ octets)
   pub some : p ++ octets ≡ [] → ⊥
   pub adds : Delivers p octets more
   pub truncated : IsTruncatedAt (p ++ octets) (raised a (length octets)) e
 
--- Octets came, on which the unpacker stands now; nothing is next in line, and they are truncated.
+-- Octets were consumed, no input remains, and the envelope is truncated.
 pub record WasTruncated {S : Type 0} (goes : S → List story.StoryEvent → S → Type 0) (failures : S → ℕ) (old new : Device) (u v : Unpacking) (a b : S) (e : Refusal) : Type 0 where
   pub octets : List ℕ
   pub more : List story.StoryEvent
@@ -112,8 +118,8 @@ pub record WasTruncated {S : Type 0} (goes : S → List story.StoryEvent → S �
   pub stands : StandsOn u v octets more
   pub truncated : (p : List ℕ) (n : ℕ) → Stands u p n → IsTruncatedIn (limits_in u) p n octets more e
 
--- Octets came, on which the unpacker stands now, and then this fault; the number is what the unpacker counts. A million interruptions
--- at most came for each octet, and a million more.
+-- Octets were consumed, and then the reader failed with this error. `kept` is the unpacker's count
+-- of octets. There were at most a million interruptions per octet, and a million more.
 pub record WasMissed {S : Type 0} (goes : S → List story.StoryEvent → S → Type 0) (failures : S → ℕ) (old new : Device) (u v : Unpacking) (a b : S) (kept : ℕ) (fault : IoFault) : Type 0 where
   pub octets : List ℕ
   pub more : List story.StoryEvent
@@ -125,28 +131,32 @@ pub record WasMissed {S : Type 0} (goes : S → List story.StoryEvent → S → 
   pub limits : limits_in v ≡ limits_in u
   pub stands : StandsOn u v octets more
 
--- why an intake gives nothing, and the octet that it keeps for later calls (of the unpacker before and after)
+-- Why an intake returns nothing, and the octet that it stores for later calls. (The remaining
+-- input, the unpacker and the sink, before and after.)
 abbrev pub Faults : {S : Type 0} → (S → List story.StoryEvent → S → Type 0) → (S → ℕ) → Device → Device → Unpacking → Unpacking → S → S → ℕ → IntakeFault → Type 0
 Faults goes failures old new u v a b kept (Refused e) = (kept ≡ e.octet) × (WasRefused goes failures old new u v a b e ⊎ WasTruncated goes failures old new u v a b e)
 Faults goes failures old new u v a b kept Read = WasMissed goes failures old new u v a b kept io.Failed
 Faults goes failures old new u v a b kept Interrupted = WasMissed goes failures old new u v a b kept io.Interrupted
 
--- The intake keeps an octet for later calls, and this is why it gives nothing. (The intake, the unpacker and the sink, before and after.)
+-- The intake returns nothing for this reason, and stores an octet for later calls. (The intake, the
+-- unpacker and the sink, before and after.)
 abbrev pub GivesNothing : {R S : Type 0} → (S → List story.StoryEvent → S → Type 0) → (S → ℕ) → (R → Device) → Intake R × Unpacking × S
     → Intake R × Unpacking × S → IntakeFault → Type 0
 GivesNothing goes failures state (old, u, a) (new, v, b) fault = (kept : ℕ) × (new.failed ≡ Some kept)
     × Faults goes failures (in_line state old) (in_line state new) u v a b kept fault
 
--- Nothing is read where octets are held.
+-- Nothing is read if octets are buffered.
 pub record ReadsWhereEmpty {R S : Type 0} (old new : Intake R) (u v : Unpacking) (a b : S) (result : Result Fed IntakeFault) : Type 0 where
-  -- Where octets were held, the reader is as before.
+  -- If octets were buffered, the reader is unchanged.
   pub held : 0 < length old.block → new.reader ≡ old.reader
-  -- There is an end only where none were held.
+  -- The end is reported only if no octets were buffered.
   pub ended : IfOk result (λ fed. fed ≡ piece.End → old.block ≡ [])
-  -- The reader has a fault only where none were held, and then nothing was fed: unpacker and sink are as before.
+  -- An error of the reader occurs only if no octets were buffered. Then nothing was fed: unpacker
+  -- and sink are unchanged.
   pub unread : IfErr result (λ fault. ((e : Refusal) → fault ≢ Refused e) → (old.block ≡ []) × LeftAs u a v b)
 
--- Octets came, with which the envelope ends: after those on which the unpacker stood, they are one with this value; `used` tells how many.
+-- Octets were consumed, with which the envelope is complete and has this value; `used` is their
+-- number.
 pub record WasGiven {S : Type 0} (goes : S → List story.StoryEvent → S → Type 0) (old new : Device) (u : Unpacking) (a b : S) (used : ℕ) (got : Unpacked) : Type 0 where
   pub octets : List ℕ
   pub more : List story.StoryEvent
@@ -155,7 +165,8 @@ pub record WasGiven {S : Type 0} (goes : S → List story.StoryEvent → S → T
   pub envelope : (p : List ℕ) (n : ℕ) → Stands u p n
       → (value : Value) × IsEnvelopeWithin (limits_in u) (p ++ octets) value × HasParts got value × Delivers p octets more
 
--- what an intake gives (what is next in line and the sink, before and after; before, the unpacker; and how many octets it tells)
+-- What an intake returns. (The remaining input and the sink, before and after; the unpacker before;
+-- and the number of octets used.)
 abbrev pub Gives : {S : Type 0} → (S → List story.StoryEvent → S → Type 0) → Device × Unpacking × S → Device × S → ℕ → Option Unpacked
     → Type 0
 Gives goes (old, u, a) (new, b) used (Some got) = WasGiven goes old new u a b used got

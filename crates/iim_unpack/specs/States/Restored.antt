@@ -1,4 +1,4 @@
--- What a ticket is restored to.
+-- The unpacker restored from a ticket.
 use Rattle.std.specs.Prelude.{◌≡◌, ℕ, ◌⊎◌, List, ◌+◌, ◌*◌, ◌≤◌, length, take}
 use Rattle.iim_fields.specs.declared.limits.Limits.{Limits}
 use Rattle.iim_places.specs.{Format.Admitted.Value, States.Possible.AreHeadsWithin, Format.Streams.IsEnvelopeWithin}
@@ -6,9 +6,10 @@ use Rattle.iim_places.specs.{Format.Open.IsOpen, States.Restored.IsTicketAt}
 use Rattle.iim_places.specs.Format.Tickets.{Place, IsPlaceOf, IsTicketOf}
 use Rattle.iim_unpack.specs.States.Unpacking.{Unpacking, Stands, IsDoneWith, limits_in}
 
--- The octets are the ticket of a possible place, whose heads are within the limits. The unpacker reads under these: it stands on all
--- octets that lead to the place and are open, it is done with all that are an envelope, and there are some of the one or the other. It
--- counts `at` octets.
+-- The octets are the ticket of a possible position whose heads are within the limits. The unpacker
+-- has these limits. It is in the state after all incomplete input that reaches the position, and
+-- after every envelope that reaches it, and there is at least one of these. Its count of octets is
+-- `at`.
 pub record IsRestored (limits : Limits) (ticket : List ℕ) (at : ℕ) (u : Unpacking) : Type 0 where
   pub place : Place
   pub is_ticket : IsTicketAt ticket place
@@ -18,7 +19,7 @@ pub record IsRestored (limits : Limits) (ticket : List ℕ) (at : ℕ) (u : Unpa
   pub done : (p : List ℕ) (v : Value) → IsPlaceOf p place → IsEnvelopeWithin limits p v → IsDoneWith u p at
   pub some : (p : List ℕ) × IsPlaceOf p place × (Stands u p at ⊎ IsDoneWith u p at)
 
--- The ticket of the unpacker has so many octets, and stands at the front of the buffer, where that has room for it.
+-- The ticket of the unpacker has `count` octets, and is at the start of the buffer if it fits.
 pub record HasTicketIn (u : Unpacking) (out : List ℕ) (count : ℕ) : Type 0 where
   pub ticket : List ℕ
   pub is_ticket : (p : List ℕ) (a : ℕ) → Stands u p a ⊎ IsDoneWith u p a → IsTicketOf p ticket

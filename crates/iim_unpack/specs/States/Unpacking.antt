@@ -1,4 +1,4 @@
--- Where an unpacker and its parts stand, what it holds, and what it answers.
+-- The states of an unpacker and of its parts, what it stores, and what it returns.
 use Rattle.std.specs.Prelude.{◌≡◌, ℕ, ◌<◌, ◌≤◌, ◌==◌, ◌&&◌, if◌then◌else◌, Bool, List, [], length, is_none, true, false, ◌++◌, take, slice_index, Option, None, ◌+◌, Some}
 use Rattle.iim_dataset.specs.Format.Octets.{Octets, Rose}
 use Rattle.iim_dataset.specs.Format.Datasets.{Dataset, of_record, Begun, InTag, InData, count_octets}
@@ -26,7 +26,7 @@ pub use Rattle.iim_unpack.specs.declared.unpacker.Progress.TheVariants.{More, Do
 use Rattle.iim_places.specs.declared.refusal.Layer.TheVariants as layers
 use Rattle.iim_dataset.specs.declared.place.DatasetPlace.TheVariants as tags
 
--- after these datasets
+-- The parts have consumed exactly these datasets.
 pub record AreAfter (parts : Parts) (ds : List Dataset) : Type 0 where
   pub fields : records.StandsAfter parts.fields ds
   pub object : objects.StandsAt parts.object (place_after_datasets ds)
@@ -34,7 +34,7 @@ pub record AreAfter (parts : Parts) (ds : List Dataset) : Type 0 where
   pub message : wire.StandsAt parts.message (object_of ds) (text_so_far (object_of ds))
   pub ended : section_after ds ≡ 9 → wire.IsWhole parts.message
 
--- in one of this head, with these data so far
+-- The parts have consumed these datasets, then this head and these data.
 pub record Within (parts : Parts) (ds : List Dataset) (h : Head) (taken : List ℕ) : Type 0 where
   pub octets : Octets taken
   pub fields : records.StandsIn parts.fields ds h (if h.rec == 8 then [] else taken)
@@ -48,7 +48,7 @@ abbrev pub PartsStandAt : Parts → List Dataset → Begun → Type 0
 PartsStandAt parts ds (InTag held) = AreAfter parts ds
 PartsStandAt parts ds (InData h taken) = Within parts ds h taken
 
--- The events have led the parts here, with this text among them.
+-- The parts have consumed the events, and `text` is the text in them.
 pub record AreLed (parts : Parts) (events : List DatasetEvent) (text : List ℕ) : Type 0 where
   pub whole : List Dataset
   pub begun : Begun
@@ -56,16 +56,16 @@ pub record AreLed (parts : Parts) (events : List DatasetEvent) (text : List ℕ)
   pub stands : PartsStandAt parts whole begun
   pub is_text : text ≡ text_so_far (object_so_far whole begun)
 
--- The last dataset has ended: record 9 is the present one, and no dataset is begun.
+-- The last dataset has ended: the current record is 9, and no dataset is partial.
 unfoldable pub has_ended : Parts → Bool
 has_ended parts = (records.section_of parts.fields == 9) && is_none (records.begun_head_of parts.fields)
 
--- the sink's count of failures rose where the sink refused, and nowhere else
+-- The sink's count of failures increased if and only if the sink is the cause.
 abbrev pub CountsFor : Cause → ℕ → ℕ → Type 0
 CountsFor (Message Sink) old new = Rose old new
 CountsFor _ old new = new ≡ old
 
--- ---- Where an unpacker stands, and what it answers.
+-- ---- The state of an unpacker, and what it returns.
 
 pub record Unpacking : Type 0 where
   pub reader : Reader
@@ -77,18 +77,19 @@ pub record Unpacking : Type 0 where
 abbrev pub limits_in : Unpacking → Limits
 limits_in u = limits_of u.parts.fields
 
--- what its header has room for
+-- the capacity of its header
 abbrev pub room_in : Unpacking → Room
 room_in u = room_of u.parts.fields
 
--- The octets led the reader of tags and the parts here.
+-- The reader of tags and the parts have consumed exactly these octets.
 pub record IsLed (u : Unpacking) (p : List ℕ) : Type 0 where
   pub events : List DatasetEvent
   pub text : List ℕ
   pub leads : LeadsTo count_octets p events u.reader.place
   pub led : AreLed u.parts events text
 
--- It stands on these octets, and counts `a` octets.
+-- The unpacker has consumed exactly these octets, which are incomplete, and its count of octets is
+-- `a`.
 pub record Stands (u : Unpacking) (p : List ℕ) (a : ℕ) : Type 0 where
   pub taking : u.refused ≡ None
   pub unended : has_ended u.parts ≡ false
@@ -97,7 +98,8 @@ pub record Stands (u : Unpacking) (p : List ℕ) (a : ℕ) : Type 0 where
   pub is_led : IsLed u p
   pub is_open : IsOpen (limits_in u) p
 
--- It is done with these octets.
+-- The unpacker has consumed exactly these octets, which are an envelope, and its count of octets is
+-- `a`.
 pub record IsDoneWith (u : Unpacking) (p : List ℕ) (a : ℕ) : Type 0 where
   pub taking : u.refused ≡ None
   pub ended : has_ended u.parts ≡ true
@@ -111,12 +113,12 @@ pub record IsDoneWith (u : Unpacking) (p : List ℕ) (a : ℕ) : Type 0 where
 abbrev pub IsDone : Unpacking → Type 0
 IsDone u = (u.refused ≡ None) × (has_ended u.parts ≡ true)
 
--- What is answered, of octets on which it stood.
+-- The progress that is returned for a chunk, after the octets consumed before.
 abbrev pub Progresses : Unpacking → List ℕ → ℕ → List ℕ → List story.StoryEvent → Progress → Type 0
 Progresses v p a piece more More = Stands v (p ++ piece) (raised a (length piece)) × Delivers p piece more
 Progresses v p a piece more (Done used) = (used ≤ length piece) × IsDoneWith v (p ++ take used piece) (raised a used) × Delivers p (take used piece) more
 
--- Octet k of the piece is refused, and of the octets before it this is delivered.
+-- Octet k of the chunk is rejected, and the events `more` are delivered for the octets before it.
 pub record IsRefusedIn (limits : Limits) (p : List ℕ) (a : ℕ) (piece : List ℕ) (more : List story.StoryEvent) (e : Refusal) : Type 0 where
   pub k : ℕ
   pub within : k < length piece
@@ -127,25 +129,25 @@ pub record IsRefusedIn (limits : Limits) (p : List ℕ) (a : ℕ) (piece : List 
   pub adds : (text : List ℕ) → IsTextOf p text → IsTextOf (p ++ take k piece) (text ++ added)
   pub refuses : RefusesNext limits (p ++ take k piece) (slice_index piece k) fault
 
--- the answer after a refusal
+-- the refusal of a call after a refusal
 abbrev pub failed_at : ℕ → Refusal
 failed_at octet = record { layer = layers.Outside; rec = 0; set = 0; octet = octet; cause = Failed }
 
--- Unpacker and sink are left as they were.
+-- Unpacker and sink are unchanged.
 abbrev pub LeftAs : {S : Type 0} → Unpacking → S → Unpacking → S → Type 0
 LeftAs old a new b = (new ≡ old) × (b ≡ a)
 
--- the octets of a begun tag
+-- the number of octets of a partial tag
 abbrev pub tag_held : DatasetPlace → ℕ
 tag_held (tags.Tag held) = length held.items
 tag_held (tags.Inside head left) = 0
 
--- the CR that no LF has followed yet
+-- the number of CR that no LF has followed yet
 abbrev pub returns_held : Place → ℕ
 returns_held (Text head (Some held)) = held
 returns_held _ = 0
 
--- what is held of a message: the octets of the header and the trailer so far, and CR
+-- the number of stored octets of a message: those of the header and the trailer so far, and CR
 abbrev pub message_held : Option Place → ℕ
 message_held None = 0
 message_held (Some place) =
@@ -153,15 +155,16 @@ message_held (Some place) =
     length m.source.items + length m.number.items + length m.priority.items + length m.category.items + length m.words.items + length m.info.items
     + length m.trailer.items + returns_held place
 
--- one for a begun dataset of record 1 or 2
+-- one for a partial dataset of record 1 or 2
 abbrev pub begun_entries : Option Head → ℕ
 begun_entries None = 0
 begun_entries (Some h) = if is_kept h.rec then 1 else 0
 
--- It holds 256 octets at most beside those that its limits allow, and no more entries than they allow.
+-- The unpacker stores at most 256 octets more than its limits allow, and no more entries than they
+-- allow.
 pub record HoldsFew (u : Unpacking) : Type 0 where
-  -- The octets that it holds: the data of records 1 and 2, and those so far of a begun value of record 1, 2, 7 or 9; a begun tag; the
-  -- texts of the message; and CR.
+  -- The octets that it stores: the data of records 1 and 2, and those received of a partial value
+  -- of record 1, 2, 7 or 9; a partial tag; the texts of the message; and CR.
   pub octets : length (joined u.parts.fields.kept) + length u.parts.fields.taken + (tag_held u.reader.place + message_held u.parts.message)
       ≤ (limits_in u).octets + 256
   -- Its entries: the heads of records 1 and 2.

@@ -1,4 +1,4 @@
-//! Octets that were read and not used yet.
+//! The buffer of an intake.
 
 ghost use Rattle.std.specs.Prelude.{◌≡◌, ◌≤◌, [], ℕ, length, drop, IfOk, IfErr, OnErr};
 ghost use Rattle.std.specs.Io.KnownBytes.{IsAtEnd};
@@ -7,7 +7,7 @@ ghost use Rattle.iim_dataset.specs.States.Devices.{Missed, HasGiven, WithinInter
 use iim_dataset::{BLOCK, IoFault, Source, take};
 use std::marker::Model;
 
-/// Octets that were read and not used yet, in room for a read.
+/// A buffer for one read: the octets that were read and not consumed yet.
 #[derive(Drop)]
 pub(crate) struct Block {
     octets: [u8; BLOCK],
@@ -26,7 +26,7 @@ impl Model for Block {
 }
 
 impl Block {
-    /// A block without octets.
+    /// Creates an empty block.
     pub(crate) fn new() -> Block
         ensures { result ≡ [] }
     {
@@ -37,14 +37,14 @@ impl Block {
         }
     }
 
-    /// The octets.
+    /// Returns the buffered octets.
     pub(crate) fn held(&self) -> &[u8]
         ensures { result.now ≡ self.now }
     {
         &self.octets[self.from..self.to]
     }
 
-    /// Continues after the first `used` of the octets.
+    /// Discards the first `used` buffered octets.
     pub(crate) fn pass(&mut self, used: usize)
         requires { used ≤ length self.old }
         ensures { self.new ≡ drop used self.old }
@@ -52,7 +52,8 @@ impl Block {
         self.from += used;
     }
 
-    /// Reads once, past interruptions, in place of the octets; answers how many came: none only at the end.
+    /// Reads once, retrying after interruptions, and replaces the buffered octets. Returns how many
+    /// octets were read: 0 only at the end of the source.
     pub(crate) fn fill<R: Source>(&mut self, reader: &mut R) -> Result<usize, IoFault>
         ensures given { IfOk result (λ count. HasGiven (R.state reader.old) (R.state reader.new) self.new) }
         ensures length { IfOk result (λ count. length self.new ≡ count) }

@@ -1,4 +1,4 @@
-//! The way of an object's octets to the message, and of its text to the caller's sink.
+//! Forwards the octets of an object to the message, and its text to the caller's sink.
 
 ghost use Rattle.std.specs.Prelude.{◌≡◌, ◌<◌, length, map, take, slice_index, Some, IsSome, IfErr, OnOk, refl};
 ghost use Rattle.std.proofs.Common.{◌∙◌};
@@ -12,7 +12,8 @@ use iim_places::internals::{TokenFault, message_on, size_on};
 use wire_message::{MessageCause, MessageFault, MessageReader};
 use wire_story::StorySink;
 
-/// A sink of objects: the octets go to a reader of messages, and what is delivered of the text to a sink of stories.
+/// A sink of objects that passes the octets to a reader of messages, and the text in them to a sink
+/// of stories. After a failure it stores the cause.
 pub(crate) struct ToMessage<'m, 's, S> {
     message: &'m mut MessageReader,
     sink: &'s mut S,
@@ -68,12 +69,12 @@ impl<'m, 's, S: StorySink> ObjectSink for ToMessage<'m, 's, S> {
     }
 }
 
-/// The end of a loan: what it is used on stays as it is.
+/// Ends a mutable borrow, for the prover: the value is unchanged.
 pub(crate) fn give_back<T>(lent: &mut T)
     ensures { lent.new ≡ lent.old }
 {}
 
-/// Hands octets to the object, whose sink's references stay what they are.
+/// Passes octets to the object reader. The references in the sink still point to the same places.
 fn run_object<'m, 's, S: StorySink>(
     object: &mut ObjectReader,
     run: &[u8],
@@ -92,7 +93,8 @@ fn run_object<'m, 's, S: StorySink>(
     object.run(run, to)
 }
 
-/// Hands the end of the object to the object reader.
+/// Passes the head of 8:10 or 9:10 to the object reader. The references in the sink still point to
+/// the same places.
 fn end_object<'m, 's, S: StorySink>(
     object: &mut ObjectReader,
     head: Head,
@@ -113,7 +115,7 @@ fn end_object<'m, 's, S: StorySink>(
     object.head(head.rec, head.set, head.count, to)
 }
 
-/// Takes octets of the object.
+/// Consumes octets of the object.
 pub(crate) fn pass_octets<S: StorySink>(
     object: &mut ObjectReader,
     message: &mut MessageReader,
@@ -156,7 +158,7 @@ pub(crate) fn pass_octets<S: StorySink>(
     }
 }
 
-/// Takes the head of a subfile, or of 9:10: the end of the object.
+/// Consumes the head of a subfile, or of 9:10, which ends the object.
 pub(crate) fn pass_head<S: StorySink>(
     object: &mut ObjectReader,
     message: &mut MessageReader,

@@ -1,4 +1,4 @@
-//! The way of datasets to the parts of an unpacker.
+//! Routes datasets to the parts of an unpacker.
 
 ghost use Rattle.std.specs.Prelude.{refl};
 ghost use Rattle.std.proofs.Common.{◌∙◌};
@@ -9,14 +9,14 @@ use iim_dataset::{DatasetSink, Head, Step, Stop};
 use iim_places::internals::TokenFault;
 use wire_story::StorySink;
 
-/// A sink of datasets: they go to the parts of an unpacker, and what is delivered of the text to a sink of stories. A refusal
-/// is kept.
+/// A sink of datasets that passes them to the parts of an unpacker, and the text in them to a sink
+/// of stories. After a failure it stores the error.
 pub(crate) struct Router<'p, 's, S> {
-    /// Where the datasets go.
+    /// The destination of the datasets.
     pub parts: &'p mut Parts,
-    /// Where the text goes.
+    /// The destination of the text.
     pub sink: &'s mut S,
-    /// What was refused, or None.
+    /// The error of the rejected token, or `None`.
     pub refused: Option<TokenFault>,
 }
 

@@ -1,4 +1,4 @@
-//! The causes of an unpacker that gave no ticket.
+//! Why an unpacker returned no ticket.
 
 ghost use Rattle.std.specs.Prelude.{◌≡◌};
 ghost use Rattle.iim_unpack.specs.Format.Faults.{save_number, save_name};

@@ -1,21 +1,21 @@
-//! Where the octets of a ticket go: memory that grows, or the front of a buffer.
+//! Output of a ticket: to memory that grows, or to a caller's buffer.
 
 ghost use Rattle.std.specs.Prelude.{[], ◌++◌, List, ℕ};
 
-/// What octets are written to, one slice after another. A call always returns: where there is no memory or no room for the octets, what
-/// is written to keeps that in mind.
+/// An output for octets, slice by slice. Every call returns: if the allocation fails or the buffer
+/// is full, the output records that.
 pub(crate) trait TicketOut {
-    /// From one value to another by these octets.
+    /// The octets take the output from the first state to the second.
     ghost puts: { Self → List ℕ → Self → Type 0 };
 
-    /// Writes octets after those that were written.
+    /// Appends octets.
     fn put(&mut self, more: &[u8])
         ensures { puts self.old more.now self.new };
 
-    /// No octets lead from each value to itself.
+    /// Appending nothing changes nothing.
     ghost nothing: { (out : Self) → puts out [] out };
 
-    /// Octets and then others lead where all of them joined lead.
+    /// Appending two slices in turn equals appending their concatenation.
     ghost joined: { (a b c : Self) (xs ys : List ℕ) → puts a xs b → puts b ys c → puts a (xs ++ ys) c };
 }
 
@@ -24,7 +24,7 @@ pub(crate) trait TicketOut {
 pub(crate) struct Grown {
     /// The octets.
     pub ticket: Vec<u8>,
-    /// Whether memory was refused: then some octets are missing.
+    /// Whether an allocation failed. Then some octets are missing.
     pub is_refused: bool,
 }
 
@@ -47,11 +47,11 @@ impl TicketOut for Grown {
     }
 }
 
-/// The front of a buffer: octets are written as long as they have room, and all of them are counted.
+/// The start of a buffer. Octets are written while they fit, and all of them are counted.
 pub(crate) struct Front<'o> {
     /// The buffer.
     pub out: &'o mut [u8],
-    /// How many octets came; the greatest number of 64 bits stands for more.
+    /// How many octets were appended, saturated at the greatest number of 64 bits.
     pub count: usize,
 }
 

@@ -1,4 +1,4 @@
-//! An unpacker, made again from a ticket.
+//! Restores an unpacker from a ticket.
 
 ghost use Rattle.std.specs.Prelude.{IfSome, IfNone, IfOk, IfErr, ◌≡◌, ℕ, List};
 ghost use Rattle.iim_fields.specs.Format.Records.{IsWithin};
@@ -18,8 +18,8 @@ use iim_places::laws::{lower_laws, place_laws};
 use iim_places::{TicketFault, TicketParts, split_ticket};
 use std::alloc::{AllocError, Global};
 
-/// The unpacker that these readers and the kept datasets of the ticket make, with memory for just what the limits allow. An error
-/// says that memory was refused.
+/// Returns the unpacker with these readers and the datasets stored in the ticket. Allocates exactly
+/// the memory that the limits require; an error means that the allocation failed.
 fn unpacker_at(
     alloc: Global,
     limits: Limits,
@@ -54,16 +54,20 @@ fn unpacker_at(
 }
 
 impl Unpacker {
-    /// An unpacker at the place that a ticket tells, which has taken `at` octets. It continues as the saved one would under the
-    /// same limits, if its `octets()` are handed in as `at`: the same answers to all pieces, and the same lines. It has memory
-    /// for just what the limits allow, and no later call takes any.
+    /// Restores an unpacker at the position of a ticket, with `at` as its count of consumed octets.
     ///
-    /// A ticket is of version 1 or 2. One of version 1 tells a place where an envelope can be by the sizes that there were when that
-    /// version was made; the unpacker continues by those that there are.
+    /// With the same limits, and `octets()` of the saved unpacker as `at`, it continues as that
+    /// unpacker would: it returns the same results for all chunks, and emits the same lines. It
+    /// allocates exactly the memory that the limits require, and no later call allocates.
     ///
-    /// Refused are, in this order: octets that begin with no name of a ticket (`TicketForm`); another version (`TicketVersion`); what else has
-    /// not the form of a ticket (`TicketForm`); a place where no envelope can be (`Impossible`); one that passes a limit (`HeaderFull`,
-    /// else `TooManyFields`); and memory (`OutOfMemory`). Before that no memory is asked for.
+    /// A ticket has version 1 or 2. The position of a ticket of version 1 must be possible by the
+    /// sizes of that version; the unpacker continues by the present sizes.
+    ///
+    /// **Errors**, in this order: `TicketForm` if the octets do not begin with the name of a
+    /// ticket; `TicketVersion` for another version; `TicketForm` if the rest does not have the form
+    /// of a ticket; `Impossible` if no envelope reaches the position; `HeaderFull`, then
+    /// `TooManyFields`, if it exceeds a limit; `OutOfMemory` if the allocation fails. Nothing is
+    /// allocated before that last check.
     pub fn restore(
         alloc: Global,
         limits: Limits,

@@ -1,4 +1,4 @@
-//! The ticket of an unpacker: the place that it stands on, as octets.
+//! Writes the ticket of an unpacker: the encoding of its position.
 
 ghost use Rattle.std.specs.Prelude.{◌≡◌, ◌^◌, ◌-◌, ◌<◌, ℕ, List, length, sum, Some, IsSome, IfSome};
 ghost use Rattle.std.specs.List.{flat_map};
@@ -21,21 +21,21 @@ use std::alloc::Global;
 use thiserror::Error;
 use wire_message::MessagePlace;
 
-/// Why an unpacker gave no ticket.
+/// Why an unpacker returned no ticket.
 #[derive(Clone, Copy, Debug, PartialEq, Eq, Error)]
 pub enum SaveFault {
-    /// Something was refused before (61).
+    /// An earlier call failed (61).
     #[error("the unpacker has refused its octets")]
     Failed,
-    /// Memory was refused (70).
+    /// Memory allocation failed (70).
     #[error("memory was refused")]
     OutOfMemory,
 }
 
-/// What each ticket begins with: its name, and the version.
+/// What each ticket begins with: its name and the version.
 const NAME: [u8; 5] = [b'I', b'I', b'M', b'T', PRESENT_VERSION];
 
-/// Adds a number in four octets, high octet first: none of these needs more.
+/// Appends a number in four octets, high octet first. The numbers passed fit into four octets.
 fn push_number<T: TicketOut>(ticket: &mut T, number: u64)
     ensures { T.puts ticket.old (four number) ticket.new }
 {
@@ -43,14 +43,14 @@ fn push_number<T: TicketOut>(ticket: &mut T, number: u64)
     ticket.put(&octets[4..]);
 }
 
-/// Adds a number in eight octets, high octet first.
+/// Appends a number in eight octets, high octet first.
 fn push_wide<T: TicketOut>(ticket: &mut T, number: u64)
     ensures { T.puts ticket.old (wide present_version number) ticket.new }
 {
     ticket.put(&number.to_be_bytes());
 }
 
-/// Adds a text after its length in one octet.
+/// Appends the length of a text in one octet, and the text.
 fn push_text<T: TicketOut>(ticket: &mut T, text: &[u8])
     requires { length text.now < 256 }
     ensures { T.puts ticket.old (text_octets text.now) ticket.new }
@@ -59,7 +59,7 @@ fn push_text<T: TicketOut>(ticket: &mut T, text: &[u8])
     ticket.put(text);
 }
 
-/// Adds the octets of a begun tag.
+/// Appends the octets of a partial tag.
 fn push_tag<T: TicketOut>(ticket: &mut T, held: &[u8])
     requires { length held.now < 256 }
     ensures { T.puts ticket.old (phase_octets present_version (TagBegun held.now)) ticket.new }
@@ -68,7 +68,8 @@ fn push_tag<T: TicketOut>(ticket: &mut T, held: &[u8])
     push_text(ticket, held);
 }
 
-/// Adds begun data: how many octets are to come, and those that came.
+/// Appends partial data: the dataset's number, the count, how many octets remain, and those
+/// received.
 fn push_data<T: TicketOut>(ticket: &mut T, head: Head, left: u64, taken: &[u8])
     ensures { T.puts ticket.old (phase_octets present_version (DataBegun head.set head.count left taken.now))
         ticket.new }
@@ -79,7 +80,7 @@ fn push_data<T: TicketOut>(ticket: &mut T, head: Head, left: u64, taken: &[u8])
     ticket.put(taken);
 }
 
-/// Adds what is begun.
+/// Appends the partial dataset.
 fn push_phase<T: TicketOut>(ticket: &mut T, reader: &HeadReader, parts: &Parts)
     requires reader { TakesCalls reader.now }
     requires fields { IsFailed parts.now.fields → ⊥ }
@@ -98,7 +99,7 @@ fn push_phase<T: TicketOut>(ticket: &mut T, reader: &HeadReader, parts: &Parts)
     }
 }
 
-/// Adds a dataset.
+/// Appends a dataset.
 fn push_field<T: TicketOut>(ticket: &mut T, rec: u8, set: u8, octets: &[u8])
     ensures { T.puts ticket.old (field_octets (record { rec = rec; set = set; octets = octets.now })) ticket.new }
 {
@@ -107,7 +108,7 @@ fn push_field<T: TicketOut>(ticket: &mut T, rec: u8, set: u8, octets: &[u8])
     ticket.put(octets);
 }
 
-/// How many datasets are kept.
+/// Returns how many datasets are stored.
 fn kept_count(fields: &Fields) -> usize
     requires { length fields.now.kept < 2 ^ 32 }
     ensures { result ≡ length fields.now.kept }
@@ -115,7 +116,7 @@ fn kept_count(fields: &Fields) -> usize
     fields.kept().count()
 }
 
-/// Adds how many datasets are kept, and then each of them.
+/// Appends the number of stored datasets, and each of them.
 fn push_fields<T: TicketOut>(ticket: &mut T, fields: &Fields)
     requires { length fields.now.kept < 2 ^ 32 }
     ensures { T.puts ticket.old (fields_octets fields.now.kept) ticket.new }
@@ -127,7 +128,7 @@ fn push_fields<T: TicketOut>(ticket: &mut T, fields: &Fields)
     }
 }
 
-/// Adds a number that may be absent.
+/// Appends an optional number.
 fn push_option<T: TicketOut>(ticket: &mut T, number: Option<u64>)
     ensures { T.puts ticket.old (number_octets present_version number) ticket.new }
 {
@@ -140,7 +141,7 @@ fn push_option<T: TicketOut>(ticket: &mut T, number: Option<u64>)
     }
 }
 
-/// Adds numbers, each of which may be absent.
+/// Appends a list of optional numbers.
 fn push_options<T: TicketOut>(ticket: &mut T, numbers: &[Option<u64>])
     ensures { T.puts ticket.old (flat_map (number_octets present_version) numbers.now) ticket.new }
 {
@@ -149,7 +150,7 @@ fn push_options<T: TicketOut>(ticket: &mut T, numbers: &[Option<u64>])
     }
 }
 
-/// How many octets of the object have come.
+/// Returns how many octets of the object were received.
 fn object_octets(reader: &HeadReader, object: &ObjectReader) -> u64
     requires reader { TakesCalls reader.now }
     requires object { IsSome object.now }
@@ -164,7 +165,7 @@ fn object_octets(reader: &HeadReader, object: &ObjectReader) -> u64
     }
 }
 
-/// Adds the texts of a message so far.
+/// Appends the texts of a message so far.
 fn push_texts<T: TicketOut>(ticket: &mut T, place: &MessagePlace)
     ensures { T.puts ticket.old (texts_octets place.now) ticket.new }
 {
@@ -177,7 +178,7 @@ fn push_texts<T: TicketOut>(ticket: &mut T, place: &MessagePlace)
     push_text(ticket, place.trailer.as_slice());
 }
 
-/// Adds the place of a message.
+/// Appends the position in a message.
 fn push_message<T: TicketOut>(ticket: &mut T, place: &MessagePlace)
     ensures { T.puts ticket.old (message_octets place.now) ticket.new }
 {
@@ -185,7 +186,7 @@ fn push_message<T: TicketOut>(ticket: &mut T, place: &MessagePlace)
     push_texts(ticket, place);
 }
 
-/// Writes the ticket of the state of these readers.
+/// Writes the ticket for the state of these readers.
 fn write_ticket<T: TicketOut>(ticket: &mut T, reader: &HeadReader, parts: &Parts)
     requires reader { TakesCalls reader.now }
     requires fields { IsFailed parts.now.fields → ⊥ }
@@ -204,7 +205,8 @@ fn write_ticket<T: TicketOut>(ticket: &mut T, reader: &HeadReader, parts: &Parts
     push_message(ticket, &parts.message.place());
 }
 
-/// Writes the ticket to the front of a buffer of which nothing is used, whose reference stays what it is.
+/// Writes the ticket to the start of an unused buffer. The reference in `front` still points to the
+/// same buffer.
 fn write_front(front: &mut Front<'_>, reader: &HeadReader, parts: &Parts)
     requires unused { front.old.count ≡ 0 }
     requires reader { TakesCalls reader.now }
@@ -219,7 +221,7 @@ fn write_front(front: &mut Front<'_>, reader: &HeadReader, parts: &Parts)
     write_ticket(front, reader, parts);
 }
 
-/// Returns the ticket of the state of these readers, or None if memory was refused.
+/// Returns the ticket for the state of these readers, or `None` if the allocation fails.
 pub(crate) fn spell_ticket(alloc: Global, reader: &HeadReader, parts: &Parts) -> Option<Vec<u8>>
     requires reader { TakesCalls reader.now }
     requires fields { IsFailed parts.now.fields → ⊥ }
@@ -240,13 +242,13 @@ pub(crate) fn spell_ticket(alloc: Global, reader: &HeadReader, parts: &Parts) ->
     Some(ticket)
 }
 
-/// The end of a loan: what it is used on stays as it is.
+/// Ends a mutable borrow, for the prover: the buffer is unchanged.
 fn give_back(lent: &mut [u8])
     ensures { lent.new ≡ lent.old }
 {}
 
-/// Writes the same ticket to the front of a buffer, exactly if that has room for it, and returns how many octets the ticket has. It takes
-/// no memory.
+/// Writes the ticket to the start of a buffer if it fits, and returns its length in octets in any
+/// case. Allocates nothing.
 pub(crate) fn spell_at(out: &mut [u8], reader: &HeadReader, parts: &Parts) -> usize
     requires reader { TakesCalls reader.now }
     requires fields { IsFailed parts.now.fields → ⊥ }

@@ -4,7 +4,7 @@ use Rattle.iim_unpack.specs.declared.parts.Parts.{Parts}
 use Rattle.iim_unpack.proofs.Closing.{answered}
 use Rattle.iim_unpack.proofs.parts.Parts.whole.Goals as goal
 
--- told by its number, set and count
+-- by the dataset's number and count
 of_head : (old new : Parts) (h : Head) (xs : List ℕ) (rec : ℕ) → h.rec ≡ rec → TellsWhole old (record { rec = rec; set = h.set; count = h.count }) xs new
     → TellsWhole old h xs new
 of_head old new h xs rec is t = subst (λ (n : ℕ). TellsWhole old (record { rec = n; set = h.set; count = h.count }) xs new) (sym is) t

@@ -16,7 +16,7 @@ put_number-requires-clause-admitted c =
     spells_number c.requires.count c.number_of.ensures.exactly.0 c.in-Some.is c.in-Some.ensures.value (λ i. omega (arith, c.type_inv.octets i)) in
     (c.args.octets.now, admits_where spells c.admits_number.ensures.exactly c.if-not-admits_number.false)
 
--- the records may take it
+-- the records accept it
 admitted : (c : goal.After-put_number) → Admits c.args.self.now.fields (record { rec = 9; set = c.args.set; count = c.args.count }) c.args.octets.now
 admitted c =
     let spells : Spells c.args.octets.now (record { rec = 9; set = c.args.set; count = c.args.count }) c.in-Some.number =

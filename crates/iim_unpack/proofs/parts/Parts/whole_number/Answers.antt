@@ -19,7 +19,7 @@ put_number-requires-clause-admitted c =
 pub put_number-requires-2-clause-accepts : goal.put_number-requires-2-clause-accepts
 put_number-requires-2-clause-accepts c = c.accepts_number.ensures.exactly.0 c.if-not-accepts_number.false
 
--- the records may take it
+-- the records accept it
 admitted : (c : goal.After-put_number-2) → Admits c.args.self.now.fields (record { rec = 7; set = c.args.set; count = c.args.count }) c.args.octets.now
 admitted c =
     let spells : Spells c.args.octets.now (record { rec = 7; set = c.args.set; count = c.args.count }) c.in-Some.number =

@@ -2,7 +2,7 @@ use Rattle.iim_unpack.proofs.Words.{Dataset, List, field_octets, four, length, r
 use Rattle.std.specs.List.{flat_map}
 use Rattle.iim_unpack.proofs.ticket.spelling.push_fields.Given as goal
 
--- some datasets are there
+-- some datasets were written
 abbrev pub invariant-loop-rec : goal.invariant-loop-rec
 invariant-loop-rec g l = record {
   done : List Dataset;

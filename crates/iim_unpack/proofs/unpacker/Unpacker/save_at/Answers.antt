@@ -4,7 +4,7 @@ use Rattle.iim_unpack.specs.States.Restored.{HasTicketIn}
 use Rattle.iim_unpack.proofs.Held.{short_ticket, ticket_by}
 use Rattle.iim_unpack.proofs.unpacker.Unpacker.save_at.Goals as goal
 
--- a ticket has no more octets than a number of 64 bits tells
+-- the length of a ticket fits into 64 bits
 counted : (count n octets fields : ℕ) → count ≡ raised 0 n → n ≤ octets + 6 * fields + 256 → octets < 2 ^ 32 → fields < 2 ^ 32 → count ≡ n
 counted count n octets fields is few o f = omega (arith, is, few, o, f)
 
