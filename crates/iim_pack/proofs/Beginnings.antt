@@ -1,4 +1,4 @@
--- What a packer has begun with, call by call.
+-- The state `HasBegun` of a packer, call by call.
 use Rattle.iim_pack.proofs.Words.{List, ℕ, ◌++◌, arith, length-append, Device, TextsJoin, Packing, StoryEvent}
 use Rattle.iim_pack.specs.States.Packing.{Lengthens, Finishes, ContinuesBegun, EndsBegun}
 

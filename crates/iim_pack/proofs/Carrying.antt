@@ -1,4 +1,4 @@
--- What is packed carries the fields, the object and the sizes of the plan.
+-- Packed octets encode the fields, the object and the sizes of the plan.
 use Rattle.iim_pack.proofs.Words.{◌≡◌, ℕ, ◌≤◌, List, [], ◌++◌, length, refl, sym, ap, subst, ◌∙◌, arith, append_assoc, append-nil, AllByRecursion, greatest_size, Dataset, canonical_stream, count_octets, of_record, HasSpellings, all_append, all_map, IsGoodDataset, kept, joined, bound_of, plan_datasets, subfile_datasets, confirmed_datasets, plan_parts, stream_append, canonical}
 use Rattle.iim_dataset.specs.{Format.Octets.Octets, Format.Datasets.SpellsStream, Laws.CanonicalStreamsAreSpelled}
 use Rattle.iim_fields.specs.Format.Records.{AreSections}
@@ -14,7 +14,7 @@ use Rattle.iim_pack.proofs.Sorting.{AreInOrder, AreOf, kept_are, sevens_are, eig
 of_good : (rec : ℕ) (ds : List Dataset) → IsGoodRecord rec ds → AreOf rec ds
 of_good rec ds good = all_map (λ (d : Dataset). (d.rec ≡ rec) × IsGoodDataset d) (λ (d : Dataset). d.rec ≡ rec) ds (λ d h. h.0) good.each
 
--- ---- five good records
+-- ---- five valid records
 
 record AreGood (r1 r2 r7 r8 r9 : List Dataset) : Type 0 where
   pub one : IsGoodRecord 1 r1

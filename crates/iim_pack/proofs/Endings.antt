@@ -1,4 +1,4 @@
--- How the end of an object is written.
+-- Writing the end of an object.
 use Rattle.iim_pack.proofs.Words.{◌≡◌, ℕ, ◌+◌, ◌≤◌, false, None, List, [], ◌++◌, length, refl, sym, subst, append_assoc, append-nil, arith, length-append, le-leb, Device, Wrote, WithinInterruptionLimit, TextsJoin, is_short, IsWritten, Writing, most_of, total_of, write_cause, Plan}
 use Rattle.iim_object.specs.States.Writing.{HasWritten, Lengthens, BreaksOff, ContinuesWith, IsTheWhole, Finishes, finish_cause}
 use Rattle.iim_object.proofs.Written.{breaks_on}
@@ -7,7 +7,8 @@ use Rattle.iim_object.proofs.Written.{breaks_on}
 abbrev pub EndsWithTail : Plan → List ℕ → List ℕ → List ℕ → Type 0
 EndsWithTail plan tail object whole = IsTheWhole plan (object ++ tail) whole
 
--- The object is out, with its last octets. A million interruptions at most came for each octet that was not out before.
+-- The complete object was written, with its last octets. There were at most a million interruptions
+-- per octet written by this call.
 pub record Ends {W : Type 0} (state : W → Device) (old : Writing W) (tail : List ℕ) (writer : W) : Type 0 where
   pub more : List ℕ
   pub wrote : Wrote (state old.writer) (state writer) more
@@ -38,7 +39,7 @@ tail_broke state old new tail k = record {
       ([], subst (λ (t : List ℕ). IsWritten old.plan.subfile old.plan.size t whole) (sym (append-nil (object ++ tail))) w);
 }
 
--- what follows could not be written
+-- what follows the tail could not be written
 pub end_broke : {W : Type 0} (state : W → Device) (old mid new : Writing W) (tail : List ℕ) → TextsJoin → Lengthens state old mid tail
     → BreaksOff state (IsTheWhole mid.plan) mid new → BreaksOff state (EndsWithTail old.plan tail) old new
 end_broke state old mid new tail join l k =

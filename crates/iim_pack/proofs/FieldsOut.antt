@@ -1,9 +1,9 @@
--- Records 1 and 2 written one dataset after another.
+-- Writing records 1 and 2, one dataset after another.
 use Rattle.iim_pack.proofs.Words.{◌≡◌, ℕ, ◌+◌, ◌*◌, ◌^◌, ◌<◌, ◌≤◌, List, [], ◌∷◌, ◌++◌, length, sym, ap, subst, ◌∙◌, arith, append_assoc, append-nil, length-append, stream_append, Device, Wrote, Stopped, TextsJoin, Dataset, canonical_dataset, canonical_stream, tag_octets, joined}
 use Rattle.iim_dataset.proofs.{StoppedTexts.stopped_more, WrittenNumbers.dataset_length}
 use Rattle.iim_fields.specs.States.Standing.{AreFew}
 
--- ---- how long datasets are
+-- ---- the lengths of datasets
 
 pub stream_length : (ds : List Dataset) → length (canonical_stream ds) ≤ tag_octets * length ds + length (joined ds)
 stream_length [] = omega arith

@@ -1,4 +1,4 @@
--- How a packer finishes, by the writer of its object.
+-- Finishing a packer, by the writer of its object.
 use Rattle.iim_pack.proofs.Words.{◌≡◌, ℕ, ◌+◌, ◌≤◌, false, None, List, ◌++◌, length, sym, ap, subst, ◌∙◌, arith, append_assoc, length-append, ltb-false, Device, canonical_stream, bound_of, is_short, IsWritten, Writing, most_of, total_of, Plan, Size, Known, Unknown, packed_text, StoryEvent, packed_events, lines_of, Header, IsTrailer, packed_head, packed_tail, canonical}
 use Rattle.std.proofs.lemmas.Bool.Decides.{nat_tests}
 use Rattle.iim_object.specs.Format.Packing.{IsAsKnown}
@@ -28,7 +28,7 @@ as_known : (subfile : ℕ) (size : Size) (object : List ℕ) → length object �
 as_known subfile (Known n) object fits whole = let least : n ≤ length object = ltb-false (length object) n whole in omega (arith, fits, least)
 as_known subfile (Unknown m) object fits whole = tt
 
--- the canonical object of the lines of a text is what has come of it, and its end
+-- The canonical object of the lines of a text is the octets received of it, and its end.
 pub canonical_is : (head : Header) (events : List StoryEvent) (trailer : List ℕ) → packed_text (lines_of events) ≡ packed_events events
     → canonical head (lines_of events) trailer ≡ (packed_head head ++ packed_events events) ++ packed_tail trailer
 canonical_is head events trailer e =

@@ -1,4 +1,4 @@
--- How a packer continues, breaks off and finishes, by the writer of its object.
+-- Continuing, breaking off and finishing a packer, by the writer of its object.
 use Rattle.iim_pack.proofs.Words.{◌≡◌, ℕ, ◌+◌, ◌≤◌, false, not, nat_le, Option, Some, None, List, [], ◌∷◌, ◌++◌, map, refl, sym, ap, subst, ◌∙◌, arith, append_assoc, and_parts, le-leb, leb-true, not-false, list_all, Device, Dataset, canonical_stream, all_append, IsWritten, Writing, most_of, total_of, write_cause, Begins, Plan, is_line_octet, IsLine, packed_text, StoryEvent, LineOctet, events_of_lines, packed_events, AreEvents, LinesArePackedAsTheirEvents, events_append, Header, packed_head, packed_tail, canonical}
 use Rattle.std.proofs.Common.{IfNone}
 use Rattle.iim_object.specs.States.Writing as object
@@ -65,8 +65,8 @@ form_object head evs events rest lines trailer law e =
     ∙ (ap (λ (x : List ℕ). h ++ x) (append_assoc (a ++ b) r t ∙ append_assoc a b (r ++ t))
     ∙ (sym (append_assoc h a (b ++ (r ++ t))) ∙ sym (append_assoc (h ++ a) b (r ++ t))))
 
--- A break of the writer of the object breaks off the packer, where each form that may come of it is the fields and an object that may be
--- written.
+-- If the writer of the object breaks off, the packer breaks off, provided that each form of it
+-- consists of the fields and a written object.
 pub breaks : {W : Type 0} (state : W → Device) (before : ℕ) (May : List ℕ → List ℕ → Type 0) (Form : List Dataset → Header → List StoryEvent → Plan → List ℕ
     → Type 0) (old new : Writing W)
     → ((fields : List Dataset) (head : Header) (evs : List StoryEvent) (whole : List ℕ) → AreEvents evs → Form fields head evs old.plan whole

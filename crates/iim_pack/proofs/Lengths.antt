@@ -1,4 +1,4 @@
--- How long a packed form is.
+-- The length of a packed form.
 use Rattle.iim_pack.proofs.Words.{◌≡◌, ℕ, ◌+◌, ◌*◌, ◌≤◌, List, [], ◌++◌, length, sym, ap, ◌∙◌, arith, length-append, canonical_dataset, canonical_stream, tag_octets, greatest_size, joined, plan_datasets, subfile_datasets, confirmed_datasets, object_datasets, SubfilesAreFew, plan_octets, plan_parts, Plan, canonical, stream_append}
 use Rattle.std.proofs.lemmas.List.{length-map}
 use Rattle.iim_object.specs.Format.Packing.{IsCut, number_dataset, subfile_dataset}

@@ -1,4 +1,4 @@
--- Lines packed one after another.
+-- Packing lines one after another.
 use Rattle.iim_pack.proofs.Words.{◌≡◌, ℕ, ◌+◌, ◌≤◌, Bool, true, false, None, List, [], ◌∷◌, ◌++◌, length, map, refl, sym, ap, subst, ◌∙◌, arith, append_assoc, append-nil, length-append, le-leb, Device, TextsJoin, most_of, total_of, Begins, IsLine, StoryEvent, LineOctet, LineEnd, events_of_lines, packed_events, events_append, Packing, FormWith, text_cause, line_end_cause}
 use Rattle.iim_pack.specs.{States.Packing.Lengthens, States.Packing.BreaksOff, States.Packing.ContinuesWith, Steps.line_events}
 
@@ -44,7 +44,7 @@ breaks_later state a b c xs ys join l k = record {
       (subst (λ (e : List StoryEvent). FormWith fields head plan e whole) (sym (append_assoc evs xs ys)) form));
 }
 
--- what continues with more events than these continues with these
+-- A form that continues with more events than these continues with these.
 pub breaks_before : {W : Type 0} (state : W → Device) (a c : Packing W) (xs ys : List StoryEvent) → BreaksOff state (ContinuesWith xs) a c
     → BreaksOff state (ContinuesWith (xs ++ ys)) a c
 breaks_before state a c xs ys k = record {
@@ -71,7 +71,7 @@ may_text k line is unfailed fits = rw (unfailed, is, le-leb (total_of k.object +
 pub may_end_line : {W : Type 0} (k : Packing W) → k.object.failed ≡ false → total_of k.object + 4 ≤ most_of k.object.plan → line_end_cause k ≡ None
 may_end_line k unfailed fits = rw (unfailed, le-leb (total_of k.object + 4) (most_of k.object.plan) fits) refl
 
--- the events of the lines that are left
+-- the events of the remaining lines
 abbrev pub events_left : Bool → List (List ℕ) → List StoryEvent
 events_left is_first [] = []
 events_left is_first (line ∷ lines) = line_events is_first line ++ events_left false lines

@@ -1,4 +1,4 @@
--- There is one packed form, and it has few subfiles.
+-- The packed form is unique, and has few subfiles.
 use Rattle.iim_pack.proofs.Words.{◌≡◌, ℕ, ◌≤◌, ◌&&◌, nat_le, IsTrue, List, ◌++◌, sym, ap, ◌∙◌, and_parts, leb-true, canonical_stream, greatest_size, SubfilesAreFew, object_datasets, Size, canonical}
 use Rattle.iim_object.specs.{Format.Objects.is_plan, Format.Objects.fits, Laws.ObjectsAreCutOneWay}
 use Rattle.iim_pack.specs.Laws.{PackedOctetsAreOne, PackedSubfilesAreFew}

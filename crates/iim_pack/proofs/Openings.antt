@@ -1,4 +1,4 @@
--- How an object begins.
+-- Writing the beginning of an object.
 use Rattle.iim_pack.proofs.Words.{◌≡◌, ℕ, ◌+◌, ◌≤◌, None, List, [], ◌++◌, length, take, refl, sym, ap, subst, ◌∙◌, arith, append_assoc, length-append, le-leb, Device, Wrote, Stopped, WithinInterruptionLimit, TextsJoin, canonical_stream, IsWritten, plan_datasets, subfile_datasets, confirmed_datasets, joined_parts, Writing, IsWrittenFrom, Begins, most_of, total_of, plan_octets, write_cause, Plan, StartFault, stream_append, Opens, StartBreaksOff}
 use Rattle.std.proofs.Common.{drop}
 use Rattle.std.proofs.lemmas.List.{take-append-drop}
@@ -18,7 +18,7 @@ total_is w xs out s = omega (arith, ap length s.object_is, s.sent, length-append
 pub plan_small : (plan : Plan) → length (plan_octets plan) ≤ most_sizes
 plan_small plan = plan_length plan.subfile plan.size
 
--- what is written begins with record 7
+-- The octets written begin with record 7.
 whole_begins : (plan : Plan) (xs whole : List ℕ) → (w : IsWritten plan.subfile plan.size xs whole)
     → whole ≡ plan_octets plan ++ canonical_stream (subfile_datasets w.parts ++ confirmed_datasets xs)
 whole_begins plan xs whole w = w.octets_are ∙ stream_append (plan_datasets plan.subfile plan.size) (subfile_datasets w.parts ++ confirmed_datasets xs)
@@ -50,7 +50,7 @@ opened state writer plan front first new join is_plan s wrote limit l = record {
   stands = l.stands [] (plan_octets plan) s;
 }
 
--- a write failed after a beginning
+-- a write failed after the beginning
 pub halts_after : {W : Type 0} (state : W → Device) (Form : List ℕ → Type 0) (writer middle end : W) (fault : StartFault W) (out more : List ℕ) (before : ℕ)
     → TextsJoin → Wrote (state writer) (state middle) out
     → BrokeAfter (state middle) (state end) more → fault.writer ≡ end → fault.cause ≡ causes.Write → fault.written ≡ before + length more → before ≡ length out

@@ -7,7 +7,7 @@ use Rattle.iim_object.specs.declared.writing.cause.PackCause.TheVariants.{PastAn
 use Rattle.iim_pack.specs.States.Packing.{ending_cause, finish_cause, least_ending}
 use Rattle.iim_pack.specs.Format.Orders.{IsFirstOf, Against}
 
--- a test that tells what its cause says
+-- a test that decides the condition of its cause
 abbrev Tells : Bool → Type 0 → Type 0
 Tells b P = (b ≡ true → P) × (b ≡ false → P → ⊥)
 
@@ -36,7 +36,7 @@ failed_tells b = (λ e. e, λ e h. cc)
 not_tells : (b : Bool) → Tells (not b) (IsTrue b → ⊥)
 not_tells b = (λ e h. let bad = rw h at e in cc, λ e h. h (not-false b e))
 
--- of as many octets, counted in two ways
+-- two sums that count the same octets
 past_tells : (plan : Plan) (n m : ℕ) → n ≡ m → Tells (passes_plan plan n) (PassesPlan plan m)
 past_tells plan n m same = (λ e. grind (arith, nat_tests), λ e h. grind (arith, nat_tests))
 
@@ -79,7 +79,7 @@ line_end_order k =
     step says k.object.failed Failed (PastAnnounced ∷ []) _ (failed_tells k.object.failed)
     (step says (passes_plan k.object.plan size) PastAnnounced [] None (past_tells k.object.plan _ _ refl) tt)
 
--- the causes against an ending, where the octets of the object are counted in two ways
+-- The causes against an ending agree for two sums that count the octets of the object.
 ending_order : (failed : Bool) (trailer : List ℕ) (plan : Plan) (n m : ℕ) → n ≡ m
     → IsFirstOf (Against failed [] trailer plan m) (BadTrailer ∷ PastAnnounced ∷ ShortOfAnnounced ∷ []) (ending_cause plan n trailer)
 ending_order failed trailer plan n m same =

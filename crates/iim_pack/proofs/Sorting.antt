@@ -1,10 +1,10 @@
--- Which datasets of a packed form are of which record.
+-- The datasets of a packed form, by record.
 use Rattle.iim_pack.proofs.Words.{◌≡◌, ℕ, Bool, true, false, nat_eq, List, [], ◌∷◌, ◌++◌, refl, sym, ap, ◌∙◌, append_assoc, append-nil, AllByRecursion, Dataset, of_record, all_map, kept, joined, joined_parts, subfile_datasets}
 use Rattle.std.specs.List.{filter}
 use Rattle.std.proofs.lemmas.List.Elements.{filter-append}
 use Rattle.iim_fields.specs.Format.Causes.{is_kept}
 
--- ---- what passes a test
+-- ---- the items that pass a test
 
 all_pass : (p : Dataset → Bool) (ds : List Dataset) → AllByRecursion (λ d. p d ≡ true) ds → filter p ds ≡ ds
 all_pass p [] h = refl
@@ -14,14 +14,14 @@ none_pass : (p : Dataset → Bool) (ds : List Dataset) → AllByRecursion (λ d.
 none_pass p [] h = refl
 none_pass p (d ∷ ds) h = rw h.0 (none_pass p ds h.1)
 
--- each is of the record
+-- each dataset is of the record
 abbrev pub AreOf : ℕ → List Dataset → Type 0
 AreOf rec ds = AllByRecursion (λ d. d.rec ≡ rec) ds
 
 by_record : (p : ℕ → Bool) (rec : ℕ) (b : Bool) (ds : List Dataset) → p rec ≡ b → AreOf rec ds → AllByRecursion (λ d. p d.rec ≡ b) ds
 by_record p rec b ds test h = all_map (λ (d : Dataset). d.rec ≡ rec) (λ (d : Dataset). p d.rec ≡ b) ds (λ d is. ap p is ∙ test) h
 
--- five records after one another
+-- five records in a row
 five : (p : ℕ → Bool) (a b x y z : List Dataset)
     → filter (λ d. p d.rec) ((a ++ b) ++ (x ++ (y ++ z))) ≡ (filter (λ d. p d.rec) a ++ filter (λ d. p d.rec) b)
     ++ (filter (λ d. p d.rec) x ++ (filter (λ d. p d.rec) y ++ filter (λ d. p d.rec) z))
@@ -38,7 +38,7 @@ pub record AreInOrder (a b x y z : List Dataset) : Type 0 where
   pub eights : AreOf 8 y
   pub nines : AreOf 9 z
 
--- the datasets of a record that passes, and none of one that doesn't
+-- All datasets of a record that passes are kept, and none of a record that does not.
 abbrev pick : Bool → List Dataset → List Dataset
 pick true ds = ds
 pick false ds = []
@@ -47,7 +47,7 @@ picked_record : (p : ℕ → Bool) (rec : ℕ) (b : Bool) (ds : List Dataset) �
 picked_record p rec true ds test h = all_pass (λ d. p d.rec) ds (by_record p rec true ds test h)
 picked_record p rec false ds test h = none_pass (λ d. p d.rec) ds (by_record p rec false ds test h)
 
--- the records that pass, of five after one another
+-- the records that pass, of five in a row
 picked : (p : ℕ → Bool) (a b x y z : List Dataset) → AreInOrder a b x y z
     → filter (λ d. p d.rec) ((a ++ b) ++ (x ++ (y ++ z))) ≡ (pick (p 1) a ++ pick (p 2) b) ++ (pick (p 7) x ++ (pick (p 8) y ++ pick (p 9) z))
 picked p a b x y z o =

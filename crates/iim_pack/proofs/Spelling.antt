@@ -1,4 +1,4 @@
--- Good datasets have spellings: no row allows more octets than a count can tell.
+-- Valid datasets can be encoded: no row allows more octets than a count can encode.
 use Rattle.iim_pack.proofs.Words.{◌≡◌, ℕ, ◌<◌, ◌≤◌, ◌^◌, true, ◌&&◌, nat_eq, nat_le, List, [], ◌∷◌, length, Option, Some, None, arith, AllByRecursion, list_all, and_parts, leb-true, greatest_size, Dataset, count_octets, HasSpellings, IsGoodDataset}
 use Rattle.std.proofs.Common.{◌||◌, IfSome, IsSomeAnd}
 use Rattle.std.specs.List.{find}
@@ -12,7 +12,7 @@ use Rattle.iim_tables.proofs.GoodDatasets.{table_bounded}
 abbrev IsBounded : Option Row → Type 0
 IsBounded o = IfSome o (λ r. r.max ≤ greatest_size)
 
--- by lines, whatever a line is
+-- line by line, for any predicate of lines
 in_lines : {E : Type 0} (rec_of set_of : E → ℕ) (row_at : E → Row) (es : List E) (rec set : ℕ) → list_all (λ e. nat_le (row_at e).max greatest_size) es ≡ true
     → IsBounded (option_map row_at (find (λ e. nat_eq (rec_of e) rec && nat_eq (set_of e) set) es))
 in_lines rec_of set_of row_at [] rec set h = tt

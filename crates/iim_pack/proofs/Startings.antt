@@ -1,4 +1,4 @@
--- How a packer begins.
+-- Starting a packer.
 use Rattle.iim_pack.proofs.Words.{◌≡◌, ℕ, ◌+◌, List, [], ◌++◌, length, take, refl, sym, subst, ◌∙◌, arith, append-nil, length-append, Device, Wrote, Stopped, WithinInterruptionLimit, TextsJoin, Dataset, canonical_stream, Writing, IsWrittenFrom, Begins, Plan, StartFault, packed_text, Header, packed_head, packed_tail, FormWith, Opens, StartBreaksOff, Starts}
 use Rattle.std.proofs.Common.{length-take}
 use Rattle.iim_fields.specs.Format.Records.{IsEnvelope}
@@ -22,7 +22,7 @@ fields_broke state writer fields head plan fault cause s limit = record {
   begins = λ whole form. begins_by (canonical_stream fields) form.packed.object whole fault.written form.packed.octets_are;
 }
 
--- the object could not be begun after them
+-- the object could not be started after records 1 and 2
 pub object_broke : {W : Type 0} (state : W → Device) (writer first : W) (fields : List Dataset) (head : Header) (plan : Plan) (before : ℕ)
     (fault new : StartFault W) → TextsJoin → Wrote (state writer) (state first) (canonical_stream fields)
     → before ≡ length (canonical_stream fields) → WithinInterruptionLimit before (state writer) (state first)

@@ -1,4 +1,4 @@
--- A whole envelope packed in one call.
+-- Packing a complete envelope in one call.
 use Rattle.iim_pack.proofs.Words.{◌≡◌, ℕ, ◌+◌, ◌≤◌, true, false, None, inr, List, [], ◌∷◌, ◌++◌, length, refl, sym, ap, subst, ◌∙◌, arith, append-nil, length-append, le-leb, Device, TextsJoin, Dataset, is_short, most_of, total_of, Plan, StartFault, packed_text, StoryEvent, events_of_lines, LinesArePackedAsTheirEvents, packed_events, lines_of, Header, packed_head, packed_tail, canonical, Packing, is_trailer, pack_cause, start_cause, Starts, StartBreaksOff}
 use Rattle.std.proofs.Common.{inl}
 use Rattle.iim_object.specs.declared.writing.cause.PackCause.TheVariants as causes
@@ -9,7 +9,7 @@ use Rattle.iim_pack.specs.States.Packing.{Lengthens, BreaksOff, ContinuesWith, F
 use Rattle.std.proofs.lemmas.Bool.Decides.{nat_tests}
 use Rattle.iim_pack.proofs.Openings.{halts_after}
 
--- the lines of the events of lines are these
+-- The lines of the events of lines are these lines.
 pub lines_again : PackedLinesAreAText → TextsAreDeliveredAsLines → TextsAreCollectedAsLines → (lines : List (List ℕ)) → MakeText lines
     → lines_of (events_of_lines lines) ≡ lines
 lines_again packs delivers collects lines made =
@@ -60,7 +60,7 @@ finish_broke state writer fields head lines trailer plan a b d fault join again 
     (λ whole p. k.begins fields head (events_of_lines lines) plan (s.begun.out ++ l.more) whole (l.stands fields head [] plan s.begun.out s.begun.stands)
     (subst (λ (ls : List (List ℕ)). Packed fields head ls trailer plan whole) (sym again) p))
 
--- where the packer did not begin
+-- if the packer could not be started
 pub not_started : {W : Type 0} (state : W → Device) (writer : W) (fields : List Dataset) (head : Header) (lines : List (List ℕ)) (trailer : List ℕ)
     (plan : Plan) (fault : StartFault W) → IsStartFault state (FormWith fields head plan []) writer fault
     → IsStartFault state (Packed fields head lines trailer plan) writer fault

@@ -1,4 +1,4 @@
--- The names that several proofs bring in, passed on from one place.
+-- Names that several proofs use, re-exported from one module.
 pub use Rattle.iim_dataset.proofs.Each.{all_append, all_map}
 pub use Rattle.iim_dataset.specs.Format.Datasets.{Dataset, canonical_dataset, canonical_stream, count_octets, of_record, tag_octets}
 pub use Rattle.iim_dataset.specs.Format.Octets.{greatest_size}

@@ -1,4 +1,4 @@
--- What holds of all packed octets.
+-- Statements of the lemmas about all packed octets.
 use Rattle.std.specs.Prelude.{◌≡◌, ℕ, ◌<◌, ◌≤◌, List, ◌++◌, length}
 use Rattle.iim_dataset.specs.Format.Datasets.{Dataset, SpellsStream, count_octets, of_record}
 use Rattle.iim_fields.specs.{Format.Records.AreSections, States.Standing.AreFew}
@@ -13,8 +13,8 @@ use Rattle.iim_pack.specs.Format.Packed.{Packed}
 abbrev pub datasets_of : {fields : List Dataset} → {head : Header} → {lines : List (List ℕ)} → {trailer : List ℕ} → {plan : Plan} → {octets : List ℕ} → Packed fields head lines trailer plan octets → List Dataset
 datasets_of {fields} {head} {lines} {trailer} {plan} {octets} p = fields ++ object_datasets plan.subfile plan.size (canonical head lines trailer) p.written.parts
 
--- The octets spell datasets that are the records 1, 2, 7, 8 and 9, each good; of these the first two are the fields, the data of
--- record 8 are the object, and records 7 to 9 state the sizes.
+-- The octets encode datasets that are records 1, 2, 7, 8 and 9, each valid. The first two of them
+-- are the fields, the data of record 8 are the object, and records 7 to 9 state the sizes.
 pub record Carries (octets : List ℕ) (datasets fields : List Dataset) (object : List ℕ) (sizes : Sizes) : Type 0 where
   pub spelled : SpellsStream count_octets datasets octets
   pub sections : AreSections datasets
@@ -22,13 +22,14 @@ pub record Carries (octets : List ℕ) (datasets fields : List Dataset) (object 
   pub object_is : joined (of_record 8 datasets) ≡ object
   pub sizes_are : HaveSizes (of_record 7 datasets) (of_record 8 datasets) (of_record 9 datasets) sizes
 
--- Packed octets carry the fields, the canonical object, and the sizes of the plan.
+-- Packed octets encode the fields, the canonical object, and the sizes of the plan.
 abbrev pub PackedOctetsCarryTheValue : Type 0
 PackedOctetsCarryTheValue = (fields : List Dataset) (head : Header) (lines : List (List ℕ)) (trailer : List ℕ) (plan : Plan) (octets : List ℕ)
     → (p : Packed fields head lines trailer plan octets)
     → Carries octets (datasets_of p) fields (canonical head lines trailer) (packed_sizes plan.subfile plan.size (canonical head lines trailer) p.written.parts)
 
--- There is one packed form: it is a function of what is packed, and of the plan.
+-- The packed form is unique: it is a function of the fields, the header, the lines, the trailer and
+-- the plan.
 abbrev pub PackedOctetsAreOne : Type 0
 PackedOctetsAreOne = (fields : List Dataset) (head : Header) (lines : List (List ℕ)) (trailer : List ℕ) (plan : Plan) (octets others : List ℕ)
     → Packed fields head lines trailer plan octets → Packed fields head lines trailer plan others → octets ≡ others
@@ -38,7 +39,8 @@ abbrev pub PackedSubfilesAreFew : Type 0
 PackedSubfilesAreFew = (fields : List Dataset) (head : Header) (lines : List (List ℕ)) (trailer : List ℕ) (plan : Plan) (octets : List ℕ)
     → (p : Packed fields head lines trailer plan octets) → length p.written.parts ≤ max_subfiles
 
--- A packed form of no more fields than limits can allow has fewer octets than are ever out.
+-- A packed form is shorter than the most octets that are ever written, if it has no more fields
+-- than limits can allow.
 abbrev pub PackedOctetsAreFew : Type 0
 PackedOctetsAreFew = (fields : List Dataset) (head : Header) (lines : List (List ℕ)) (trailer : List ℕ) (plan : Plan) (octets : List ℕ)
     → Packed fields head lines trailer plan octets → AreFew fields → length octets < most_out

@@ -1,8 +1,8 @@
--- What octets are, and what is said of them.
+-- Definitions of the packed form.
 pub mod Format
--- Where readers and writers stand.
+-- The states of a packer.
 pub mod States
--- What holds of these: statements, each the contract of a law.
+-- Statements about these definitions, each the contract of a lemma.
 pub mod Laws
--- What only proofs and private clauses cite.
+-- Definitions that only proofs and private clauses cite.
 pub mod Steps

@@ -1,16 +1,18 @@
--- What the parts of a packed envelope are, as they are written one after another.
+-- The parts of a packed envelope, in the order in which they are written. (Private to proofs.)
 use Rattle.std.specs.Prelude.{ℕ, Bool, true, false, List, ◌∷◌, map, ◌≡◌, length}
 use Rattle.wire_story.specs.Format.Texts.{StoryEvent, LineOctet, LineEnd}
 use Rattle.iim_dataset.specs.States.Devices.{Device, Wrote, WithinInterruptionLimit}
 use Rattle.iim_object.specs.{States.Writing.Writing, declared.plan.Plan.Plan}
 use Rattle.iim_object.specs.States.Writing as object
 
--- the events of a line, as lines are packed one after another: before each but the first the last one ends
+-- The events of a line, as lines are packed one after another: a line end precedes each line but
+-- the first.
 abbrev pub line_events : Bool → List ℕ → List StoryEvent
 line_events true line = map LineOctet line
 line_events false line = LineEnd ∷ map LineOctet line
 
--- The object has begun with these octets. A million interruptions at most came for each octet that is out.
+-- The object begins with these octets. There were at most a million interruptions per octet
+-- written.
 pub record Opens {W : Type 0} (state : W → Device) (writer : W) (plan : Plan) (front : List ℕ) (w : Writing W) : Type 0 where
   pub out : List ℕ
   pub wrote : Wrote (state writer) (state w.writer) out

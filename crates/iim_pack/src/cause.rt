@@ -1,4 +1,4 @@
-//! Why a packer refuses a call, by numbers alone.
+//! Why a packer rejects a call, decided by numbers alone.
 
 ghost use Rattle.std.specs.Prelude.{◌≡◌, ◌+◌, ◌≤◌, length};
 ghost use Rattle.iim_dataset.specs.Format.Octets.{greatest_size};
@@ -10,17 +10,17 @@ ghost use Rattle.iim_pack.specs.States.Packing as words;
 use iim_object::{PackCause, Plan};
 use wire_message::is_trailer;
 
-/// ETX and EOT.
+/// The least ending of an object, in octets: ETX and EOT.
 pub(crate) const LEAST_ENDING: u64 = 2;
 
-/// Whether `octets` octets after the first `total` pass the plan's bound.
+/// Checks whether `octets` octets after the first `total` exceed the plan's bound.
 pub(crate) fn passes_plan(plan: Plan, total: u64, octets: u64) -> bool
     ensures { result ≡ object.passes_plan plan (total + octets) }
 {
     total.saturating_add(octets) > plan.bound()
 }
 
-/// Why an object may not end with the trailer after `total` octets.
+/// Returns why an object cannot end with the trailer after `total` octets, or `None` if it can.
 pub(crate) fn ending_cause(plan: Plan, total: u64, trailer: &[u8]) -> Option<PackCause>
     requires { total ≤ greatest_size }
     ensures { result ≡ words.ending_cause plan (total + length (packed_tail trailer.now)) trailer.now }

@@ -1,4 +1,4 @@
-//! The end of an object.
+//! Writes the end of an object.
 
 ghost use Rattle.std.specs.Prelude.{◌≡◌, ◌+◌, ◌++◌, ◌≤◌, false, length, IfOk, IfErr};
 ghost use Rattle.iim_object.specs.Format.Objects.{is_short};
@@ -9,7 +9,7 @@ use iim_dataset::Target;
 use iim_dataset::device_laws::texts_join;
 use iim_object::{PackCause, SubfileWriter};
 
-/// Writes the last octets of an object, and what follows them.
+/// Writes the last octets of an object, its last subfile and record 9. Returns the writer.
 pub(crate) fn end_object<W: Target>(
     mut object: SubfileWriter<W>,
     tail: &[u8],

@@ -1,4 +1,4 @@
-//! Records 1 and 2, written.
+//! Writes records 1 and 2.
 
 ghost use Rattle.std.specs.Prelude.{◌≡◌, ◌+◌, ◌<◌, ◌^◌, length, IfOk, IfErr, OnOk};
 ghost use Rattle.iim_dataset.specs.Format.Datasets.{canonical_stream};
@@ -9,14 +9,16 @@ use iim_dataset::device_laws::texts_join;
 use iim_dataset::{Target, put_dataset};
 use iim_fields::Envelope;
 
-/// Writes records 1 and 2. Both answers tell how many octets are out.
+/// Writes records 1 and 2. Returns how many octets were written, also as the error if a write
+/// fails.
 pub(crate) fn put_fields<W: Target>(writer: &mut W, envelope: &Envelope) -> Result<u64, u64>
     ensures ok { OnOk result (Wrote (W.state writer.old) (W.state writer.new) (canonical_stream envelope.now)) }
     ensures all { IfOk result (λ out. out ≡ length (canonical_stream envelope.now)) }
     ensures small { IfOk result (λ out. out < 2 ^ 40) }
     ensures envelope { IsEnvelope envelope.now }
     ensures err { IfErr result (Stopped (W.state writer.old) (W.state writer.new) (canonical_stream envelope.now)) }
-    // A million interruptions at most for each octet that is out, and one million more where a write failed.
+    // There were at most a million interruptions per octet written, and one million more if a write
+    // failed.
     ensures patience { IfOk result (λ out. WithinInterruptionLimit out (W.state writer.old) (W.state writer.new)) }
     ensures given_up { IfErr result (λ out.
         WithinInterruptionLimit (out + 1) (W.state writer.old) (W.state writer.new)) }

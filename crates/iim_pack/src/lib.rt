@@ -1,11 +1,13 @@
 //! Packs envelopes of the Information Interchange Model.
 //!
-//! Stands on the crates of the layers, and writes by their calls alone: fields and tags by `iim_dataset`, header and trailer by
-//! `wire_message`, line ends by `wire_story`, subfiles by `iim_object`. The crates above use [`packed_size`], [`pack`] and
-//! [`Packer`]: what is written is the packed form (`specs/Format/Packed.antt`).
+//! Depends on the crates of the layers, and writes only by their calls: fields and tags by
+//! `iim_dataset`, header and trailer by `wire_message`, line ends by `wire_story`, subfiles by
+//! `iim_object`. The crates above use [`packed_size`], [`pack`] and [`Packer`]. What is written is
+//! the packed form (`specs/Format/Packed.antt`).
 //!
-//! A call that is refused changes nothing and writes nothing, but for [`PackCause::Write`](iim_object::PackCause::Write): then a
-//! front of the packed form is out, as long as `written` tells, and each later call is refused.
+//! A call that is rejected changes nothing and writes nothing, except for
+//! [`PackCause::Write`](iim_object::PackCause::Write): then a prefix of the packed form was
+//! written, of the length that `written` returns, and each later call is rejected.
 #![tactic(auto)]
 
 mod cause;

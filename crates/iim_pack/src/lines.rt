@@ -1,4 +1,4 @@
-//! Lines, packed one after another.
+//! Packs lines, one after another.
 
 ghost use Rattle.std.specs.Prelude.{◌≡◌, ◌+◌, ◌≤◌, false, length, OnOk, OnErr, IfErr};
 ghost use Rattle.iim_object.specs.States.Writing.{most_of, total_of};
@@ -14,7 +14,7 @@ use iim_dataset::device_laws::texts_join;
 use iim_object::PackCause;
 use wire_story::Lines;
 
-/// Packs the end of a line, unless the line is the first, and then a line.
+/// Packs a line, after the end of the previous line unless this line is the first.
 fn put_line<W: Target>(packer: &mut Packer<W>, line: &[u8], is_first: bool) -> Result<(), PackCause>
     requires line { IsLine line.now }
     requires unfailed { packer.old.object.failed ≡ false }

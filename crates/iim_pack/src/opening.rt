@@ -1,4 +1,4 @@
-//! The beginning of an object.
+//! Writes the beginning of an object.
 
 ghost use Rattle.std.specs.Prelude.{◌≡◌, ◌+◌, ◌<◌, ◌≤◌, ◌^◌, length, IfOk, IfErr};
 ghost use Rattle.iim_object.specs.Format.Objects.{most_out};

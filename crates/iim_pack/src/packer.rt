@@ -1,4 +1,4 @@
-//! The packer.
+//! The streaming packer.
 
 ghost use Rattle.std.specs.Prelude.{◌≡◌, ◌+◌, ◌<◌, ◌^◌, [], ◌∷◌, false, length, map, IfOk, IfErr, OnOk, OnErr, IfSome, IfNone, MatchResult, Err};
 ghost use Rattle.wire_story.specs.Format.Texts.{LineOctet, LineEnd, IsLine};
@@ -27,14 +27,15 @@ use wire_story::laws::{
 };
 use wire_story::{LINE_END, is_text};
 
-/// Packs an envelope, a header and a text that comes in pieces.
+/// Packs an envelope, a header and a text that is passed in chunks.
 ///
-/// It holds at most the lesser of the plan's subfile size and the plan's bound in octets of the object. [`Packer::start`] asks for
-/// memory for just those, in one request, and no later call asks for any. All else that it has is of a fixed size, below 256
-/// octets: the plan, four counts, whether a write failed, and what it writes to.
+/// It buffers at most one subfile of the plan's size, or the plan's bound if that is less, in
+/// octets of the object. [`Packer::start`] allocates memory for exactly that, in one request, and
+/// no later call allocates. Everything else has a fixed size, less than 256 octets: the plan, four
+/// counts, whether a write failed, and the writer.
 ///
-/// Contracts see it as how many octets records 1 and 2 have, and the writer of its object. `HasBegun` (`specs/States/Packing.antt`)
-/// says what it has taken and what is out.
+/// Contracts view it as the length of records 1 and 2, and the writer of its object. `HasBegun`
+/// (`specs/States/Packing.antt`) relates it to what it has consumed and written.
 #[derive(Drop)]
 pub struct Packer<W> {
     before: u64,
@@ -52,7 +53,8 @@ impl<W> Model for Packer<W> {
     ghost invariant = { λ k. k.before < 2 ^ 40 };
 }
 
-/// Why no packer was begun, with what was to be written to, and how many octets are out.
+/// Returns the error of a packer that could not be started: the cause, the writer, and how many
+/// octets were written.
 fn unbegun<W>(cause: PackCause, writer: W, written: u64) -> StartFault<W>
     ensures { result ≡ record { cause = cause; writer = writer; written = written } }
 {
@@ -66,9 +68,11 @@ fn unbegun<W>(cause: PackCause, writer: W, written: u64) -> StartFault<W>
 impl<W: Target> Packer<W> {
     /// Writes records 1, 2 and 7, and begins the object with the header.
     ///
-    /// Refuses, in this order: `PastAnnounced` where the header and the least ending (ETX and EOT) pass the plan's bound;
-    /// `OutOfMemory` where memory was refused; `Write` where a write failed. Nothing is written for the first two. At `Write` what is
-    /// out, `written` octets, begins each packed form of the envelope, header and plan. The writer is handed back each time.
+    /// **Errors**, in this order: `PastAnnounced` if the header and the least ending (ETX and EOT)
+    /// exceed the plan's bound; `OutOfMemory` if the allocation fails; `Write` if a write fails.
+    /// Nothing is written for the first two. After `Write` the octets written, `written` of them,
+    /// are a prefix of each packed form of the envelope, header and plan. Each error returns the
+    /// writer.
     pub fn start(
         alloc: Global,
         envelope: &Envelope,
@@ -107,11 +111,13 @@ impl<W: Target> Packer<W> {
         }
     }
 
-    /// Takes octets of a line. How a text is cut into calls changes nothing of what is written in the end.
+    /// Appends octets to the current line. What is written in the end does not depend on how the
+    /// text is split into calls.
     ///
-    /// Refuses, in this order: `Failed` after a failed write; `BadTextOctet` where an octet may not stand in a line (CR and LF may
-    /// not: `line_end` writes them); `PastAnnounced` where the object so far, these octets and the least ending pass the plan's
-    /// bound; `Write` where a write failed. But for the last, nothing is written and nothing changes.
+    /// **Errors**, in this order: `Failed` after a failed write; `BadTextOctet` if an octet is not
+    /// allowed in a line (nor are CR and LF: `line_end` writes them); `PastAnnounced` if the object
+    /// so far, these octets and the least ending exceed the plan's bound; `Write` if a write fails.
+    /// Except for `Write`, nothing is written and nothing changes.
     pub fn text(&mut self, octets: &[u8]) -> Result<(), PackCause>
         ensures refused { IfSome (text_cause self.old octets.now)
             (λ cause. (result ≡ Err cause) × (self.new ≡ self.old)) }
@@ -134,10 +140,12 @@ impl<W: Target> Packer<W> {
         self.known_text(octets)
     }
 
-    /// Takes octets of a line as [`Packer::text`] does, where it is known that each may stand in one: they are not tested.
+    /// Appends octets to the current line like [`Packer::text`], if the caller guarantees that each
+    /// is allowed in a line: they are not checked.
     ///
-    /// Refuses, in this order: `Failed` after a failed write; `PastAnnounced` where the object so far, these octets and the least
-    /// ending pass the plan's bound; `Write` where a write failed. But for the last, nothing is written and nothing changes.
+    /// **Errors**, in this order: `Failed` after a failed write; `PastAnnounced` if the object so
+    /// far, these octets and the least ending exceed the plan's bound; `Write` if a write fails.
+    /// Except for `Write`, nothing is written and nothing changes.
     pub fn known_text(&mut self, octets: &[u8]) -> Result<(), PackCause>
         requires { IsLine octets.now }
         ensures refused { IfSome (text_cause self.old octets.now)
@@ -167,10 +175,11 @@ impl<W: Target> Packer<W> {
         self.object.write(octets)
     }
 
-    /// Ends a line, with CR and LF.
+    /// Ends the current line with CR and LF.
     ///
-    /// Refuses, in this order: `Failed` after a failed write; `PastAnnounced` where the object so far, the line end and the least
-    /// ending pass the plan's bound; `Write` where a write failed. But for the last, nothing is written and nothing changes.
+    /// **Errors**, in this order: `Failed` after a failed write; `PastAnnounced` if the object so
+    /// far, the line end and the least ending exceed the plan's bound; `Write` if a write fails.
+    /// Except for `Write`, nothing is written and nothing changes.
     pub fn line_end(&mut self) -> Result<(), PackCause>
         ensures refused { IfSome (line_end_cause self.old) (λ cause. (result ≡ Err cause) × (self.new ≡ self.old)) }
         ensures order { IsFirstOf (Against self.old.object.failed [] [] self.old.object.plan
@@ -195,11 +204,14 @@ impl<W: Target> Packer<W> {
         self.object.write(&LINE_END)
     }
 
-    /// Ends the message with the trailer, and hands back what was written to: the packed form is out.
+    /// Ends the message with the trailer, and returns the writer, to which the complete packed form
+    /// was written.
     ///
-    /// Refuses, in this order: `Failed` after a failed write; `BadTrailer` where the octets may be no trailer; `PastAnnounced` where the
-    /// object with its ending (ETX, the trailer and EOT) passes the plan's bound; `ShortOfAnnounced` where it is below a known
-    /// size; `Write` where a write failed. The packer is handed back, and but for the last nothing is written and nothing changes.
+    /// **Errors**, in this order: `Failed` after a failed write; `BadTrailer` if the octets are not
+    /// a valid trailer; `PastAnnounced` if the object with its ending (ETX, the trailer and EOT)
+    /// exceeds the plan's bound; `ShortOfAnnounced` if it is below a known size; `Write` if a write
+    /// fails. Each error returns the packer; except for `Write`, nothing is written and nothing
+    /// changes.
     pub fn finish(self, trailer: &[u8]) -> Result<W, (Packer<W>, PackCause)>
         ensures refused { IfSome (finish_cause self trailer.now) (λ cause. result ≡ Err (self, cause)) }
         ensures order { IsFirstOf (Against self.object.failed [] trailer.now self.object.plan
@@ -231,14 +243,14 @@ impl<W: Target> Packer<W> {
         }
     }
 
-    /// How many octets are out, those of a failed write among them.
+    /// Returns how many octets were written, those of a failed write included.
     pub fn written(&self) -> u64
         ensures { result ≡ written_of self.now }
     {
         self.before + self.object.written()
     }
 
-    /// What was written to, as it is.
+    /// Returns the writer as it is.
     pub fn into_writer(self) -> W
         ensures { result ≡ self.object.writer }
     {

@@ -1,4 +1,4 @@
-//! A whole envelope, packed in one call.
+//! Packs a complete envelope in one call.
 
 ghost use Rattle.std.specs.Prelude.{◌≡◌, [], ◌∷◌, false, length, IfOk, IfErr, IfSome, IfNone, MatchResult};
 ghost use Rattle.iim_pack.specs.States.Packing.{written_of, StartIsRefused, Packs, IsStartFault};
@@ -22,7 +22,7 @@ use wire_story::laws::{
     lines_are_packed_as_their_events, story_laws, texts_are_delivered_as_lines,
 };
 
-/// Why an envelope may not be packed by a plan.
+/// Returns why an envelope cannot be packed by a plan, or `None` if it can.
 fn pack_cause(head: &MessageHead, lines: &Lines, trailer: &[u8], plan: Plan) -> Option<PackCause>
     ensures { result ≡ words.pack_cause head.now lines.now.lines trailer.now plan }
 {
@@ -41,7 +41,7 @@ fn pack_cause(head: &MessageHead, lines: &Lines, trailer: &[u8], plan: Plan) -> 
     None
 }
 
-/// A packer that a write has broken, as a fault.
+/// Converts a packer whose write failed to an error.
 fn given_back<W: Target>(packer: Packer<W>, cause: PackCause) -> StartFault<W>
     ensures cause { result.cause ≡ cause }
     ensures writer { result.writer ≡ packer.object.writer }
@@ -56,11 +56,14 @@ fn given_back<W: Target>(packer: Packer<W>, cause: PackCause) -> StartFault<W>
     }
 }
 
-/// Packs an envelope, a header, lines and a trailer by a plan, and hands back what was written to: the packed form is out.
+/// Packs an envelope, a header, lines and a trailer by a plan, and returns the writer, to which the
+/// packed form was written.
 ///
-/// Refuses, in this order: `BadTrailer` where the octets may be no trailer; `PastAnnounced` where the object passes the plan's bound;
-/// `ShortOfAnnounced` where it is below a known size; `OutOfMemory` where memory was refused; `Write` where a write failed. Nothing is
-/// written but for the last: then what is out, `written` octets, begins the packed form. The writer is handed back each time.
+/// **Errors**, in this order: `BadTrailer` if the octets are not a valid trailer; `PastAnnounced`
+/// if the object exceeds the plan's bound; `ShortOfAnnounced` if it is below a known size;
+/// `OutOfMemory` if the allocation fails; `Write` if a write fails. Nothing is written except for
+/// `Write`: then the octets written, `written` of them, are a prefix of the packed form. Each error
+/// returns the writer.
 pub fn pack<W: Target>(
     alloc: Global,
     envelope: &Envelope,

@@ -1,4 +1,4 @@
-//! How long a packed object is.
+//! The size of a packed object.
 
 ghost use Rattle.std.specs.Prelude.{◌≡◌, ◌≤◌, ◌↔◌, length, IsSome, IfSome};
 ghost use Rattle.iim_dataset.specs.Format.Octets.{greatest_size};
@@ -9,8 +9,9 @@ use iim_dataset::GREATEST_SIZE;
 use wire_message::{MessageHead, head_text, is_trailer};
 use wire_story::{Lines, text_len};
 
-/// How many octets the object has that is packed of a header, lines and a trailer: None where they may be no trailer, or where
-/// it would be above the greatest size of an object.
+/// Returns the size in octets of the object that is packed from a header, lines and a trailer.
+/// Returns `None` if the trailer is invalid, or if the size would exceed the greatest size of an
+/// object.
 pub fn packed_size(head: &MessageHead, lines: &Lines, trailer: &[u8]) -> Option<u64>
     ensures size { IfSome result (λ size. size ≡ length (canonical head.now lines.now.lines trailer.now)) }
     ensures exactly { IsSome result ↔ (IsTrailer trailer.now

@@ -1,4 +1,5 @@
--- Why a packer refuses a call: what each cause says, and the order in which they are asked.
+-- Why a packer rejects a call: the condition of each cause, and the order in which they are
+-- checked.
 use Rattle.std.specs.Prelude.{◌≡◌, ℕ, Bool, IsTrue, List, ◌∷◌, ◌++◌, Option, Some, None}
 use Rattle.std.specs.List.{AllByRecursion}
 use Rattle.iim_object.specs.States.Writing.{PassesPlan, IsBelowKnown}
@@ -7,7 +8,7 @@ use Rattle.iim_object.specs.declared.{plan.Plan.Plan, writing.cause.PackCause.Pa
 use Rattle.wire_story.specs.Format.Texts.{IsLine}
 use Rattle.wire_message.specs.Format.Messages.{IsTrailer}
 
--- The cause is one of the order; what it says holds, and nothing holds that a cause before it says.
+-- The cause is one of the order, its condition holds, and no condition of a cause before it holds.
 pub record IsFirst (Says : PackCause → Type 0) (order : List PackCause) (cause : PackCause) : Type 0 where
   pub before : List PackCause
   pub after : List PackCause
@@ -15,13 +16,14 @@ pub record IsFirst (Says : PackCause → Type 0) (order : List PackCause) (cause
   pub none_before : AllByRecursion (λ other. Says other → ⊥) before
   pub holds : Says cause
 
--- the first cause of the order for which what it says holds, or none
+-- the first cause of the order whose condition holds, or none
 abbrev pub IsFirstOf : (PackCause → Type 0) → List PackCause → Option PackCause → Type 0
 IsFirstOf Says order (Some cause) = IsFirst Says order cause
 IsFirstOf Says order None = AllByRecursion (λ cause. Says cause → ⊥) order
 
--- What the causes say of a call: whether a write failed before it, the octets of a line and the trailer that it takes, if any, the plan,
--- and how many octets the object will have at least.
+-- The conditions of the causes. They depend on whether a write failed before the call, the octets
+-- of a line and the trailer passed to it, if any, the plan, and the least size in octets that the
+-- object will have.
 abbrev pub Against : Bool → List ℕ → List ℕ → Plan → ℕ → PackCause → Type 0
 Against failed line trailer plan size Failed = IsTrue failed
 Against failed line trailer plan size BadTextOctet = IsLine line → ⊥

@@ -6,8 +6,8 @@ use Rattle.iim_object.specs.{Format.Packing.IsWritten, Format.Packing.Suits, dec
 use Rattle.wire_message.specs.Format.Messages.{Header, IsMessage, canonical}
 use Rattle.wire_story.specs.Format.Texts.{IsText}
 
--- What may be packed by the plan: the fields are a good record 1 and a good record 2; the canonical object is a message whose
--- text has the lines; and the plan has room for it.
+-- The arguments can be packed by the plan: the fields are a valid record 1 and a valid record 2;
+-- the canonical object is a message whose text consists of the lines; and the plan allows its size.
 pub record MayBePacked (fields : List Dataset) (head : Header) (lines : List (List ℕ)) (trailer : List ℕ) (plan : Plan) : Type 0 where
   pub envelope : IsEnvelope fields
   pub text : List ℕ
@@ -15,8 +15,8 @@ pub record MayBePacked (fields : List Dataset) (head : Header) (lines : List (Li
   pub lined : IsText text lines
   pub suits : Suits plan.subfile plan.size (canonical head lines trailer)
 
--- The octets are the packed form: the canonical spelling of the fields, and then what is written of the canonical object by the
--- plan.
+-- The octets are the packed form: the canonical encoding of the fields, and then what is written of
+-- the canonical object by the plan.
 pub record Packed (fields : List Dataset) (head : Header) (lines : List (List ℕ)) (trailer : List ℕ) (plan : Plan) (octets : List ℕ) : Type 0 where
   pub may : MayBePacked fields head lines trailer plan
   pub object : List ℕ

@@ -1,4 +1,5 @@
--- Where a packer stands: how it begins, what it has taken and written, and a whole envelope in one call.
+-- The states of a packer: how it starts, what it has consumed and written, and a complete envelope
+-- in one call.
 use Rattle.std.specs.Prelude.{◌≡◌, ℕ, ◌+◌, ◌&&◌, not, nat_le, Bool, false, if◌then◌else◌, IsTrue, List, ◌++◌, length, Option, Some, None, ◌⊎◌, []}
 use Rattle.std.specs.{List.list_all, Io.KnownBytes.Appends}
 use Rattle.iim_dataset.specs.States.Devices.{Device, Wrote, Broke, WithinInterruptionLimit}
@@ -14,21 +15,22 @@ use Rattle.wire_message.specs.Format.Messages.{is_trailer_octet, max_trailer, He
 use Rattle.iim_pack.specs.Format.Packed.{Packed}
 use Rattle.iim_object.specs.declared.writing.cause.PackCause.TheVariants as causes
 
--- A packer is seen as how many octets records 1 and 2 have, and the writer of its object.
+-- The view of a packer: the length of records 1 and 2, and the writer of its object.
 pub record Packing (W : Type 0) : Type 0 where
   pub before : ℕ
   pub object : Writing W
 
--- the least ending: ETX and EOT
+-- the size in octets of the least ending: ETX and EOT
 abbrev pub least_ending : ℕ
 least_ending = 2
 
--- how many octets are out
+-- how many octets were written
 abbrev pub written_of : {W : Type 0} → Packing W → ℕ
 written_of k = k.before + k.object.written
 
--- The packer has taken these fields, this header and the text that comes in these events, and `out` is out: the fields, record 7
--- and full subfiles, whose data and the octets held are the canonical object from SOH to the end of the text.
+-- The packer has consumed these fields, this header and the text of these events, and has written
+-- `out`: the fields, record 7 and full subfiles. Their data and the buffered octets are the
+-- canonical object from SOH to the end of the text.
 pub record HasPacked {W : Type 0} (k : Packing W) (fields : List Dataset) (head : Header) (events : List StoryEvent) (plan : Plan) (out : List ℕ) : Type 0 where
   pub envelope : IsEnvelope fields
   pub header : IsHeader head
@@ -39,8 +41,8 @@ pub record HasPacked {W : Type 0} (k : Packing W) (fields : List Dataset) (head 
   pub stands : object.HasWritten k.object (packed_head head ++ packed_events events) object_out
   pub out_is : out ≡ canonical_stream fields ++ object_out
 
--- A text in these events led from one packer to the other, wherever it stood: some more octets are out. A million interruptions at
--- most came for each.
+-- The packer has consumed the text of these events, in every state before: more octets were
+-- written. There were at most a million interruptions per octet.
 pub record Lengthens {W : Type 0} (state : W → Device) (old new : Packing W) (events : List StoryEvent) : Type 0 where
   pub more : List ℕ
   pub wrote : Wrote (state old.object.writer) (state new.object.writer) more
@@ -60,8 +62,9 @@ pub record FormWith (fields : List Dataset) (head : Header) (plan : Plan) (event
   pub rest : List StoryEvent
   pub begins : events_of_lines lines ≡ events ++ rest
 
--- A write failed: some more octets are out and counted, and later calls are refused. A million interruptions at most came for each,
--- and for the next. Wherever the packer stood, what is out begins every form that `Form` says.
+-- A write failed: more octets were written and counted, and later calls are rejected. There were at
+-- most a million interruptions per octet, and a million more. In every state before, what was
+-- written is a prefix of every form that satisfies `Form`.
 pub record BreaksOff {W : Type 0} (state : W → Device) (Form : List Dataset → Header → List StoryEvent → Plan → List ℕ → Type 0) (old new : Packing W) : Type 0 where
   pub more : List ℕ
   pub appends : Appends (state old.object.writer).octets (state new.object.writer).octets more
@@ -76,7 +79,8 @@ pub record BreaksOff {W : Type 0} (state : W → Device) (Form : List Dataset �
 abbrev pub ContinuesWith : List StoryEvent → List Dataset → Header → List StoryEvent → Plan → List ℕ → Type 0
 ContinuesWith events fields head before plan whole = FormWith fields head plan (before ++ events) whole
 
--- The form is out. A million interruptions at most came for each octet that was not out before.
+-- The complete form was written. There were at most a million interruptions per octet written by
+-- this call.
 pub record Finishes {W : Type 0} (state : W → Device) (old : Packing W) (trailer : List ℕ) (writer : W) : Type 0 where
   pub more : List ℕ
   pub wrote : Wrote (state old.object.writer) (state writer) more
@@ -105,8 +109,8 @@ line_end_cause k =
 abbrev pub is_trailer : List ℕ → Bool
 is_trailer trailer = list_all is_trailer_octet trailer && nat_le (length trailer) max_trailer
 
--- the first cause against an object of so many octets with this trailer: a bad trailer, an object that passes the bound, one below a
--- known size
+-- the first cause against an object of `size` octets with this trailer: an invalid trailer, an
+-- object that exceeds the bound, or one below a known size
 abbrev pub ending_cause : Plan → ℕ → List ℕ → Option PackCause
 ending_cause plan size trailer =
     if not (is_trailer trailer) then Some causes.BadTrailer
@@ -122,34 +126,36 @@ finish_cause k trailer =
 abbrev pub pack_cause : Header → List (List ℕ) → List ℕ → Plan → Option PackCause
 pack_cause head lines trailer plan = ending_cause plan (length (canonical head lines trailer)) trailer
 
--- The packer has taken these fields, this header and the text that comes in these events, and has not failed. Since its writer
--- stood so, exactly this was written, `written` octets: the fields, record 7 of the plan and full subfiles. The data of those and
--- the octets that are held are the canonical object from SOH to the end of the text.
+-- The packer has consumed these fields, this header and the text of these events, and has not
+-- failed. Since its writer was in the state `first`, exactly `out` was written: the fields, record
+-- 7 of the plan and full subfiles. Their data and the buffered octets are the canonical object from
+-- SOH to the end of the text.
 pub record HasBegun {W : Type 0} (state : W → Device) (first : Device) (k : Packing W) (fields : List Dataset) (head : Header) (events : List StoryEvent) (plan : Plan) : Type 0 where
   pub out : List ℕ
   pub wrote : Wrote first (state k.object.writer) out
   pub counted : written_of k ≡ length out
   pub stands : HasPacked k fields head events plan out
 
--- Whatever the packer had taken, it has taken these events too.
+-- Whatever the packer had consumed, it has consumed these events too.
 abbrev pub ContinuesBegun : {W : Type 0} → (W → Device) → Packing W → Packing W → List StoryEvent → Type 0
 ContinuesBegun state old new events = (first : Device) (fields : List Dataset) (head : Header) (before : List StoryEvent) (plan : Plan)
     → HasBegun state first old fields head before plan → HasBegun state first new fields head (before ++ events) plan
 
--- Whatever the packer had taken, exactly the packed form of its lines with this trailer was written.
+-- Whatever the packer had consumed, exactly the packed form of its lines with this trailer was
+-- written.
 abbrev pub EndsBegun : {W : Type 0} → (W → Device) → Packing W → List ℕ → W → Type 0
 EndsBegun state old trailer writer = (first : Device) (fields : List Dataset) (head : Header) (events : List StoryEvent) (plan : Plan)
     → HasBegun state first old fields head events plan
     → (form : List ℕ) × Packed fields head (lines_of events) trailer plan form × Wrote first (state writer) form
 
--- Nothing was written, and the writer is handed back as it was.
+-- Nothing was written, and the writer is returned unchanged.
 pub record StartIsRefused {W : Type 0} (cause : PackCause) (writer : W) (fault : StartFault W) : Type 0 where
   pub cause_is : fault.cause ≡ cause
   pub writer_is : fault.writer ≡ writer
   pub nothing : fault.written ≡ 0
 
--- A write failed: some octets are out and counted, and they begin every such form. A million interruptions at most came for each, and
--- for the next.
+-- A write failed: the octets written before are counted, and are a prefix of every such form. There
+-- were at most a million interruptions per octet, and a million more.
 pub record StartBreaksOff {W : Type 0} (state : W → Device) (Form : List ℕ → Type 0) (writer : W) (fault : StartFault W) : Type 0 where
   pub cause_is : fault.cause ≡ causes.Write
   pub out : List ℕ
@@ -159,17 +165,19 @@ pub record StartBreaksOff {W : Type 0} (state : W → Device) (Form : List ℕ �
   pub counted : fault.written ≡ length out
   pub begins : (whole : List ℕ) → Form whole → Begins out whole
 
--- The packer stands with an empty text, and what is out was written in this call. A million interruptions at most came for each octet.
+-- The packer has an empty text, and what was written was written in this call. There were at most a
+-- million interruptions per octet.
 pub record Starts {W : Type 0} (state : W → Device) (writer : W) (fields : List Dataset) (head : Header) (plan : Plan) (k : Packing W) : Type 0 where
   pub begun : HasBegun state (state writer) k fields head [] plan
   pub patience : WithinInterruptionLimit (length begun.out) (state writer) (state k.object.writer)
   pub total : total_of k.object ≡ length (packed_head head)
 
--- Memory was refused, and nothing was written; or a write failed, and what is out begins every such form.
+-- The allocation failed, and nothing was written; or a write failed, and what was written is a
+-- prefix of every such form.
 abbrev pub IsStartFault : {W : Type 0} → (W → Device) → (List ℕ → Type 0) → W → StartFault W → Type 0
 IsStartFault state Form writer fault = StartIsRefused causes.OutOfMemory writer fault ⊎ StartBreaksOff state Form writer fault
 
--- The packed form is out. A million interruptions at most came for each octet.
+-- The packed form was written. There were at most a million interruptions per octet.
 pub record Packs {W : Type 0} (state : W → Device) (writer : W) (fields : List Dataset) (head : Header) (lines : List (List ℕ)) (trailer : List ℕ) (plan : Plan) (last : W) : Type 0 where
   pub out : List ℕ
   pub wrote : Wrote (state writer) (state last) out

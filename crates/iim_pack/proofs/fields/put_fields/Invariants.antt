@@ -1,7 +1,7 @@
 use Rattle.iim_pack.proofs.Words.{◌≡◌, List, ◌++◌, length, Dataset, canonical_stream, Wrote, WithinInterruptionLimit, rest_of}
 use Rattle.iim_pack.proofs.fields.put_fields.Given as goal
 
--- some datasets are out
+-- some datasets were written
 abbrev pub invariant-loop-rec : goal.invariant-loop-rec
 invariant-loop-rec g l = record {
   done : List Dataset;

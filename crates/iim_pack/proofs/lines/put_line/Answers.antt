@@ -3,7 +3,7 @@ use Rattle.iim_pack.specs.{States.Packing.Lengthens, Steps.line_events}
 use Rattle.iim_pack.proofs.{Goings.of_none, LinesOut.leads_on, LinesOut.breaks_later, LinesOut.breaks_before, LinesOut.may_text, LinesOut.may_end_line}
 use Rattle.iim_pack.proofs.lines.put_line.Goals as goal
 
--- what the room says of a first line, and of another
+-- the size left by the bound, for the first line and for another
 first_fits : (total most : ℕ) (is_first : Bool) (line : List ℕ) → is_first ≡ true → total + (length (packed_events (line_events is_first line)) + 2) ≤ most
     → total + (length line + 2) ≤ most
 first_fits total most is_first line e fits =
@@ -37,7 +37,7 @@ returns-in-Ok-clause-ok g c =
     (map LineOctet c.args.line.now) c.texts_join.ensures c.in-Ok.ensures.ok)
     c.known_text-in-Ok.ensures.ok)
 
--- after the line end there is room for a line that isn't the first
+-- After the line end, a line that is not the first fits.
 may_more : {W : Type 0} (state : W → Device) (k m : Packing W) (is_first : Bool) (line : List ℕ) → is_first ≡ false → IsLine line
     → Lengthens state k m (LineEnd ∷ [])
     → total_of k.object + (length (packed_events (line_events is_first line)) + 2) ≤ most_of k.object.plan → text_cause m line ≡ None
