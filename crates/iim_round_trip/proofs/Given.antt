@@ -1,4 +1,4 @@
--- What a stream gives back, or why it gives nothing.
+-- What a stream returns, or why it returns nothing.
 use Rattle.std.proofs.Common.{◌≡◌, ◌≢◌, ℕ, ◌⊎◌, inl, inr, List, length, refl, subst, [], ◌∷◌}
 use Rattle.std.specs.Prelude.{Ok, Err}
 use Rattle.iim_fields.specs.declared.limits.Limits.{Limits}
@@ -26,13 +26,14 @@ sink_or_not : (c : Cause) → (c ≡ causes.Message messages.Sink) ⊎ (c ≢ ca
 sink_or_not (causes.Message messages.Sink) = inl refl
 sink_or_not _ = inr (λ e. cc)
 
--- what a count says by the cause, as two facts
+-- the two facts in a count of failures: it increased for the sink's cause, and is unchanged for
+-- others
 pub counts : (c : Cause) (old new : ℕ) → parts.CountsFor c old new
     → (c ≡ causes.Message messages.Sink → Rose old new) × (c ≢ causes.Message messages.Sink → new ≡ old)
 counts (causes.Message messages.Sink) old new h = (λ e. h, λ other. absurd (other refl))
 counts _ old new h = (λ e. absurd cc, λ other. h)
 
--- What is said of the limits of an unpacker is said of those that it was made with.
+-- What holds under the limits of an unpacker holds under the limits that it was created with.
 pub given : {S : Type 0} (goes : S → List StoryEvent → S → Type 0) (found limits : Limits) (stream : List ℕ) (a b : S) (got : Unpacked) (used : ℕ)
     → found ≡ limits
     → PackedStreamsHaveTheirAnswer → ((answer : Answer) → Answers found stream answer → pieces.IsAnswer (Ok (got, used)) answer)
@@ -56,11 +57,11 @@ fails found limits stream e same law only p = elim (sink_or_not e.cause) [
 
 -- ---- a story that is collected
 
--- lines that are told are collected
+-- the relation of a sink that collects the lines
 abbrev pub gathers : Collected → List StoryEvent → Collected → Type 0
 gathers a events b = b.lines ≡ collect a.lines events
 
--- what the lines of a text are told collects to them, from one empty line on
+-- Collecting the events of a text's lines, from one empty line on, gives its lines.
 collected : TextsAreDeliveredAsLines → TextsAreCollectedAsLines → (text : List ℕ) (lines before after : List (List ℕ)) → IsText text lines → before ≡ [] ∷ []
     → after ≡ collect before (events_of_lines lines) → after ≡ lines
 collected deliver gather text lines before after is empty told = rw (told, empty, ← deliver text lines is) (gather text lines is)

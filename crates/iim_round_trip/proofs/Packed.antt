@@ -1,4 +1,4 @@
--- What is packed is admitted, and found, and unpacked.
+-- What is packed is valid, is found in a stream, and is unpacked.
 use Rattle.std.proofs.Common.{◌≡◌, ℕ, ◌⊎◌, inl, inr, List, [], ◌∷◌, ◌++◌, refl, sym, append-nil, length, take, arith, ap, length-append}
 use Rattle.iim_pack.specs.Laws.{datasets_of, PackedOctetsCarryTheValue, PackedSubfilesAreFew}
 use Rattle.iim_places.specs.{Format.Admitted.Value, Format.Admitted.Admits, Format.Streams.Answers}
@@ -21,7 +21,7 @@ admitted carry fields head lines trailer plan octets p =
       sizes = c.sizes_are;
     }
 
--- of two fronts of one list one begins the other
+-- Of two prefixes of one list, one is a prefix of the other.
 fronts : (xs ys us vs : List ℕ) → xs ++ ys ≡ us ++ vs → ((m : List ℕ) × (us ≡ xs ++ m)) ⊎ ((m : List ℕ) × (xs ≡ us ++ m))
 fronts [] ys us vs e = inl (us, refl)
 fronts (x ∷ xs) ys [] vs e = inr (x ∷ xs, refl)

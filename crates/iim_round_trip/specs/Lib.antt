@@ -1,4 +1,4 @@
--- What octets are, and what is said of them.
+-- Definitions of the round trip.
 pub mod Format
--- What holds of these: statements, each the contract of a law.
+-- Statements about these definitions, each the contract of a lemma.
 pub mod Laws

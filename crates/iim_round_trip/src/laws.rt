@@ -1,18 +1,20 @@
-//! What holds of packing and unpacking together.
+//! Lemmas about packing and unpacking together.
 
 ghost use Rattle.iim_round_trip.specs.Laws.{PackedOctetsAreAdmitted, PackedEnvelopesAreFound, PackedOctetsAreWithin, PackedStreamsHaveTheirAnswer};
 
 use iim_pack::laws::{packed_octets_carry_the_value, packed_subfiles_are_few};
 use iim_unpack::laws::place_laws;
 
-/// What is packed is admitted, with the value that was packed and the sizes of the plan.
+/// Proves that packed octets are a valid envelope, with the value that was packed and the sizes of
+/// the plan.
 pub fn packed_octets_are_admitted()
     ensures { PackedOctetsAreAdmitted }
 {
     packed_octets_carry_the_value();
 }
 
-/// Whatever follows packed octets, they are the only admitted ones at the front, and they have the value that was packed.
+/// Proves that packed octets are the only valid envelope that a stream beginning with them begins
+/// with, and that it has the value that was packed.
 pub fn packed_envelopes_are_found()
     ensures { PackedEnvelopesAreFound }
 {
@@ -20,7 +22,7 @@ pub fn packed_envelopes_are_found()
     place_laws();
 }
 
-/// What is packed is within each limits that its fields are within.
+/// Proves that packed octets are an envelope within all limits that its fields are within.
 pub fn packed_octets_are_within()
     ensures { PackedOctetsAreWithin }
 {
@@ -28,7 +30,8 @@ pub fn packed_octets_are_within()
     packed_subfiles_are_few();
 }
 
-/// A stream that begins with what was packed has one answer, whatever follows: the packed octets, and the value that was packed.
+/// Proves that a stream that begins with packed octets has exactly one result, whatever follows:
+/// the packed octets, and the value that was packed.
 pub fn packed_streams_have_their_answer()
     ensures { PackedStreamsHaveTheirAnswer }
 {

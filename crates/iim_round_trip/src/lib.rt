@@ -1,7 +1,8 @@
-//! What is packed, unpacked again: it comes back.
+//! The round trip: what was packed is unpacked again, unchanged.
 //!
-//! Stands on `iim_pack` and `iim_unpack`, and on `iim_tables`, `iim_dataset`, `iim_fields`, `iim_object`, `wire_story` and
-//! `wire_message` for their types, sinks and definitions. Nothing stands on it.
+//! Depends on `iim_pack` and `iim_unpack`, and on `iim_tables`, `iim_dataset`, `iim_fields`,
+//! `iim_object`, `wire_story` and `wire_message` for their types, sinks and definitions. No crate
+//! depends on it.
 #![tactic(auto)]
 
 pub mod laws;

@@ -1,4 +1,5 @@
-//! A stream in pieces, unpacked: what was packed comes back, and any other stream has its answer.
+//! Unpacks a stream that is split into chunks: what was packed is returned, and any other stream
+//! has its result.
 
 ghost use Rattle.std.specs.Prelude.{◌≡◌, IfOk, IfErr, OnOk};
 ghost use Rattle.iim_unpack.specs.Format.Pieces.{IsUnpacked, stream_of};
@@ -17,19 +18,19 @@ use std::fmt::{Display, Formatter};
 use wire_story::laws::{story_laws, texts_are_delivered_as_lines};
 use wire_story::{Lines, StorySink};
 
-/// Why nothing is unpacked.
+/// Why nothing was unpacked.
 #[derive(Debug, Drop)]
 pub enum UnpackFault {
-    /// Memory was refused for the unpacker.
+    /// Memory allocation failed for the unpacker.
     OutOfMemory,
-    /// The stream is refused, or the sink stopped ([`iim_unpack::Cause::SINK`]).
+    /// The stream is rejected, or the sink stopped ([`iim_unpack::Cause::SINK`]).
     Refused(Refusal),
 }
 
 impl UnpackFault {
     ghost use Rattle.iim_round_trip.specs.Format.Faults.{fault_number, fault_name};
 
-    /// Returns the number of the cause, as it is printed: for a refusal, that of its cause.
+    /// Returns the number of the cause, as it is printed. A refusal has the number of its cause.
     pub fn number(&self) -> u8
         ensures { result ≡ fault_number self.now }
     {
@@ -39,7 +40,7 @@ impl UnpackFault {
         }
     }
 
-    /// Returns the name of the cause, as it is printed: for a refusal, that of its cause.
+    /// Returns the name of the cause, as it is printed. A refusal has the name of its cause.
     pub fn name(&self) -> &'static str
         ensures { result.now ≡ fault_name self.now }
     {
@@ -67,34 +68,37 @@ impl Display for UnpackFault {
 
 impl Error for UnpackFault {}
 
-/// Unpacks the envelope that a stream begins with, whatever pieces it comes in, and answers how many octets it has. It takes
-/// memory for just what the limits allow.
+/// Unpacks the envelope that a stream begins with, in chunks of any size. Returns the envelope and
+/// its length in octets. Allocates exactly the memory that the limits require.
 ///
-/// Where the stream begins with what was packed of an envelope, a header, lines and a trailer, by whatever plan and whatever
-/// follows, just the packed octets are used, that envelope, header and trailer come back, and the sink is told the lines.
+/// If the stream begins with what was packed from an envelope, a header, lines and a trailer, then
+/// exactly the packed octets are consumed, that envelope, header and trailer are returned, and the
+/// sink receives the lines. This holds for every plan and whatever follows.
 ///
-/// It finishes exactly where the stream begins with octets that every layer admits, within the limits. Any other stream is
-/// refused at the first octet with which a layer is dead, or at its end, where it is truncated. A stream has one of these
-/// answers, and no other, unless the sink stopped or memory was refused.
+/// It succeeds if and only if the stream begins with a valid envelope within the limits.
+///
+/// **Errors:** the refusal of the first octet after which some layer cannot continue, or at the end
+/// of a truncated stream. A stream has exactly one of these results, unless the sink stopped or the
+/// allocation failed.
 pub fn unpack_packed<S: StorySink>(
     alloc: Global,
     limits: Limits,
     pieces: &[&[u8]],
     sink: &mut S,
 ) -> Result<(Unpacked, u64), UnpackFault>
-    // What was packed comes back.
+    // What was packed is returned.
     ensures given_back { IfOk result (λ got.
         GivesBack S.goes limits (stream_of pieces.now) sink.old sink.new got.0 got.1) }
     ensures refused { BeginsPacked limits (stream_of pieces.now) → IfErr result IsOutside }
 
-    // Any stream has its answer.
+    // Any stream has its result.
     ensures finished { IfOk result (λ got.
         IsUnpacked S.goes limits (stream_of pieces.now) sink.old sink.new got.0 got.1) }
     ensures turned_down { IfErr result (IsTurnedDown S.goes limits (stream_of pieces.now) sink.old sink.new) }
     ensures only { (answer : Answer) → Answers limits (stream_of pieces.now) answer
         → IfErr result (λ fault. IsOutside fault → ⊥) → IsAnswer result answer }
 
-    // The sink is at fault only where its count of failures rose.
+    // The sink is the cause only if its count of failures increased.
     ensures calm { OnOk result (S.failures sink.new ≡ S.failures sink.old) }
     ensures counted { IfErr result (λ fault. CountsFor fault (S.failures sink.old) (S.failures sink.new)) }
 {
@@ -108,28 +112,31 @@ pub fn unpack_packed<S: StorySink>(
     }
 }
 
-/// An envelope with its lines, and how many octets of the stream it has.
+/// An envelope with its lines, and its length.
 #[derive(Drop)]
 pub struct Story {
-    /// The envelope, but for its lines.
+    /// The envelope, except its lines.
     pub unpacked: Unpacked,
     /// The lines of its story.
     pub lines: Lines,
-    /// How many octets of the stream it has.
+    /// The length of the envelope in octets.
     pub used: u64,
 }
 
 /// Unpacks the envelope that a stream begins with, and collects its lines.
 ///
-/// Where the stream begins with what was packed, within the limits, by whatever plan and whatever follows, that envelope, header,
-/// lines, trailer and the sizes of that plan come back, of just the packed octets. Any other stream has the answer that
-/// [`unpack_packed`] gives: unless memory was refused, for the unpacker or for a line ([`iim_unpack::Cause::SINK`]).
+/// If the stream begins with what was packed within the limits, then that envelope, header, lines,
+/// trailer and the sizes of that plan are returned, from exactly the packed octets. Any other
+/// stream has the result of [`unpack_packed`].
+///
+/// **Errors:** those of [`unpack_packed`]; if the allocation of a line fails, the cause is
+/// [`iim_unpack::Cause::SINK`].
 pub fn unpack_story(alloc: Global, limits: Limits, pieces: &[&[u8]]) -> Result<Story, UnpackFault>
-    // What was packed comes back.
+    // What was packed is returned.
     ensures story { IfOk result (ComesBack limits (stream_of pieces.now)) }
     ensures fault { BeginsPacked limits (stream_of pieces.now) → IfErr result IsOutside }
 
-    // Any stream has its answer.
+    // Any stream has its result.
     ensures finished { IfOk result (IsStoryIn limits (stream_of pieces.now)) }
     ensures turned_down { IfErr result (IsTurnedDown untold limits (stream_of pieces.now) tt tt) }
     ensures only { (answer : Answer) → Answers limits (stream_of pieces.now) answer

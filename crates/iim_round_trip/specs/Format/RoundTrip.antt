@@ -1,4 +1,4 @@
--- What was packed, unpacked; and what any stream is answered.
+-- What was packed, unpacked; and the result of any stream.
 use Rattle.std.specs.Prelude.{ℕ, List, ◌≡◌, ◌++◌, length, ◌≢◌, Result, Ok, Err}
 pub use Rattle.iim_dataset.specs.Format.Datasets.{Dataset}
 use Rattle.iim_object.specs.Format.Packing.{packed_sizes}
@@ -18,11 +18,12 @@ pub use Rattle.iim_unpack.specs.declared.unpacker.Unpacked.{Unpacked}
 pub use Rattle.iim_round_trip.specs.declared.unpacking.UnpackFault.{UnpackFault}
 pub use Rattle.iim_round_trip.specs.declared.unpacking.UnpackFault.TheVariants.{OutOfMemory, Refused}
 
--- The fields have no more octets than the limits allow, and are no more.
+-- The fields are within the limits on octets and on fields.
 abbrev pub FieldsAreWithin : Limits → List Dataset → Type 0
 FieldsAreWithin limits fields = IsWithin limits (length (joined fields)) (length fields)
 
--- The stream begins with what was packed of these, within the limits. Anything may follow.
+-- The stream begins with what was packed of these fields, header, lines and trailer, within the
+-- limits. Anything may follow.
 pub record BeginsPacked (limits : Limits) (stream : List ℕ) : Type 0 where
   pub fields : List Dataset
   pub head : Header
@@ -35,38 +36,40 @@ pub record BeginsPacked (limits : Limits) (stream : List ℕ) : Type 0 where
   pub rest : List ℕ
   pub parts : stream ≡ octets ++ rest
 
--- ---- a stream that was unpacked
+-- ---- an unpacked stream
 
--- the value that was packed, in these parts
+-- the value that was packed, in these subfiles
 abbrev pub packed_value : List Dataset → Header → List (List ℕ) → List ℕ → Plan → List (List ℕ) → Value
 packed_value fields head lines trailer plan parts =
     let sizes = packed_sizes plan.subfile plan.size (canonical head lines trailer) parts in
     record { fields = fields; head = head; lines = lines; trailer = trailer; sizes = sizes }
 
--- If the stream begins with what was packed, within the limits, then this is given back: just the packed octets were used; the envelope, the
--- header, the trailer and the sizes are those that were packed; and the sink was told the lines.
+-- If the stream begins with what was packed, within the limits, then exactly the packed octets are
+-- consumed; the envelope, the header, the trailer and the sizes are those that were packed; and the
+-- sink received the lines.
 abbrev pub GivesBack : {S : Type 0} → (S → List story.StoryEvent → S → Type 0) → Limits → List ℕ → S → S → Unpacked → ℕ → Type 0
 GivesBack goes limits stream a b got used = (p : BeginsPacked limits stream) → (used ≡ length p.octets)
     × HasParts got (packed_value p.fields p.head p.lines p.trailer p.plan p.packed.written.parts) × goes a (story.events_of_lines p.lines) b
 
--- The octets are not at fault: memory was refused for the unpacker, or the sink stopped.
+-- The stream is not the cause: the allocation for the unpacker failed, or the sink stopped.
 abbrev pub IsOutside : UnpackFault → Type 0
 IsOutside OutOfMemory = Unit {0}
 IsOutside (Refused e) = e.cause ≡ Message Sink
 
--- Why there is no envelope. Where memory was refused for the unpacker, the sink was told nothing. Else the stream has none at its
--- front: a layer is dead, or the stream is truncated, or the sink stopped.
+-- Why no envelope is returned. If the allocation for the unpacker failed, the sink received
+-- nothing. Otherwise the stream does not begin with an envelope, because an octet is rejected or
+-- the stream is truncated; or the sink stopped.
 abbrev pub IsTurnedDown : {S : Type 0} → (S → List story.StoryEvent → S → Type 0) → Limits → List ℕ → S → S → UnpackFault → Type 0
 IsTurnedDown goes limits stream a b OutOfMemory = b ≡ a
 IsTurnedDown goes limits stream a b (Refused e) = pieces.IsTurnedDown goes limits stream a b e
 
--- The result is the answer.
+-- The function's result represents the result of the stream.
 abbrev pub IsAnswer : Result (Unpacked × ℕ) UnpackFault → Answer → Type 0
 IsAnswer (Ok got) answer = pieces.IsAnswer (Ok got) answer
 IsAnswer (Err OutOfMemory) answer = ⊥
 IsAnswer (Err (Refused e)) answer = pieces.IsAnswer (Err e) answer
 
--- The sink's count of failures rose where the sink stopped, and nowhere else.
+-- The sink's count of failures increased if and only if the sink is the cause.
 abbrev pub CountsFor : UnpackFault → ℕ → ℕ → Type 0
 CountsFor OutOfMemory old new = new ≡ old
 CountsFor (Refused e) old new = (e.cause ≡ Message Sink → Rose old new) × (e.cause ≢ Message Sink → new ≡ old)
