@@ -1,4 +1,4 @@
--- What stands before the first of an octet, and after it.
+-- What precedes the first occurrence of an octet, and what follows it.
 use Rattle.iim_script.proofs.Words.{◌≡◌, inr, ℕ, zero, suc, ◌+◌, ◌-◌, ◌<◌, ◌==◌, Bool, true, false, not, cond, List, [], ◌∷◌, ◌++◌, length, length-append, take, drop, get_or, refl, ap, sym, ◌∙◌, arith, position_or_len, list_all, one-add, eq-eqb, eqb-true, false≢true, and_parts, false_from_ne_true, take_rest, all_append, HasNo, NextLine}
 use Rattle.std.proofs.lemmas.List.Sums.{split_at_first, passes_at_first}
 use Rattle.std.proofs.Math.Seq.{take-length}
@@ -11,11 +11,11 @@ pub has_no_before : (b : ℕ) (xs : List ℕ) → HasNo b (take (position_or_len
 has_no_before b [] = tt
 has_no_before b (x ∷ xs) = rw one-add (before_cons b x xs (position_or_len (λ y. y == b) xs) (x == b) refl (has_no_before b xs))
 
--- where none is found there is none
+-- if none is found there is none
 pub has_none : (b : ℕ) (xs : List ℕ) (end : ℕ) → end ≡ position_or_len (λ x. x == b) xs → end ≡ length xs → HasNo b xs
 has_none b xs end is all = rw (← is, all, take-length) at (has_no_before b xs)
 
--- where one is found
+-- if one is found
 pub cut_parts : (b : ℕ) (xs : List ℕ) (end : ℕ) → end ≡ position_or_len (λ x. x == b) xs → end < length xs
     → HasNo b (take end xs) × (xs ≡ take end xs ++ (b ∷ take (length xs - (end + 1)) (drop (end + 1) xs)))
 cut_parts b xs end is within =
@@ -26,12 +26,12 @@ cut_parts b xs end is within =
 not_self : (b : ℕ) → (b == b) ≡ false → ⊥
 not_self b e = false≢true (sym e ∙ eq-eqb b b refl)
 
--- an octet that stands there
+-- an octet at this index
 pub has_no_octet : (b : ℕ) (xs ys : List ℕ) → HasNo b (xs ++ b ∷ ys) → ⊥
 has_no_octet b [] ys h = not_self b h.0
 has_no_octet b (x ∷ xs) ys h = has_no_octet b xs ys h.1
 
--- what stands before the first is one thing, and so is what stands after it
+-- What precedes the first occurrence is unique, and so is what follows it.
 pub cut_once : (b : ℕ) (xs ys us vs : List ℕ) → HasNo b xs → HasNo b us → xs ++ b ∷ ys ≡ us ++ b ∷ vs → (xs ≡ us) × (ys ≡ vs)
 cut_once b [] ys [] vs h k e = (refl, cc)
 cut_once b [] ys (u ∷ us) vs h k e = let same : u ≡ b = cc in absurd (not_self b (rw same at k.0))
@@ -41,7 +41,7 @@ cut_once b (x ∷ xs) ys (u ∷ us) vs h k e = let rest = cut_once b xs ys us vs
 pub has_no_append : (b : ℕ) (xs ys : List ℕ) → HasNo b xs → HasNo b ys → HasNo b (xs ++ ys)
 has_no_append b xs ys h k = all_append (λ x. (x == b) ≡ false) xs ys h k
 
--- a test that an octet fails leaves none of it where it is passed
+-- An octet that fails a test does not occur in octets that all pass it.
 pub lacks : (test : ℕ → Bool) (b : ℕ) (xs : List ℕ) → test b ≡ false → list_all test xs ≡ true → HasNo b xs
 lacks test b [] fails h = tt
 lacks test b (x ∷ xs) fails h =
@@ -53,7 +53,7 @@ passes_more : (test : ℕ → Bool) (d x : ℕ) (xs : List ℕ) (n : ℕ) (is : 
 passes_more test d x xs n true e h = e
 passes_more test d x xs n false e h = h
 
--- what stands at the first place that passes a test; or what stands for nothing, and passes it too
+-- the item at the first index that passes a test; or the default, which passes it too
 pub first_passes : (test : ℕ → Bool) (d : ℕ) (xs : List ℕ) → test d ≡ true → test (get_or (drop (position_or_len test xs) xs) 0 d) ≡ true
 first_passes test d [] h = h
 first_passes test d (x ∷ xs) h = rw one-add (passes_more test d x xs (position_or_len test xs) (test x) refl (first_passes test d xs h))
@@ -68,11 +68,11 @@ at_last : (xs : List ℕ) (b : ℕ) → get_or (xs ++ b ∷ []) (length xs) 0 �
 at_last [] b = refl
 at_last (x ∷ xs) b = at_last xs b
 
--- where it ends in no such octet
+-- if the list does not end in that octet
 pub no_last : (b : ℕ) (xs : List ℕ) → ((n : ℕ) → length xs ≡ suc n → get_or xs n 0 ≡ b → ⊥) → (before : List ℕ) → xs ≡ before ++ b ∷ [] → ⊥
 no_last b xs not before e = not (length before) (omega (arith, ap length e, length-append before (b ∷ []))) (rw e (at_last before b))
 
--- an LF ends a line that has none, and no CR
+-- An LF ends a line that contains none, and no CR.
 pub ended : (octets line after : List ℕ) → octets ≡ line ++ 10 ∷ after → HasNo 10 line → HasNo 13 line → NextLine octets line after
 ended octets line after e h k =
     record { ended = line; no_feed = h; is_line = inr (refl, λ before f. has_no_octet 13 before [] (rw f at k)); parts = e }

@@ -1,4 +1,4 @@
--- What stands before the story, line by line.
+-- What precedes the story, line by line.
 use Rattle.iim_script.proofs.Words.{◌≡◌, ◌⊎◌, inl, inr, ℕ, ◌+◌, ◌≤◌, true, false, List, [], ◌∷◌, ◌++◌, append_assoc, length, length-append, get_or, refl, ap, sym, ◌∙◌, subst, arith, None, list_all, false≢true, and_parts, Dataset, Building, add_fault, finish_fault, Limits, Header, HasNo, NextLine, TellsField, TellsHead, TellsTrailer, text_word, is_digit, AreFieldLines, AreTrailer, IsFront, max_script, Stage, InFields, AfterMessage, AfterTrailer, HaveCome, Stands, TellsNone, IsNextWrong, IsScriptFault, ScriptLine, Field, BadTrailer, OutOfMemory, ScriptCause}
 use Rattle.std.proofs.Common.{append-nil}
 use Rattle.wire_message.specs.Format.Messages.{IsTrailer}
@@ -32,13 +32,13 @@ pub stands_head : {limits : Limits} {script rest after : List ℕ} {ds : List Da
 stands_head {limits} {script} {rest} {after} {ds} {head} {count} {more} s (line, n, t) e =
     stands_on limits script rest line after (InFields ds) (AfterMessage ds head) count more s n e (s.lines, line, s.come, t, refl)
 
--- Where the line `text` is wanted: the trailer's line has come, or the next line is none.
+-- The line `text` is expected: the trailer's line was read, or the next line is none.
 abbrev pub Past : Limits → List ℕ → List Dataset → Header → List ℕ → List ℕ → ℕ → Type 0
 Past limits script ds head trailer rest count =
     (Stands limits script (AfterMessage ds head) rest count × NextMustBe (TellsNone TellsTrailer) rest × (trailer ≡ []))
     ⊎ Stands limits script (AfterTrailer ds head trailer) rest count
 
--- Past the datasets that a builder has taken, the header and the trailer.
+-- After the datasets that a builder has accepted, the header and the trailer.
 pub past_trailer : {limits : Limits} {script rest after : List ℕ} {ds : List Dataset} {head : Header} {trailer : List ℕ} {count more : ℕ}
     → Stands limits script (AfterMessage ds head) rest count
     → ((line : List ℕ) × NextLine rest line after × TellsTrailer line trailer × IsTrailer trailer × (more ≡ count + 1))
@@ -50,7 +50,7 @@ past_trailer {limits} {script} {rest} {after} {ds} {head} {trailer} {count} {mor
     (come.0, come.1, line, come.2, come.3, t, is, rw come.4 (append_assoc come.0 (come.1 ∷ []) (line ∷ []))))
 past_trailer s (inr (none, empty, same, e)) = inl (rw (same, e) s, rw same none, empty)
 
--- what stands before the story, once the line `text` has come
+-- what precedes the story, once the line `text` was read
 front_with : {limits : Limits} {script rest after : List ℕ} {ds : List Dataset} {head : Header} {trailer : List ℕ} {stage : Stage} {count more : ℕ}
     → (fields : List (List ℕ)) (message : List ℕ) (trailers : List (List ℕ)) (s : Stands limits script stage rest count)
     → s.lines ≡ fields ++ message ∷ trailers → AreFieldLines limits [] fields ds → TellsHead message head → AreTrailer trailers trailer
@@ -83,11 +83,11 @@ field_digit line d t =
     let rest = 58 ∷ names.set_digits ++ t.end in
     rw names.line_is (begins_with_digit names.rec_digits rest names.is_rec.some names.is_rec.are_digits)
 
--- a line that begins with no digit tells no dataset
+-- A line that does not begin with a digit describes no dataset.
 pub tells_no_field : (line : List ℕ) → is_digit (get_or line 0 0) ≡ false → TellsNone TellsField line
 tells_no_field line h = λ d t. false≢true (sym h ∙ field_digit line d t)
 
--- a line that begins with a digit tells no header
+-- A line that begins with a digit describes no header.
 pub tells_no_head : (line : List ℕ) → is_digit (get_or line 0 0) ≡ true → TellsNone TellsHead line
 tells_no_head line h = λ head t.
     let first : get_or line 0 0 ≡ 109 = ap (λ (l : List ℕ). get_or l 0 0) t.line_is in
@@ -99,12 +99,12 @@ wrong_front : {limits : Limits} {script rest : List ℕ} {stage : Stage} {count 
     × Stands limits script stage rest count × (number ≡ count + 1) × IsNextWrong limits stage rest cause
 wrong_front {rest = rest} {stage = stage} {count = count} few s e w = (few, stage, rest, count, s, e, w)
 
--- no line before the story has these causes
+-- No line before the story has these causes.
 never : (limits : Limits) (stage : Stage) (line : List ℕ) → (IsWrong limits stage line ScriptTooLong → ⊥) × (IsWrong limits stage line BadTextOctet → ⊥)
 never limits (InFields ds) line = (λ w. w, λ w. w)
 never limits _ line = (λ w. w, λ w. w)
 
--- what is refused of the next line is the fault of the script
+-- The error of the next line is the error of the script.
 pub next_fault : {limits : Limits} {script rest : List ℕ} {stage : Stage} {count : ℕ} (number : ℕ) (cause : ScriptCause) → length script ≤ max_script
     → Stands limits script stage rest count → number ≡ number_after count cause → (cause ≡ OutOfMemory) ⊎ IsNextWrong limits stage rest cause
     → IsScriptFault limits script number cause
@@ -126,7 +126,7 @@ pub next_wrong : (limits : Limits) (stage : Stage) {rest line after : List ℕ} 
 next_wrong limits stage n (inl is) = inl is
 next_wrong limits stage {line = line} {after = after} n (inr wrong) = inr (inr (line, after, n, wrong))
 
--- where the line `text` is wanted
+-- where the line `text` is expected
 text_wanted : {limits : Limits} {script : List ℕ} {ds : List Dataset} {head : Header} {trailer rest : List ℕ} {count : ℕ}
     → Past limits script ds head trailer rest count
     → (stage : Stage) × Stands limits script stage rest count × NextMustBe (λ line. (line ≡ text_word → ⊥) → IsWrong limits stage line ScriptLine) rest
@@ -157,7 +157,7 @@ field_added {limits} {script} {rest} {line} {after} old new {count} same s n (d,
     rw fields (stands_on limits script rest line after (InFields old.fields) (InFields (old.fields ++ d ∷ [])) count (count + 1) s n refl
     (field_more limits [] s.lines old.fields line d s.come told (rw same at taken)))
 
--- the next line, where there is one, is as said of this one
+-- The next line, if there is one, is this one, and satisfies the predicate.
 pub next_must_be : (said : List ℕ → Type 0) {rest line after : List ℕ} → NextLine rest line after → said line → NextMustBe said rest
 next_must_be said {rest} {line} {after} n h = λ other more m. subst (λ (l : List ℕ). said l) (next_once rest line after other more n m).0 h
 

@@ -1,4 +1,4 @@
--- The numbers at the front of a line.
+-- The numbers at the start of a line.
 use Rattle.iim_script.proofs.Words.{◌≡◌, ℕ, suc, ◌-◌, Bool, true, false, not, cond, List, [], ◌∷◌, ◌++◌, length, take, drop, get_or, refl, ap, sym, ◌∙◌, subst, position_or_len, list_all, false≢true, and_from, and_parts, one-add, take_rest, take-append-drop, HasNo, TellsNumber, is_digit}
 use Rattle.std.proofs.lemmas.Bool.{not-true}
 use Rattle.iim_script.specs.Format.Scripts.{TellsNames}
@@ -19,7 +19,7 @@ digits_before (x ∷ xs) = rw one-add (front_more x xs (position_or_len no_digit
 pub no_digit_after : (xs : List ℕ) → is_digit (get_or (drop (position_or_len no_digit xs) xs) 0 0) ≡ false
 no_digit_after xs = not-true (is_digit (get_or (drop (position_or_len no_digit xs) xs) 0 0)) (first_passes no_digit 0 xs refl)
 
--- digits, and then no digit, are split in one way
+-- Digits, followed by another octet, are split in one way.
 pub digits_once : (ds es us vs : List ℕ) → list_all is_digit ds ≡ true → list_all is_digit us ≡ true → is_digit (get_or es 0 0) ≡ false
     → is_digit (get_or vs 0 0) ≡ false
     → ds ++ es ≡ us ++ vs → (ds ≡ us) × (es ≡ vs)
@@ -33,7 +33,7 @@ digits_once (d ∷ ds) es (u ∷ us) vs h k n m e =
 pub no_colon : (ds : List ℕ) → list_all is_digit ds ≡ true → HasNo 58 ds
 no_colon ds h = lacks is_digit 58 ds refl h
 
--- what stands before the colon, the digits after it, and what follows them
+-- what precedes the colon, the digits after it, and what follows them
 pub record NamesAt (before after : List ℕ) (n : ℕ) (rec set : ℕ) (end : List ℕ) : Type 0 where
   pub is_rec : TellsNumber before rec
   pub is_set : TellsNumber (take n after) set
@@ -58,7 +58,7 @@ has_names line before after n rec set e at is_rec is_set = record {
   line_is = e ∙ rw take_rest (ap (λ (l : List ℕ). before ++ 58 ∷ l) (sym (take-append-drop n after)));
 }
 
--- a line has one pair of names, and one end after them
+-- A line has at most one pair of numbers, and one rest after them.
 pub names_once : (line : List ℕ) (rec set r s : ℕ) (end other : List ℕ) → TellsNames line rec set end → TellsNames line r s other
     → (rec ≡ r) × (set ≡ s) × (end ≡ other)
 names_once line rec set r s end other t u =
@@ -71,7 +71,7 @@ names_once line rec set r s end other t u =
 pub no_names : (line : List ℕ) (rec set : ℕ) (end : List ℕ) → HasNo 58 line → TellsNames line rec set end → ⊥
 no_names line rec set end h t = has_no_octet 58 t.rec_digits (t.set_digits ++ end) (subst (λ (l : List ℕ). HasNo 58 l) t.line_is h)
 
--- what stands before the colon is no number
+-- what precedes the colon is not a number
 pub no_record : (line before after : List ℕ) (rec set : ℕ) (end : List ℕ) → HasNo 58 before → line ≡ before ++ 58 ∷ after → ((n : ℕ) → TellsNumber before n → ⊥)
     → TellsNames line rec set end → ⊥
 no_record line before after rec set end h e none t = none rec (names_at line before after (position_or_len no_digit after) rec set end h e refl t).is_rec

@@ -5,20 +5,20 @@ use Rattle.std.proofs.lemmas.List.{append_cancel_right}
 use Rattle.iim_script.proofs.Cuts.{cut_once, has_no_octet, has_no_append, lacks}
 use Rattle.wire_story.specs.Format.Texts.{IsLine, IsText, is_line_octet}
 
--- what is without the last is one thing
+-- The list without its last octet is unique.
 without_once : (b : ℕ) (octets xs ys : List ℕ) → WithoutLast b octets xs → WithoutLast b octets ys → xs ≡ ys
 without_once b octets xs ys (inl e) (inl f) = append_cancel_right xs ys (b ∷ []) (sym e ∙ f)
 without_once b octets xs ys (inl e) (inr (f, none)) = absurd (none xs e)
 without_once b octets xs ys (inr (e, none)) (inl f) = absurd (none ys f)
 without_once b octets xs ys (inr (e, none)) (inr (f, other)) = sym e ∙ f
 
--- the next line is one, and so is what follows it
+-- The next line is unique, and so is what follows it.
 pub next_once : (octets l a m b : List ℕ) → NextLine octets l a → NextLine octets m b → (l ≡ m) × (a ≡ b)
 next_once octets l a m b x y =
     let same = cut_once 10 x.ended a y.ended b x.no_feed y.no_feed (sym x.parts ∙ y.parts) in
     (without_once 13 y.ended l m (rw same.0 at x.is_line) y.is_line, same.1)
 
--- where no LF is left there is no next line
+-- if no LF is left there is no next line
 pub no_next : (octets line after : List ℕ) → HasNo 10 octets → NextLine octets line after → ⊥
 no_next octets line after h x = has_no_octet 10 x.ended after (subst (λ (l : List ℕ). HasNo 10 l) x.parts h)
 
@@ -28,7 +28,7 @@ pub lines_append : (octets rest after : List ℕ) (lines others : List (List ℕ
 lines_append octets rest after [] others h k = rw h k
 lines_append octets rest after (line ∷ lines) others (next, n, more) k = (next, n, lines_append next rest after lines others more k)
 
--- one line more
+-- one more line
 pub lines_more : (octets : List ℕ) {rest line after : List ℕ} (lines : List (List ℕ)) → NextLines octets lines rest → NextLine rest line after
     → NextLines octets (lines ++ line ∷ []) after
 lines_more octets {rest} {line} {after} lines h n = lines_append octets rest after lines (line ∷ []) h (after, n, refl)
@@ -64,7 +64,7 @@ no_feeds : (n : ℕ) → HasNo 10 (replicate n 13)
 no_feeds zero = tt
 no_feeds (suc n) = (refl, no_feeds n)
 
--- what stands before the first LF of a text, and what after it
+-- what precedes the first LF of a text, and what follows it
 first_end : (line rest : List ℕ) (n : ℕ) → line ++ ((replicate n 13 ++ 10 ∷ []) ++ rest) ≡ (line ++ replicate n 13) ++ 10 ∷ rest
 first_end line rest n = simp append_assoc
 

@@ -21,7 +21,7 @@ bits a b m n e = grind arith
 plain_octet : (b : ℕ) → b < 256 → is_low b ≡ (b == 10) → is_plain b ≡ true
 plain_octet b fits e = grind (arith, nat_tests)
 
--- where just the LF are low, all are plain
+-- if exactly the LF are low, all octets are allowed
 pub plain_front : (n : ℕ) (xs : List ℕ) → ((k : ℕ) → get_or xs k 0 < 256) → mask_l (map is_low (take n xs)) ≡ mask_l (map (λ b. b == 10) (take n xs))
     → IsTrue (list_all is_plain (take n xs))
 plain_front zero xs fits e = refl
@@ -35,7 +35,7 @@ plain_front (suc n) (x ∷ xs) fits e =
 line_octet : (b : ℕ) → is_plain b ≡ true → (b == 10) ≡ false → is_line_octet b ≡ true
 line_octet b h e = grind (arith, nat_tests)
 
--- each of the lines may stand in a text
+-- each of the lines is allowed in a text
 abbrev Each : List (List ℕ) → Type 0
 Each = AllByRecursion IsLine
 
@@ -66,7 +66,7 @@ joined_text (line ∷ next ∷ lines) some h =
 ends_line : (line after : List ℕ) → IsLine line → NextLine (line ++ 10 ∷ after) line after
 ends_line line after is = ended (line ++ 10 ∷ after) line after refl (no_feed line is) (lacks is_line_octet 13 line refl is)
 
--- The last of the lines is not ended.
+-- The last of the lines has no end.
 record Open (lines : List (List ℕ)) (text : List ℕ) : Type 0 where
   before : List (List ℕ)
   last : List ℕ
@@ -83,7 +83,7 @@ last_open (line ∷ next ∷ lines) some h =
     let lines_are = ap (λ (ls : List (List ℕ)). line ∷ ls) o.lines_are in
     record { before = line ∷ o.before; last = o.last; lines_are = lines_are; lined = (rest, ends_line line rest h.0, o.lined); none = o.none }
 
--- Each of them is.
+-- Each line has its end.
 all_ended : (lines : List (List ℕ)) → 0 < length lines → Each lines → NextLines (join_with_byte 10 lines ++ 10 ∷ []) lines []
 all_ended [] some h = absurd (omega (arith, some))
 all_ended (line ∷ []) some h = ([], ends_line line [] h.0, refl)
@@ -91,7 +91,7 @@ all_ended (line ∷ next ∷ lines) some h =
     let rest : List ℕ = join_with_byte 10 (next ∷ lines) in
     (rest ++ 10 ∷ [], rw (append_assoc line (10 ∷ rest) (10 ∷ [])) (ends_line line (rest ++ 10 ∷ []) h.0), all_ended (next ∷ lines) (omega arith) h.1)
 
--- lines that are ended have an LF at their end
+-- lines that all have their ends have an LF at the end
 feed_at_last : (line : List ℕ) (lines : List (List ℕ)) (octets rest : List ℕ) → NextLines octets (line ∷ lines) rest
     → (front : List ℕ) × (octets ≡ front ++ 10 ∷ rest)
 feed_at_last line [] octets rest (after, n, e) = (n.ended, rw e at n.parts)
@@ -105,9 +105,9 @@ stands_alone [] last text lined not empty = refl
 stands_alone (line ∷ lines) last text lined not empty = let (front, e) = feed_at_last line lines text last lined in
     absurd (not front (e ∙ ap (λ (l : List ℕ). front ++ 10 ∷ l) empty))
 
--- ---- the whole
+-- ---- the complete story
 
--- what is printed of a story is one
+-- What is printed of a story is a story.
 pub story_printed : (story : List ℕ) (lines : List (List ℕ)) → 0 < length lines → Each lines → PrintsStory story lines → IsStory story lines
 story_printed story lines some each (inl is) = (some, inl (rw is (all_ended lines some each)))
 story_printed story lines some each (inr (is, alone)) =
@@ -147,7 +147,7 @@ plain_more xs at n h more = rw (take-add, list_all-append, h, more) refl
 pub plain_all : (xs : List ℕ) (at : ℕ) → IsTrue (list_all is_plain (take at xs)) → IsTrue (list_all is_plain (drop at xs)) → IsTrue (list_all is_plain xs)
 plain_all xs at h rest = let whole = list_all-append is_plain (take at xs) (drop at xs) in rw (take-append-drop, h, rest) at whole
 
--- the next ones after those before them, and the rest
+-- the next octets after those before them, and the rest
 pub count_next : (p : ℕ → Bool) (xs : List ℕ) (at n : ℕ) → count_by p (take n (drop at xs)) + count_by p (drop (at + n) xs) ≡ count_by p (drop at xs)
 count_next p xs at n =
     ap (λ (ys : List ℕ). count_by p (take n (drop at xs)) + count_by p ys) (sym (drop-drop n at xs)) ∙ sum_by-take-drop (λ x. cond (p x) 1 0) (drop at xs) n

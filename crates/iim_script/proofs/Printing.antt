@@ -1,4 +1,4 @@
--- What is printed tells what it is printed of, and ends in lines.
+-- What is printed describes what it was printed from, and ends in lines.
 use Rattle.iim_script.proofs.Words.{◌≡◌, inl, inr, ℕ, ◌+◌, ◌/◌, ◌%◌, ◌<◌, ◌≤◌, ◌==◌, ◌&&◌, nat_le, nat_lt, Bool, true, false, cond, List, [], ◌∷◌, ◌++◌, append_assoc, length, map, get_or, refl, sym, subst, arith, AllByRecursion, list_all, flat_map, false≢true, and_from, and_parts, nat_tests, is_letter, is_digit, Dataset, is_alphanumeric, Header, IsHeader, HasNo, NextLine, NextLines, IsHexDigit, TellsOctets, TellsLast, TellsNumber, TellsField, TellsHead, TellsTrailer, head_words, shown_octet, shown, field_line, message_line, trailer_line}
 use Rattle.std.specs.Prelude.{codes, decimal}
 use Rattle.std.proofs.lemmas.Bool.{leb-true, le-leb}
@@ -25,7 +25,7 @@ octet_by octet rest false e h = inr (
   (octet / 16, octet % 16, hex (octet / 16) (omega (arith, h)), hex (octet % 16) (omega arith), omega arith),
 )
 
--- shown octets tell the octets
+-- octets printed with escapes encode the octets
 pub shown_tells : (xs : List ℕ) → Octets xs → TellsOctets (shown xs) xs
 shown_tells [] h = refl
 shown_tells (x ∷ xs) h = (shown xs, octet_by x (shown xs) (is_plain x) refl h.0, shown_tells xs h.1)
@@ -34,7 +34,7 @@ pub after_tells : (xs : List ℕ) → Octets xs → TellsLast (after_space xs) x
 after_tells [] h = refl
 after_tells (x ∷ xs) h = (shown (x ∷ xs), refl, shown_tells (x ∷ xs) h)
 
--- ---- octets below 20 are none of what is shown
+-- ---- octets below 20 hex do not occur in printed octets
 
 other : (x b : ℕ) → b < x → (x == b) ≡ false
 other x b h = grind (arith, nat_tests)
@@ -70,7 +70,7 @@ digits_test = record {
   more = λ c cs is h. and_from (is_digit c) (list_all is_digit cs) (and_from (nat_le 48 c) (nat_le c 57) (le-leb 48 c is.0) (le-leb c 57 is.1)) h;
 }
 
--- the digits of a script are those of Rust
+-- the decimal digits of a script are those that Rust prints
 numerals : IsNumeralModel (λ ds. list_all is_digit ds ≡ true) (decimal_from 0)
 numerals = numerals_by_fold (λ ds. list_all is_digit ds ≡ true) digits_test decimal_from (record { empty = λ n. refl; more = λ n c cs is. refl })
 
@@ -138,7 +138,7 @@ field_ends : (d : Dataset) (after : List ℕ) → IsPrintable d → NextLine (fi
 field_ends d after h =
     ended (field_line d ++ after) (field_words d) after (field_ended d after) (field_lacks 10 d (omega arith) refl h) (field_lacks 13 d (omega arith) refl h)
 
--- the lines of datasets, before others
+-- the lines of datasets, followed by others
 pub fields_end : (ds : List Dataset) (lines : List (List ℕ)) (octets after : List ℕ) → AllByRecursion IsPrintable ds → NextLines octets lines after
     → NextLines (flat_map field_line ds ++ octets) (map field_words ds ++ lines) after
 fields_end [] lines octets after h ends = ends
@@ -164,7 +164,7 @@ head_told head h = record {
   line_is = refl;
 }
 
--- a word of the header, SP, and what follows
+-- a field of the header, SP, and what follows
 word_lacks : (test : ℕ → Bool) (b : ℕ) (word rest : List ℕ) → b < 32 → test b ≡ false → Are test word → HasNo b rest → HasNo b (word ++ (32 ∷ rest))
 word_lacks test b word rest small fails h k = has_no_append b word (32 ∷ rest) (lacks test b word fails h) (other 32 b small, k)
 

@@ -1,4 +1,5 @@
--- What is put at places of a text: digits, octets that stand for themselves, and the lines of datasets.
+-- What is written into a text at an index: digits, octets without escapes, and the lines of
+-- datasets.
 use Rattle.iim_script.proofs.Words.{◌≡◌, ℕ, ◌+◌, ◌/◌, ◌%◌, ◌<◌, ◌≤◌, List, [], ◌∷◌, ◌++◌, ap, ◌∙◌, arith, ◌&&◌, Bool, true, not, nat_eq, nat_le, length, map, take, refl, sym, append_assoc, list_all, flat_map, shown, Dataset, field_line}
 use Rattle.std.proofs.Common.{decimal, append-nil, bit_and}
 use Rattle.std.proofs.lemmas.Fmt.{decimal_digit, decimal_step}
@@ -18,9 +19,9 @@ pub three_digits : (n : ℕ) → 100 ≤ n → n < 1000 → decimal n ≡ (48 + 
 three_digits n least most =
     decimal_step n (omega arith) (omega arith) ∙ ap (λ (xs : List ℕ). xs ++ (48 + n % 10) ∷ []) (two_digits (n / 10) (omega arith) (omega arith))
 
--- ---- octets that stand for themselves, several of them tested at once
+-- ---- octets without escapes, several of them checked at once
 
--- the lanes of octets that stand for themselves
+-- the lanes of octets without escapes
 abbrev plain_lanes : ℕ → List ℕ → List ℕ
 plain_lanes n xs = zip2 bit_and (zip2 bit_and (from_on n 32 xs) (up_to n 126 xs)) (other_than n 92 xs)
 
@@ -35,20 +36,20 @@ plain_told (x ∷ xs) = λ i. plain_lane (nat_le 32 x) (nat_le x 126) (not (nat_
 pub plain_part : (xs : List ℕ) (n : ℕ) → n ≤ length xs → n ≤ 64 → are_set n (plain_lanes n (take n xs)) ≡ list_all is_plain (take n xs)
 plain_part xs n room le = first_of xs n room le is_plain plain_lanes plain_told
 
--- where all stand for themselves they are shown as they are
+-- octets that all need no escape are printed as they are
 pub all_plain : (xs : List ℕ) → list_all is_plain xs ≡ true → shown xs ≡ xs
 all_plain xs all = sym (ap shown (append-nil xs)) ∙ (shown_plain xs [] all ∙ append-nil xs)
 
--- ---- text with room after it, into which the lines of datasets are put
+-- ---- a text with capacity after it, into which the lines of datasets are written
 
--- what was put into a text stands there
+-- what was written into a text is at its index
 pub stands : (end len : ℕ) (line rest : List ℕ) → end ≤ len → end ≤ length line → take end (take len (line ++ rest)) ≡ take end line
 stands end len line rest within short = take-take end len (line ++ rest) within ∙ take-append-le end line rest short
 
 shown_one : (done : List Dataset) (d : Dataset) → flat_map field_line (done ++ d ∷ []) ≡ flat_map field_line done ++ field_line d
 shown_one done d = flat_map-append field_line done (d ∷ []) ∙ ap (λ (l : List ℕ). flat_map field_line done ++ l) (append-nil (field_line d))
 
--- one line more
+-- one more line
 pub line_more : (old front new : List ℕ) (done : List Dataset) (d : Dataset) → front ≡ old ++ flat_map field_line done → new ≡ front ++ field_line d
     → new ≡ old ++ flat_map field_line (done ++ d ∷ [])
 line_more old front new done d so_far more =

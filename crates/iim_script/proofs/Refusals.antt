@@ -1,4 +1,4 @@
--- Of a text the reader refuses no octet: only the sink can.
+-- The reader of stories rejects no octet of a text: only the sink can.
 use Rattle.std.proofs.Common.{◌≡◌, ℕ, ◌<◌, ◌+◌, List, [], ◌∷◌, ◌++◌, length, map, take, drop, slice_index, refl, sym, ap, ◌∙◌}
 use Rattle.std.proofs.lemmas.List.{take_more, take-append-drop}
 use Rattle.wire_story.proofs.SoFar.{with_end-append, map_snoc}
@@ -7,7 +7,7 @@ use Rattle.wire_story.specs.States.Reading.{HasCause}
 use Rattle.wire_story.specs.declared.fault.TextCause.{TextCause}
 use Rattle.wire_story.specs.declared.fault.TextCause.TheVariants.{LoneReturn, ControlOctet, Sink}
 
--- a story can continue from each prefix of a text
+-- each prefix of a text is a viable prefix of a story
 prefix_lives : (text : List ℕ) (lines : List (List ℕ)) (n : ℕ) → IsText text lines → LivesWith (take n text)
 prefix_lives text lines n h = (
   with_end (drop n text),
@@ -19,7 +19,7 @@ prefix_lives text lines n h = (
   },
 )
 
--- so it dies with no octet of the text
+-- so no octet of the text makes it unviable
 no_octet_dies : (text : List ℕ) (lines : List (List ℕ)) (n : ℕ) → IsText text lines → n < length text
     → StoryDiesAt (take n text) (Octet (slice_index text n)) → ⊥
 no_octet_dies text lines n h inside dies = dies.1 (
@@ -35,7 +35,7 @@ no_octet_dies text lines n h inside dies = dies.1 (
       },
     ))
 
--- why an octet of a text is refused
+-- why an octet of a text is rejected
 pub sink_alone : (text : List ℕ) (lines : List (List ℕ)) (n : ℕ) (cause : TextCause) → IsText text lines → n < length text
     → HasCause cause (take n text) (slice_index text n) → cause ≡ Sink
 sink_alone text lines n LoneReturn h inside c = absurd (no_octet_dies text lines n h inside c.0)

@@ -1,4 +1,5 @@
--- Scripts line by line: what a line tells and leads to is one thing, and so is what lines lead to.
+-- Scripts line by line: the contents of a line and the state after it are unique, and so is the
+-- state after several lines.
 use Rattle.iim_script.proofs.Words.{◌≡◌, ℕ, List, ◌∷◌, ◌++◌, get_or, drop, refl, ap, sym, ◌∙◌, subst, arith, ◌⊎◌, inl, inr, ◌+◌, [], append_assoc, length, length-append, None, AllByRecursion, IsLine, Dataset, Header, TellsLast, TellsField, TellsHead, TellsTrailer, head_words, text_word, add_fault, finish_fault, Limits, NextLine, NextLines, AreFieldLines, AreTrailer, IsFront, Stage, InFields, AfterMessage, AfterTrailer, HaveCome, Stands, IsNextWrong, ScriptLine, Field, BadTrailer, ScriptCause}
 use Rattle.std.proofs.Common.{append-nil}
 use Rattle.iim_dataset.proofs.Spelled.{dataset_is}
@@ -8,7 +9,7 @@ use Rattle.iim_script.proofs.{Fronts.field_digit, Fronts.tells_no_head, Next.nex
 use Rattle.iim_fields.specs.declared.fault.FieldCause.{FieldCause}
 use Rattle.iim_script.specs.Format.Causes.{EndsTooSoon, IsWrong}
 
--- ---- what a line tells is one thing
+-- ---- the contents of a line are unique
 
 pub field_once : (line : List ℕ) (d e : Dataset) → TellsField line d → TellsField line e → d ≡ e
 field_once line d e t u =
@@ -33,14 +34,15 @@ text_no_trailer octets t =
     let second : 101 ≡ 114 = ap (λ (l : List ℕ). get_or l 1 0) t.line_is in
     absurd (omega (arith, second))
 
--- ---- places
+-- ---- states
 
--- where a script is: before its line `text`, or after it, with what the lines tell and the lines of the story so far
+-- the state within a script: before its line `text`, or after it, with the contents of the lines
+-- and the lines of the story so far
 pub data Place : Type 0 where
   At : Stage → Place
   InStory : List Dataset → Header → List ℕ → List (List ℕ) → Place
 
--- What a line leads to.
+-- The state after a line.
 abbrev pub Leads : Limits → Place → List ℕ → Place → Type 0
 Leads limits (At (InFields ds)) line next =
     ((d : Dataset) × TellsField line d × (add_fault limits ds d ≡ None) × (next ≡ At (InFields (ds ++ d ∷ []))))
@@ -67,7 +69,7 @@ leads_once limits (At (AfterMessage ds head)) line next other (inr (is, a, e)) (
 leads_once limits (At (AfterTrailer ds head trailer)) line next other h k = h.2 ∙ sym k.2
 leads_once limits (InStory ds head trailer done) line next other h k = h.1 ∙ sym k.1
 
--- What lines lead to, one after another.
+-- The state after lines, one after another.
 abbrev pub Path : Limits → Place → List (List ℕ) → Place → Type 0
 Path limits place [] end = place ≡ end
 Path limits place (line ∷ lines) end = (next : Place) × Leads limits place line next × Path limits next lines end
@@ -77,11 +79,11 @@ path_on : (limits : Limits) (place : Place) (lines others : List (List ℕ)) (ne
 path_on limits place [] others next end p q = rw p q
 path_on limits place (line ∷ lines) others next end (there, leads, p) q = (there, leads, path_on limits there lines others next end p q)
 
--- The next line leads on.
+-- The next line is accepted.
 abbrev pub Onward : Limits → Place → List ℕ → Type 0
 Onward limits place rest = (line : List ℕ) × (after : List ℕ) × (next : Place) × NextLine rest line after × Leads limits place line next
 
--- Octets from which no line leads on are reached in one way.
+-- Octets after which no line is accepted are reached in one way.
 walk_once : (limits : Limits) (place : Place) (lines others : List (List ℕ)) (octets : List ℕ) (end other : Place) (rest left : List ℕ)
     → NextLines octets lines rest → Path limits place lines end → NextLines octets others left → Path limits place others other
     → (Onward limits end rest → ⊥) → (Onward limits other left → ⊥) → (lines ≡ others) × (end ≡ other) × (rest ≡ left)
@@ -101,14 +103,14 @@ walk_once limits place (l ∷ lines) (m ∷ others) octets end other rest left (
 abbrev pub start : Place
 start = At (InFields [])
 
--- The octets begin with `count` lines, which lead to this place, and this is left.
+-- The octets begin with `count` lines, which reach this state, and this is the rest.
 pub record Run (limits : Limits) (octets : List ℕ) (place : Place) (rest : List ℕ) (count : ℕ) : Type 0 where
   pub lines : List (List ℕ)
   pub lined : NextLines octets lines rest
   pub path : Path limits start lines place
   pub count_is : count ≡ length lines
 
--- Two runs that no line leads on from are one.
+-- Two runs after which no line is accepted are equal.
 pub runs_once : (limits : Limits) (octets : List ℕ) (place other : Place) (rest left : List ℕ) (n m : ℕ) → Run limits octets place rest n
     → Run limits octets other left m
     → (Onward limits place rest → ⊥) → (Onward limits other left → ⊥) → (place ≡ other) × (rest ≡ left) × (n ≡ m)
@@ -116,7 +118,7 @@ runs_once limits octets place other rest left n m r k f g =
     let one = walk_once limits start r.lines k.lines octets place other rest left r.lined r.path k.lined k.path f g in
     (one.1, one.2, omega (arith, ap length one.0, r.count_is, k.count_is))
 
--- ---- what has come is a run
+-- ---- the lines read so far are a run
 
 fields_path : (limits : Limits) (before : List Dataset) (lines : List (List ℕ)) (ds : List Dataset) → AreFieldLines limits before lines ds
     → Path limits (At (InFields before)) lines (At (InFields (before ++ ds)))
@@ -163,7 +165,7 @@ story_path limits ds head trailer done (line ∷ more) h =
     let next = InStory ds head trailer (done ++ line ∷ []) in
     (next, (h.0, refl), rw (← append_assoc done (line ∷ []) more) (story_path limits ds head trailer (done ++ line ∷ []) more h.1))
 
--- what stands before the story, and lines of the story after it, are a run
+-- what precedes the story, and lines of the story after it, are a run
 pub story_run : (limits : Limits) (octets story rest : List ℕ) (ds : List Dataset) (head : Header) (trailer : List ℕ)
     → (done : List (List ℕ)) (text_line : ℕ) → IsFront limits octets ds head trailer text_line story
     → NextLines story done rest → AllByRecursion IsLine done → Run limits octets (InStory ds head trailer done) rest (text_line + length done)
@@ -180,7 +182,7 @@ story_run limits octets story rest ds head trailer done text_line f lined each =
       count_is = omega (arith, f.text_line_is, length-append lines done, length-append f.field_lines body, length-append f.trailers (text_word ∷ []));
     }
 
--- ---- what is wrong leads nowhere, and is wrong for one cause
+-- ---- an invalid line is not accepted, and has one cause
 
 too_soon_once : (ds : List Dataset) (line : List ℕ) (a b : FieldCause) → EndsTooSoon ds line a → EndsTooSoon ds line b → a ≡ b
 too_soon_once ds line a b (f, is, e, p) (g, js, h, q) = cc

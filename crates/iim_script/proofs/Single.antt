@@ -1,26 +1,27 @@
--- Octets tell one script or have one fault.
+-- Octets are one script or have one error.
 use Rattle.iim_script.proofs.Words.{◌≡◌, ◌⊎◌, inl, inr, ℕ, ◌+◌, ◌<◌, ◌≤◌, List, [], ◌∷◌, ◌++◌, length, refl, ap, sym, ◌∙◌, arith, AllByRecursion, Dataset, all_front, all_last, Limits, Header, IsLine, HasNo, NextLine, IsStory, IsScript, max_script, IsNextWrong, Stage, Stands, IsScriptFault, OutOfMemory, ScriptCause}
 use Rattle.iim_script.specs.Format.Causes.{IsStoryFault, ScriptTooLong, BadTextOctet}
 use Rattle.iim_script.proofs.Next.{next_once, no_next}
 use Rattle.iim_script.proofs.Runs.{Place, At, InStory, Run, Onward, runs_once, stands_run, story_run, next_wrong_stuck, next_wrong_once}
 
--- ---- where octets end
+-- ---- the end of the octets
 
--- This line stands there: with its end, or as what is left.
+-- This is the line here: with its end, or as the rest.
 abbrev IsThere : List ℕ → List ℕ → Type 0
 IsThere rest line = ((after : List ℕ) × NextLine rest line after) ⊎ (HasNo 10 rest × (line ≡ rest))
 
--- the line that stands there is the next one, or what is left
+-- the line here is the next one, or the rest
 line_there : (rest line next after : List ℕ) → NextLine rest next after → IsThere rest line → next ≡ line
 line_there rest line next after n (inl (more, k)) = (next_once rest next after line more n k).0
 line_there rest line next after n (inr last) = absurd (no_next rest next after last.0 n)
 
--- the line there, where no LF is left
+-- the line here, if no LF is left
 last_there : (rest line : List ℕ) → HasNo 10 rest → IsThere rest line → line ≡ rest
 last_there rest line none (inl (after, n)) = absurd (no_next rest line after none n)
 last_there rest line none (inr last) = last.1
 
--- Why octets that stand here are no script: the next line is wrong, before the story or in it.
+-- Why octets that reach this state are no script: the next line is invalid, before the story or in
+-- it.
 abbrev Ends : Limits → Place → List ℕ → ScriptCause → Type 0
 Ends limits (At stage) rest cause = IsNextWrong limits stage rest cause
 Ends limits (InStory ds head trailer done) rest cause = (line : List ℕ) × IsThere rest line × (IsLine line → ⊥) × (cause ≡ BadTextOctet)
@@ -34,7 +35,7 @@ ends_once : (limits : Limits) (place : Place) (rest : List ℕ) (a b : ScriptCau
 ends_once limits (At stage) rest a b e f = next_wrong_once limits stage rest a b e f
 ends_once limits (InStory ds head trailer done) rest a b e f = e.3 ∙ sym f.3
 
--- a run that ends with a fault
+-- a run that ends with an error
 record Fails (limits : Limits) (octets : List ℕ) (number : ℕ) (cause : ScriptCause) : Type 0 where
   place : Place
   rest : List ℕ
@@ -68,7 +69,8 @@ fails_once limits octets n m a b f g =
 
 -- ---- scripts
 
--- The lines are those that have ended, or these and a last one, which may be empty only where it stands alone.
+-- The lines are those with an end, or these and a last one, which may be empty only if it is the
+-- only one.
 abbrev LinesAre : List (List ℕ) → List (List ℕ) → List ℕ → Type 0
 LinesAre lines done rest = ((rest ≡ []) × (lines ≡ done) × (0 < length done)) ⊎ ((lines ≡ done ++ rest ∷ []) × (rest ≡ [] → done ≡ []))
 
@@ -77,12 +79,12 @@ lines_once lines others done rest h k =
     let short = ap {A = List (List ℕ)} {B = ℕ} length {x = done} {y = []} in
     grind arith
 
--- what is left of a story may stand in a text, where its lines may
+-- the rest of a story is allowed in a text if its lines are
 good_rest : (lines done : List (List ℕ)) (rest : List ℕ) → LinesAre lines done rest → AllByRecursion IsLine lines → IsLine rest
 good_rest lines done rest (inl h) texts = rw h.0 refl
 good_rest lines done rest (inr h) texts = all_last IsLine done rest (rw h.0 at texts)
 
--- a run that ends with what is left after the lines of the story that have ended
+-- a run that ends with the rest after the lines of the story that have an end
 record Whole (limits : Limits) (octets : List ℕ) (ds : List Dataset) (head : Header) (trailer : List ℕ) (lines : List (List ℕ)) (text_line : ℕ) : Type 0 where
   done : List (List ℕ)
   rest : List ℕ
@@ -109,7 +111,7 @@ whole limits octets ds head trailer lines text_line s (some, inr (before, last, 
   lines_are = inr (is, alone);
 }
 
--- no line leads on where no LF is left
+-- no line is accepted if no LF is left
 none_stuck : (limits : Limits) (place : Place) (rest : List ℕ) → HasNo 10 rest → Onward limits place rest → ⊥
 none_stuck limits place rest none (line, after, next, n, leads) = no_next rest line after none n
 
@@ -139,9 +141,9 @@ scripts_once limits octets fields others head other trailer end lines more n m s
     let same_lines = lines_once lines more v.done v.rest (rw (same_done, one.1) at w.lines_are) v.lines_are in
     (cc, cc, cc, same_lines, omega (arith, one.2, ap length same_done))
 
--- ---- faults
+-- ---- errors
 
--- too many octets, no memory, or a line that is wrong
+-- too many octets, an allocation failure, or an invalid line
 abbrev Kind : Limits → List ℕ → ℕ → ScriptCause → Type 0
 Kind limits octets number cause =
     (cause ≡ OutOfMemory)

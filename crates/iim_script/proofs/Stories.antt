@@ -11,8 +11,8 @@ use Rattle.iim_script.proofs.Next.{lines_more, count_more}
 abbrev pub IsLastLine : List ℕ → List ℕ → Type 0
 IsLastLine rest line = NextLine rest line [] ⊎ (HasNo 10 rest × (line ≡ rest))
 
--- The lines of a story so far, and what is left of it: what makes a text of the rest makes one of all, and so many octets are added
--- where it is packed.
+-- The lines of a story so far, and the rest of it: what makes a text of the rest makes a text of
+-- the whole, and adds this many octets to its packed size.
 pub record StoryStands (story : List ℕ) (before : ℕ) (rest : List ℕ) (count len : ℕ) : Type 0 where
   pub done : List (List ℕ)
   pub front : List ℕ
@@ -37,7 +37,7 @@ story_begins story before = record {
   len_is = λ lines some. omega arith;
 }
 
--- a line with its end goes before a text
+-- a line with its end precedes a text
 text_more : (line ended left : List ℕ) (lines : List (List ℕ)) → IsLine line → WithoutLast 13 ended line → IsText left lines
     → IsText (ended ++ 10 ∷ left) (line ∷ lines)
 text_more line ended left [] is ends h = absurd h
@@ -72,7 +72,7 @@ is_whole story rest line before count len s (inl n) =
 is_whole story rest line before count len s (inr (none, is)) =
     (omega (arith, count_more s.done line), inr (s.done, line, refl, rw is s.lined, rw is none, λ empty. s.more (sym is ∙ empty)))
 
--- the last line begins what is left
+-- the last line is the beginning of the rest
 last_begins : (rest line : List ℕ) → IsLastLine rest line → (end : List ℕ) × (rest ≡ line ++ end)
 last_begins rest line (inl n) =
     elim n.is_line [ inl e ↦ (13 ∷ 10 ∷ [], rw (n.parts, e) (simp append_assoc)) | inr e ↦ (10 ∷ [], rw (n.parts, e.0) refl) ]

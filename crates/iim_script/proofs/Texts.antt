@@ -1,4 +1,4 @@
--- Octets as text.
+-- Octets printed as text.
 use Rattle.std.proofs.Common.{◌≡◌, inl, inr, ℕ, ◌-◌, ◌<◌, ◌≤◌, List, [], ◌∷◌, ◌++◌, append_assoc, length, take, drop, get_or, refl, ap, sym, ◌∙◌, subst, arith}
 use Rattle.std.proofs.lemmas.List.{take_rest, append-nil}
 use Rattle.iim_script.specs.Format.Scripts.{IsHexDigit, IsOfDigits, BeginsWith, TellsOctets, TellsLast}
@@ -18,7 +18,7 @@ pub three_of : (xs : List ℕ) → 3 ≤ length xs → length xs < 4 → xs ≡ 
 three_of (x ∷ y ∷ z ∷ []) some few = refl
 three_of xs some few = absurd (omega (arith, some, few))
 
--- an escape at the front
+-- an escape at the start
 pub escape_begins : (after : List ℕ) (octet : ℕ) → 3 ≤ length after → get_or after 0 0 ≡ 120 → IsOfDigits (get_or after 1 0) (get_or after 2 0) octet
     → BeginsWith (92 ∷ after) octet (take (length after - 3) (drop 3 after))
 escape_begins after octet some x digits =
@@ -27,7 +27,7 @@ escape_begins after octet some x digits =
     let rest = take (length after - 3) (drop 3 after) in
     inr (high, low, ap (λ (l : List ℕ). 92 ∷ l) (three_and_rest after some ∙ ap (λ (n : ℕ). n ∷ high ∷ low ∷ rest) x), digits)
 
--- what begins with a backslash and an octet begins with an escape
+-- what begins with a backslash and encodes an octet begins with an escape
 pub escape_at : (after rest : List ℕ) (octet : ℕ) → BeginsWith (92 ∷ after) octet rest
     → (3 ≤ length after) × (get_or after 0 0 ≡ 120) × IsOfDigits (get_or after 1 0) (get_or after 2 0) octet
 escape_at after rest octet (inl (other, e)) = absurd (other (cc))
@@ -50,7 +50,8 @@ octet_once high low a b (h, l, is_h, is_l, e) (k, m, is_k, is_m, f) =
 pub begins_once : (text rest more : List ℕ) (a b : ℕ) → BeginsWith text a rest → BeginsWith text b more → (a ≡ b) × (rest ≡ more)
 begins_once text rest more a b h k = let once = octet_once in grind arith
 
--- What is told of a text so far, with what is left of it: it leads to what the whole text tells, and to nothing else.
+-- The octets of a text so far, and the rest of it: together they encode the octets of the whole
+-- text, and nothing else.
 pub record Onto (text octets rest : List ℕ) : Type 0 where
   pub leads : (ys : List ℕ) → TellsOctets rest ys → TellsOctets text (octets ++ ys)
   pub only : (all : List ℕ) → TellsOctets text all → (ys : List ℕ) × (all ≡ octets ++ ys) × TellsOctets rest ys
@@ -71,7 +72,7 @@ onto_step text octets rest more octet onto begins = record {
   only = λ all told. let h = onto.only all told in only_step octets rest more h.0 all octet begins h.1 h.2;
 }
 
--- nothing is left
+-- the rest is empty
 pub onto_end : (text octets rest : List ℕ) → Onto text octets rest → length rest ≡ 0 → TellsOctets text octets
 onto_end text octets [] onto none = subst (λ (l : List ℕ). TellsOctets text l) (append-nil octets) (onto.leads [] refl)
 onto_end text octets (x ∷ rest) onto none = absurd (omega (arith, none))
@@ -80,18 +81,18 @@ no_start : (rest ys : List ℕ) → (0 < length rest) → ((octet : ℕ) (more :
 no_start rest [] some none told = absurd (omega (arith, some, ap length told))
 no_start rest (y ∷ ys) some none (more, begins, told) = none y more begins
 
--- what is left begins with no octet
+-- the rest begins with no valid octet
 pub onto_none : (text octets rest : List ℕ) → Onto text octets rest → (0 < length rest) → ((octet : ℕ) (more : List ℕ) → BeginsWith rest octet more → ⊥)
     → (all : List ℕ) → TellsOctets text all → ⊥
 onto_none text octets rest onto some none all told = let h = onto.only all told in no_start rest h.0 some none h.2
 
--- what ends a line, where SP begins it
+-- the rest of a line, if it begins with SP
 pub no_last : (end text : List ℕ) → end ≡ 32 ∷ text → ((octets : List ℕ) → TellsOctets text octets → ⊥) → (octets : List ℕ) → TellsLast end octets → ⊥
 no_last end text e none [] told = absurd (omega (arith, ap length (sym e ∙ told)))
 no_last end text e none (octet ∷ octets) (other, is, told) =
     none (octet ∷ octets) (subst (λ (l : List ℕ). TellsOctets l (octet ∷ octets)) (ap (λ (l : List ℕ). drop 1 l) (sym is ∙ e)) told)
 
--- a text tells one thing
+-- a text encodes at most one list of octets
 pub tells_once : (text xs ys : List ℕ) → TellsOctets text xs → TellsOctets text ys → xs ≡ ys
 tells_once text [] [] h k = refl
 tells_once text [] (y ∷ ys) h (rest, begins, told) = absurd (none_left text y rest begins h)

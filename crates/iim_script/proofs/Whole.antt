@@ -1,4 +1,4 @@
--- What is printed of an envelope is a script: a builder takes its datasets.
+-- What is printed of an envelope is a script: a builder accepts its datasets.
 use Rattle.iim_script.proofs.Words.{◌≡◌, ℕ, ◌<◌, true, List, [], ◌∷◌, ◌++◌, append_assoc, length, refl, ap, sym, ◌∙◌, subst, arith, Option, None, map, AllByRecursion, flat_map, eq-eqb, Dataset, all_append, finish_fault, Limits, AreFieldLines, Header, IsHeader, text_word, NextLines, field_line, message_line, trailer_line}
 use Rattle.std.specs.Option.{option_or}
 use Rattle.std.proofs.lemmas.List.Elements.{filter-append}
@@ -29,9 +29,9 @@ all_printable ds e =
     (all_append IsPrintable e.r1 e.r2 (all_map (OfRecord 1) IsPrintable e.r1 (printable 1 (omega arith)) e.envelope.each)
     (all_map (OfRecord 2) IsPrintable e.r2 (printable 2 (omega arith)) e.application.each))
 
--- ---- no fault
+-- ---- no error
 
--- the lines of the datasets of an envelope that are left, after those before them
+-- the lines of the remaining datasets of an envelope, after those before them
 fields_are : DatasetsOfEnvelopesAreAdded → (limits : Limits) (before ds : List Dataset) → IsEnvelope (before ++ ds)
     → IsWithin limits (length (joined (before ++ ds))) (length (before ++ ds))
     → AllByRecursion IsPrintable ds → AreFieldLines limits before (map field_words ds) ds

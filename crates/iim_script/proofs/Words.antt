@@ -1,4 +1,4 @@
--- The names that several proofs bring in, passed on from one place.
+-- Names that several proofs use, re-exported from one module.
 pub use Rattle.iim_dataset.proofs.Each.{all_append, all_front, all_last}
 pub use Rattle.iim_dataset.specs.Format.Datasets.{Dataset, shown, shown_octet}
 pub use Rattle.iim_dataset.specs.Format.Octets.{is_digit, is_letter}

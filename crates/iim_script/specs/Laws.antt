@@ -1,4 +1,4 @@
--- What holds of all lines of scripts, and of all scripts.
+-- Statements of the lemmas about the lines of scripts, and about scripts.
 use Rattle.std.specs.Prelude.{◌≡◌, ◌⊎◌, ℕ, ◌+◌, ◌<◌, ◌≤◌, List, length}
 use Rattle.std.specs.List.{AllByRecursion}
 use Rattle.iim_dataset.specs.Format.Datasets.{Dataset}
@@ -9,49 +9,52 @@ use Rattle.wire_story.specs.Format.Texts.{IsLine}
 use Rattle.iim_script.specs.Format.Scripts.{NextLine, TellsField, TellsHead, TellsTrailer, text_word, PrintsStory, script_of, IsScript, max_script}
 use Rattle.iim_script.specs.Format.Causes.{IsScriptFault, OutOfMemory, ScriptCause}
 
--- Octets have one next line, and one thing follows it.
+-- Octets have at most one next line, and at most one rest after it.
 abbrev pub OctetsHaveOneNextLine : Type 0
 OctetsHaveOneNextLine = (octets line after other more : List ℕ) → NextLine octets line after → NextLine octets other more → (line ≡ other) × (after ≡ more)
 
--- A line tells at most one dataset, one header and one trailer.
+-- A line describes at most one dataset, one header and one trailer.
 abbrev pub LinesTellOneThing : Type 0
 LinesTellOneThing =
     ((line : List ℕ) (d e : Dataset) → TellsField line d → TellsField line e → d ≡ e)
     × ((line : List ℕ) (head other : Header) → TellsHead line head → TellsHead line other → head ≡ other)
     × ((line octets other : List ℕ) → TellsTrailer line octets → TellsTrailer line other → octets ≡ other)
 
--- No line has two of the forms that may follow one another.
+-- No line has two of the forms that are allowed in the same state.
 abbrev pub FormsExcludeOneAnother : Type 0
 FormsExcludeOneAnother =
     ((line : List ℕ) (d : Dataset) (head : Header) → TellsField line d → TellsHead line head → ⊥)
     × ((octets : List ℕ) → TellsTrailer text_word octets → ⊥)
 
--- A script tells one thing: one list of datasets, one header, one trailer, one list of lines, and one number of the line
--- `text`.
+-- A script has unique contents: one list of datasets, one header, one trailer, one list of lines,
+-- and one number of the line `text`.
 abbrev pub ScriptsTellOneThing : Type 0
 ScriptsTellOneThing = (limits : Limits) (octets : List ℕ) (fields others : List Dataset) (head other : Header) (trailer end : List ℕ) (lines more : List (List ℕ)) (n m : ℕ)
     → IsScript limits octets fields head trailer lines n → IsScript limits octets others other end more m
     → (fields ≡ others) × (head ≡ other) × (trailer ≡ end) × (lines ≡ more) × (n ≡ m)
 
--- A script has no fault: no line of it is wrong, and it isn't too long. That memory was refused may be told of any octets.
+-- A script has no error: none of its lines is invalid, and it is not too long. An allocation
+-- failure is possible for all octets.
 abbrev pub ScriptsHaveNoFault : Type 0
 ScriptsHaveNoFault = (limits : Limits) (octets : List ℕ) (fields : List Dataset) (head : Header) (trailer : List ℕ) (lines : List (List ℕ)) (text_line number : ℕ) (cause : ScriptCause)
     → IsScript limits octets fields head trailer lines text_line → IsScriptFault limits octets number cause → cause ≡ OutOfMemory
 
--- Octets have at most one fault, one line and one cause of it. That memory was refused may be told of any octets.
+-- Octets have at most one error: one line and one cause. An allocation failure is possible for all
+-- octets.
 abbrev pub OctetsHaveOneFault : Type 0
 OctetsHaveOneFault = (limits : Limits) (octets : List ℕ) (n m : ℕ) (a b : ScriptCause) → IsScriptFault limits octets n a → IsScriptFault limits octets m b
     → (a ≡ OutOfMemory) ⊎ ((b ≡ OutOfMemory) ⊎ ((n ≡ m) × (a ≡ b)))
 
--- What is printed of the datasets of an envelope within the limits, of a header and a trailer, and after that the line `text`
--- and the lines of a story, is a script that tells just them, where it isn't too long.
+-- What is printed of the datasets of an envelope within the limits, of a header and a trailer,
+-- followed by the line `text` and the lines of a story, is a script with exactly these contents, if
+-- it is not too long.
 abbrev pub PrintedValuesAreScripts : Type 0
 PrintedValuesAreScripts = (limits : Limits) (fields : List Dataset) (head : Header) (trailer : List ℕ) (lines : List (List ℕ)) (story : List ℕ)
     → IsEnvelope fields → IsWithin limits (length (joined fields)) (length fields) → IsHeader head → IsTrailer trailer
     → 0 < length lines → AllByRecursion IsLine lines → PrintsStory story lines → length (script_of fields head trailer story) ≤ max_script
     → IsScript limits (script_of fields head trailer story) fields head trailer lines (length fields + 3)
 
--- The laws of scripts: a field for each.
+-- The lemmas about scripts, with a field for each.
 pub record ScriptLaws : Type 0 where
   -- lines:
   pub octets_have_one_next_line : OctetsHaveOneNextLine

@@ -1,6 +1,6 @@
--- What octets are, and what is said of them.
+-- Definitions of scripts.
 pub mod Format
--- What holds of these: statements, each the contract of a law.
+-- Statements about these definitions, each the contract of a lemma.
 pub mod Laws
--- What only proofs and private clauses cite.
+-- Definitions that only proofs and private clauses cite.
 pub mod Steps

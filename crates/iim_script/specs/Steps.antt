@@ -1,4 +1,5 @@
--- What the parts of the reader answer, each of what is left after the lines before it; and texts of stories.
+-- The results of the parts of the reader, each from the rest after the lines before it; and texts
+-- of stories. (Private to proofs.)
 use Rattle.std.specs.Prelude.{◌≡◌, ℕ, ◌==◌, ◌||◌, Bool, List, length, ◌+◌, ◌⊎◌}
 use Rattle.std.specs.List.{AllByRecursion}
 use Rattle.iim_dataset.specs.Format.Octets.{lf}
@@ -7,11 +8,11 @@ use Rattle.iim_script.specs.{Format.Scripts.IsStory, Format.Scripts.NextLine, de
 use Rattle.iim_script.specs.Format.Causes.{Stage, IsNextWrong, OutOfMemory, ScriptCause}
 use Rattle.iim_fields.specs.declared.limits.Limits.{Limits}
 
--- It may stand in a line, or is LF.
+-- The octet is allowed in a line, or is LF.
 abbrev pub is_plain : ℕ → Bool
 is_plain b = is_line_octet b || b == lf
 
--- The text is that of the lines of this story, and has so many octets where it is packed.
+-- The text is that of the lines of this story, and has `len` octets when it is packed.
 pub record TellsText (story text : List ℕ) (len : ℕ) : Type 0 where
   pub lines : List (List ℕ)
   pub is_story : IsStory story lines
@@ -19,16 +20,16 @@ pub record TellsText (story text : List ℕ) (len : ℕ) : Type 0 where
   pub is_text : IsText text lines
   pub len_is : len ≡ length (packed_text lines)
 
--- the number of the line after the first `count` lines, or 0 where memory is refused
+-- the number of the line after the first `count` lines, or 0 for an allocation failure
 abbrev pub number_after : ℕ → ScriptCause → ℕ
 number_after count OutOfMemory = 0
 number_after count cause = count + 1
 
--- The next line, where an LF ends it, is as said.
+-- The next line, if an LF ends it, satisfies the predicate.
 abbrev pub NextMustBe : (List ℕ → Type 0) → List ℕ → Type 0
 NextMustBe said rest = (line after : List ℕ) → NextLine rest line after → said line
 
--- The line after the first `count` lines is wrong at this stage, or memory is refused.
+-- The line after the first `count` lines is invalid in this state, or the allocation failed.
 abbrev pub Refuses : Limits → Stage → List ℕ → ℕ → ScriptFault → Type 0
 Refuses limits stage rest count fault =
     (fault.line ≡ number_after count fault.cause) × ((fault.cause ≡ OutOfMemory) ⊎ IsNextWrong limits stage rest fault.cause)

@@ -1,4 +1,4 @@
-//! Why a script tells no envelope.
+//! Why a script does not describe an envelope.
 
 ghost use Rattle.std.specs.Prelude.{◌≡◌, ◌≤◌};
 ghost use Rattle.iim_script.specs.Format.Causes.{cause_number, cause_name};
@@ -11,25 +11,25 @@ use std::fmt;
 use std::fmt::{Display, Formatter};
 use thiserror::Error;
 
-/// What is wrong with a line of a script.
+/// The error of a line of a script.
 #[derive(Clone, Copy, Debug, PartialEq, Eq)]
 pub enum ScriptCause {
-    /// The line has no form of a script's, or stands in the wrong place, or the line that is wanted is missing.
+    /// The line is malformed or in the wrong position, or an expected line is missing.
     ScriptLine,
-    /// The script has more than 16,777,216 octets. It is told of line 0.
+    /// The script has more than 16,777,216 octets. Reported with line 0.
     ScriptTooLong,
-    /// The dataset that the line tells is refused, or one is missing.
+    /// The dataset of the line is rejected, or a dataset is missing.
     Field(FieldCause),
-    /// The octets may be no trailer.
+    /// The octets are not a valid trailer.
     BadTrailer,
-    /// The line of the story has an octet that may not stand in a line.
+    /// The line of the story has an octet that is not allowed in a line.
     BadTextOctet,
-    /// Memory was refused. It is told of line 0.
+    /// Memory allocation failed. Reported with line 0.
     OutOfMemory,
 }
 
 impl ScriptCause {
-    /// The number, as it is printed.
+    /// Returns the number as it is printed.
     pub fn number(self) -> u8
         ensures { result ≡ cause_number self }
     {
@@ -43,7 +43,7 @@ impl ScriptCause {
         }
     }
 
-    /// The name, as it is printed.
+    /// Returns the name as it is printed.
     pub fn name(self) -> &'static str
         ensures { result.now ≡ cause_name self }
     {
@@ -58,7 +58,7 @@ impl ScriptCause {
     }
 }
 
-/// Writes the number and the name, as `91 ScriptLine`.
+/// Writes the number and the name, for example `91 ScriptLine`.
 impl Display for ScriptCause {
     fn fmt<W: fmt::Write>(&self, f: &mut Formatter<W>) -> fmt::Result {
         let number = self.number();
@@ -69,17 +69,18 @@ impl Display for ScriptCause {
 
 impl std::error::Error for ScriptCause {}
 
-/// A line of a script, counted from 1, and what is wrong with it.
+/// An error in a script: the line, counted from 1, and the cause.
 #[derive(Clone, Copy, Debug, PartialEq, Eq, Error, Drop)]
 #[error("script line {line} cause {} {}", .cause.number(), .cause.name())]
 pub struct ScriptFault {
-    /// The line's number; 0 where no line is at fault.
+    /// The number of the line, or 0 if the error is not in a line.
     pub line: u64,
-    /// What is wrong.
+    /// The reason.
     pub cause: ScriptCause,
 }
 
-/// A fault of the line after the first `lines` lines. That memory was refused is told of line 0.
+/// Returns the error of the line after the first `lines` lines. An allocation failure is reported
+/// with line 0.
 pub(crate) fn fault_after(lines: u64, cause: ScriptCause) -> ScriptFault
     requires { lines ≤ max_script }
     ensures line { result.line ≡ number_after lines cause }

@@ -1,9 +1,10 @@
-//! The script that an envelope is packed from: lines of text, which tell the datasets, the header of the message, its trailer
-//! and the story.
+//! Parses and prints scripts. A script is a text from which an envelope is packed: its lines
+//! describe the datasets, the header of the message, its trailer and the story.
 //!
-//! Stands on `iim_fields`, `wire_message` and `wire_story`, which check what the lines tell. The crate above uses
-//! [`read_script`]: it answers what a script tells, or the first fault by line; and [`push_fields`], [`push_message`] and
-//! [`push_trailer`], which print the lines of one, out of [`push_decimal`], [`push_printed`] and [`write_word`].
+//! Depends on `iim_fields`, `wire_message` and `wire_story`, which check what the lines describe.
+//! The crates above use [`read_script`], which returns the contents of a script, or its first error
+//! by line. They print the lines of a script with [`push_fields`], [`push_message`] and
+//! [`push_trailer`], which use [`push_decimal`], [`push_printed`] and [`write_word`].
 #![tactic(auto)]
 
 mod fault;

@@ -1,4 +1,4 @@
-//! The lines of a script.
+//! Splits a script into lines.
 
 ghost use Rattle.std.specs.Prelude.{◌≡◌, ◌==◌, ◌+◌, ◌≤◌, ◌<◌, ◌++◌, ◌∷◌, ℕ, List, length, IfSome, IfNone};
 ghost use Rattle.std.specs.List.{position_or_len};
@@ -8,7 +8,7 @@ ghost use Rattle.iim_script.specs.Format.Scripts.{HasNo, NextLine};
 use iim_dataset::octets::{CR, LF};
 use memchr::memchr;
 
-/// How many octets stand before the first of this one.
+/// Returns the index of the first occurrence of `octet`, or the length if there is no such octet.
 pub(crate) fn before_first(octets: &[u8], octet: u8) -> usize
     ensures place { result ≡ position_or_len (λ b. b == octet) octets.now }
     ensures within { result ≤ length octets.now }
@@ -16,7 +16,8 @@ pub(crate) fn before_first(octets: &[u8], octet: u8) -> usize
     memchr(octet, octets).unwrap_or(octets.len())
 }
 
-/// What stands before the first of this octet, and what after it. None where there is none.
+/// Splits the octets around the first occurrence of `octet`. Returns `None` if there is no
+/// occurrence.
 pub(crate) fn cut_at(octets: &[u8], octet: u8) -> Option<(&[u8], &[u8])>
     ensures found { IfSome result (λ parts. HasNo octet parts.0.now
         × (octets.now ≡ parts.0.now ++ octet ∷ parts.1.now)) }
@@ -30,7 +31,8 @@ pub(crate) fn cut_at(octets: &[u8], octet: u8) -> Option<(&[u8], &[u8])>
     }
 }
 
-/// The first line, without its end, and the octets after it. None where no LF ends it.
+/// Returns the first line, without its end, and the octets after it. Returns `None` if no LF ends a
+/// line.
 pub(crate) fn next_line(octets: &[u8]) -> Option<(&[u8], &[u8])>
     ensures found { IfSome result (λ parts. NextLine octets.now parts.0.now parts.1.now) }
     ensures shorter { IfSome result (λ parts. length parts.0.now + length parts.1.now < length octets.now) }
@@ -44,7 +46,7 @@ pub(crate) fn next_line(octets: &[u8]) -> Option<(&[u8], &[u8])>
     Some((ended, after))
 }
 
-/// What follows this front. None where the octets do not begin with it.
+/// Returns what follows the prefix `front`, or `None` if the octets do not begin with it.
 pub(crate) fn after<'a>(octets: &'a [u8], front: &[u8]) -> Option<&'a [u8]>
     ensures found { IfSome result (λ rest. octets.now ≡ front.now ++ rest.now) }
     ensures none { IfNone result ((rest : List ℕ) → octets.now ≡ front.now ++ rest → ⊥) }

@@ -1,4 +1,4 @@
-//! The lines of a text, where they lie.
+//! Splits a text into lines, without a copy.
 
 ghost use Rattle.std.specs.Prelude.{◌≡◌, ◌<◌, ◌≤◌, ◌++◌, ◌∷◌, [], ℕ, List, length, replicate, IfSome, IfNone};
 ghost use Rattle.iim_dataset.specs.Format.Octets.{cr};
@@ -8,7 +8,7 @@ ghost use Rattle.iim_script.specs.Format.Scripts.{WithoutLast};
 use crate::line::cut_at;
 use iim_dataset::octets::LF;
 
-/// The octets without the CR at their end, where one stands there.
+/// Removes one CR from the end of the octets, if there is one.
 fn without_return(octets: &[u8]) -> &[u8]
     ensures { WithoutLast cr octets.now result.now }
 {
@@ -18,7 +18,7 @@ fn without_return(octets: &[u8]) -> &[u8]
     }
 }
 
-/// A line, of the line and the CR of its end.
+/// Removes the CR of a line's end, of which there may be two.
 fn without_returns(ended: &[u8]) -> &[u8]
     ensures { (line : List ℕ) (returns : ℕ) → IsLine line → returns ≤ max_returns
         → ended.now ≡ line ++ replicate returns cr → result.now ≡ line }
@@ -26,7 +26,8 @@ fn without_returns(ended: &[u8]) -> &[u8]
     without_return(without_return(ended))
 }
 
-/// The first line of a text, and what follows its end; None where the text is one line.
+/// Returns the first line of a text, and what follows its end. Returns `None` if the text is one
+/// line.
 pub fn split_text(text: &[u8]) -> Option<(&[u8], &[u8])>
     ensures more { IfSome result (λ parts. (lines : List (List ℕ)) → IsText text.now lines
         → (rest : List (List ℕ)) × (lines ≡ parts.0.now ∷ rest) × IsText parts.1.now rest) }

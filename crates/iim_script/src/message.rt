@@ -1,4 +1,4 @@
-//! The lines that tell the message's header and its trailer.
+//! Parses the lines that describe the message's header and its trailer.
 
 ghost use Rattle.std.specs.Prelude.{ℕ, List, [], IfOk, IfSome, IfNone};
 ghost use Rattle.wire_message.specs.Format.Messages.{Header, header_of};
@@ -9,13 +9,13 @@ use crate::shown::read_last;
 use std::alloc::{AllocError, Global};
 use wire_message::MessageHead;
 
-/// Begins the line of the header.
+/// The beginning of the header's line.
 const MESSAGE: &[u8] = b"message ";
 
-/// Begins the line of the trailer.
+/// The beginning of the trailer's line.
 const TRAILER: &[u8] = b"trailer";
 
-/// The words of a header's line after `message`, and what ends the line.
+/// The fields of a header's line after `message`, and the rest of the line.
 #[derive(Clone, Copy)]
 struct Words<'a> {
     source: &'a [u8],
@@ -26,7 +26,8 @@ struct Words<'a> {
     end: &'a [u8],
 }
 
-/// The words, with one SP between each two. None where there are fewer than five.
+/// Splits the line at each SP into five fields and the rest. Returns `None` if there are fewer than
+/// five.
 fn cut_words(octets: &[u8]) -> Option<Words<'_>>
     ensures some { IfSome result (λ w.
         AreWords octets.now (header_of w.source.now w.number.now w.priority.now w.category.now w.words.now [])
@@ -56,7 +57,7 @@ fn cut_words(octets: &[u8]) -> Option<Words<'_>>
     })
 }
 
-/// The header that a line tells.
+/// Parses the header that a line describes. Returns `None` if the line has another form.
 pub(crate) fn read_head_line(alloc: Global, line: &[u8]) -> Result<Option<MessageHead>, AllocError>
     ensures some { IfOk result (λ told. IfSome told (λ head. TellsHead line.now head)) }
     ensures none { IfOk result (λ told. IfNone told ((head : Header) → TellsHead line.now head → ⊥)) }
@@ -81,7 +82,7 @@ pub(crate) fn read_head_line(alloc: Global, line: &[u8]) -> Result<Option<Messag
     }
 }
 
-/// The octets that a line tells for a trailer.
+/// Parses the trailer that a line describes. Returns `None` if the line has another form.
 pub(crate) fn read_trailer_line(alloc: Global, line: &[u8]) -> Result<Option<Vec<u8>>, AllocError>
     ensures some { IfOk result (λ told. IfSome told (λ octets. TellsTrailer line.now octets.items)) }
     ensures none { IfOk result (λ told. IfNone told ((octets : List ℕ) → TellsTrailer line.now octets → ⊥)) }

@@ -1,17 +1,17 @@
-//! Numbers of records and datasets.
+//! Parses the numbers of records and datasets.
 
 ghost use Rattle.std.specs.Prelude.{◌≡◌, ◌+◌, ◌≤◌, ℕ, [], ◌∷◌, false, IsTrue, IfSome, IfNone};
 ghost use Rattle.iim_dataset.specs.Format.Octets.{digit_zero, is_digit};
 ghost use Rattle.iim_script.specs.Format.Scripts.{TellsNumber};
 
-/// Whether the octet is a decimal digit.
+/// Checks whether the octet is a decimal digit.
 pub(crate) fn is_decimal(octet: u8) -> bool
     ensures { result ≡ is_digit octet }
 {
     b'0' <= octet && octet <= b'9'
 }
 
-/// The value of a decimal digit.
+/// Returns the value of a decimal digit, or `None` for another octet.
 fn digit_value(octet: u8) -> Option<u16>
     ensures some { IfSome result (λ value. IsTrue (is_digit octet) × (octet ≡ value + digit_zero) × (value ≤ 9)) }
     ensures none { IfNone result (is_digit octet ≡ false) }
@@ -22,7 +22,7 @@ fn digit_value(octet: u8) -> Option<u16>
     Some((octet - b'0') as u16)
 }
 
-/// The number that three decimal digits spell, at most 255.
+/// Returns the number of three decimal digits, or `None` if it exceeds 255 or an octet is no digit.
 fn of_digits(hundreds: u8, tens: u8, ones: u8) -> Option<u8>
     ensures some { IfSome result (λ n. TellsNumber (hundreds ∷ tens ∷ ones ∷ []) n) }
     ensures none { IfNone result ((n : ℕ) → TellsNumber (hundreds ∷ tens ∷ ones ∷ []) n → ⊥) }
@@ -34,7 +34,7 @@ fn of_digits(hundreds: u8, tens: u8, ones: u8) -> Option<u8>
     Some(value as u8)
 }
 
-/// The number that 1 to 3 decimal digits spell, at most 255.
+/// Parses a number of 1 to 3 decimal digits, at most 255. Returns `None` for other octets.
 pub(crate) fn number(digits: &[u8]) -> Option<u8>
     ensures some { IfSome result (λ n. TellsNumber digits.now n) }
     ensures none { IfNone result ((n : ℕ) → TellsNumber digits.now n → ⊥) }

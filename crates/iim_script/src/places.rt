@@ -1,4 +1,4 @@
-//! What is printed of a dataset, put into octets from a place on.
+//! Writes the line of a dataset into a slice, from a given index.
 
 ghost use Rattle.std.specs.Prelude.{◌≡◌, ◌+◌, ◌*◌, ◌≤◌, ◌++◌, length, take, decimal};
 ghost use Rattle.iim_dataset.specs.Format.Datasets.{dataset_name, shown, shown_octet};
@@ -8,7 +8,7 @@ use crate::plain::{are_plain, plain_in_16};
 use iim_dataset::DatasetName;
 use iim_dataset::internals::{escaped, is_plain};
 
-/// Puts octets there, and answers where they end.
+/// Writes octets from index `at`, and returns the index of their end.
 #[inline(always)]
 fn put_octets(line: &mut [u8], at: usize, octets: &[u8]) -> usize
     requires { at + length octets.now ≤ length line.old }
@@ -20,7 +20,7 @@ fn put_octets(line: &mut [u8], at: usize, octets: &[u8]) -> usize
     end
 }
 
-/// Puts an octet there as it is shown, and answers where that ends.
+/// Writes an octet, escaped if necessary, and returns the index of its end.
 #[inline(always)]
 fn put_shown_octet(line: &mut [u8], at: usize, octet: u8) -> usize
     requires { at + 4 ≤ length line.old }
@@ -33,7 +33,7 @@ fn put_shown_octet(line: &mut [u8], at: usize, octet: u8) -> usize
     put_octets(line, at, &escaped(octet))
 }
 
-/// Puts octets there as they are shown, one by one, and answers where they end.
+/// Writes octets, escaped if necessary, one by one, and returns the index of their end.
 fn put_each(line: &mut [u8], at: usize, octets: &[u8]) -> usize
     requires { at + 4 * length octets.now ≤ length line.old }
     ensures end { result ≤ at + 4 * length octets.now }
@@ -46,7 +46,7 @@ fn put_each(line: &mut [u8], at: usize, octets: &[u8]) -> usize
     end
 }
 
-/// Puts sixteen octets there as they are shown, and answers where they end.
+/// Writes sixteen octets, escaped if necessary, and returns the index of their end.
 #[inline(always)]
 fn put_sixteen(line: &mut [u8], at: usize, octets: &[u8]) -> usize
     requires within { at + 4 * length octets.now ≤ length line.old }
@@ -60,7 +60,7 @@ fn put_sixteen(line: &mut [u8], at: usize, octets: &[u8]) -> usize
     put_each(line, at, octets)
 }
 
-/// Puts octets there as they are shown, sixteen at a time, and answers where they end.
+/// Writes octets, escaped if necessary, sixteen at a time, and returns the index of their end.
 #[inline(never)]
 fn put_by_sixteen(line: &mut [u8], at: usize, octets: &[u8]) -> usize
     requires { at + 4 * length octets.now ≤ length line.old }
@@ -77,7 +77,8 @@ fn put_by_sixteen(line: &mut [u8], at: usize, octets: &[u8]) -> usize
     put_each(line, end, rest)
 }
 
-/// Puts octets there as they are shown, and answers where they end. Most stand for themselves, and are copied at once.
+/// Writes octets, escaped if necessary, and returns the index of their end. Most need no escape,
+/// and are copied at once.
 #[inline(always)]
 fn put_shown(line: &mut [u8], at: usize, octets: &[u8]) -> usize
     requires { at + 4 * length octets.now ≤ length line.old }
@@ -90,7 +91,8 @@ fn put_shown(line: &mut [u8], at: usize, octets: &[u8]) -> usize
     put_by_sixteen(line, at, octets)
 }
 
-/// Puts a space and octets there as they are shown, or nothing where there are none, and answers where they end.
+/// Writes a space and octets, escaped if necessary, or nothing if there are no octets. Returns the
+/// index of their end.
 #[inline(always)]
 fn put_after_space(line: &mut [u8], at: usize, octets: &[u8]) -> usize
     requires { at + (1 + 4 * length octets.now) ≤ length line.old }
@@ -104,7 +106,7 @@ fn put_after_space(line: &mut [u8], at: usize, octets: &[u8]) -> usize
     put_shown(line, first, octets)
 }
 
-/// Puts a number there in decimal digits, and answers where they end.
+/// Writes a number in decimal digits, and returns the index of their end.
 #[inline(always)]
 fn put_number(line: &mut [u8], at: usize, number: u8) -> usize
     requires { at + 3 ≤ length line.old }
@@ -122,7 +124,8 @@ fn put_number(line: &mut [u8], at: usize, number: u8) -> usize
     put_octets(line, at, &[b'0' + tens / 10, b'0' + tens % 10, ones])
 }
 
-/// Puts the name of a dataset there, which is its record and its number with two digits at least, and answers where it ends.
+/// Writes the name of a dataset, its record and its number with at least two digits, and returns
+/// the index of its end.
 #[inline(always)]
 fn put_name(line: &mut [u8], at: usize, name: DatasetName) -> usize
     requires { at + 8 ≤ length line.old }
@@ -139,7 +142,7 @@ fn put_name(line: &mut [u8], at: usize, name: DatasetName) -> usize
     put_number(line, digits, name.set)
 }
 
-/// Puts the line of a dataset there, and answers where it ends.
+/// Writes the line of a dataset, and returns the index of its end.
 #[inline(always)]
 pub(crate) fn put_field(line: &mut [u8], at: usize, name: DatasetName, octets: &[u8]) -> usize
     requires { at + (10 + 4 * length octets.now) ≤ length line.old }

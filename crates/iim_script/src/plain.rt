@@ -1,4 +1,4 @@
-//! Whether octets stand for themselves where they are shown, several of them tested at once.
+//! Checks several octets at once for whether they are printed without an escape.
 
 ghost use Rattle.std.specs.Prelude.{◌≡◌, ◌≤◌, length, take};
 ghost use Rattle.std.specs.List.{list_all};
@@ -7,7 +7,7 @@ ghost use Rattle.iim_dataset.specs.Format.Datasets.{is_plain};
 use iim_dataset::internals::is_plain;
 use std::simd::prelude::*;
 
-/// Whether each lane stands for itself, as `is_plain` says of an octet.
+/// Checks whether each lane is printed without an escape, as `is_plain` does for an octet.
 macro_rules! lanes_are_plain {
     ($vector:ident; $octets:expr) => {{
         let lanes = $vector::from_slice($octets);
@@ -17,7 +17,7 @@ macro_rules! lanes_are_plain {
     }};
 }
 
-/// Whether the first 32 octets stand for themselves.
+/// Checks whether the first 32 octets are printed without an escape.
 #[inline(always)]
 fn plain_in_32(octets: &[u8]) -> bool
     requires { 32 ≤ length octets.now }
@@ -26,7 +26,7 @@ fn plain_in_32(octets: &[u8]) -> bool
     lanes_are_plain!(u8x32; octets)
 }
 
-/// Whether the first 16 octets stand for themselves.
+/// Checks whether the first 16 octets are printed without an escape.
 #[inline(always)]
 pub(crate) fn plain_in_16(octets: &[u8]) -> bool
     requires { 16 ≤ length octets.now }
@@ -35,7 +35,7 @@ pub(crate) fn plain_in_16(octets: &[u8]) -> bool
     lanes_are_plain!(u8x16; octets)
 }
 
-/// Whether the first 8 octets stand for themselves.
+/// Checks whether the first 8 octets are printed without an escape.
 #[inline(always)]
 fn plain_in_8(octets: &[u8]) -> bool
     requires { 8 ≤ length octets.now }
@@ -44,7 +44,7 @@ fn plain_in_8(octets: &[u8]) -> bool
     lanes_are_plain!(u8x8; octets)
 }
 
-/// Whether the first 4 octets stand for themselves.
+/// Checks whether the first 4 octets are printed without an escape.
 #[inline(always)]
 fn plain_in_4(octets: &[u8]) -> bool
     requires { 4 ≤ length octets.now }
@@ -53,7 +53,8 @@ fn plain_in_4(octets: &[u8]) -> bool
     lanes_are_plain!(u8x4; octets)
 }
 
-/// Whether all octets stand for themselves: by parts of 32, 16, 8 or 4, of which the last one reaches back into that before.
+/// Checks whether all octets are printed without an escape. Works on parts of 32, 16, 8 or 4
+/// octets; the last part overlaps the one before.
 #[inline(always)]
 pub(crate) fn are_plain(octets: &[u8]) -> bool
     ensures { result ≡ list_all is_plain octets.now }

@@ -1,4 +1,4 @@
-//! The lines of a script, printed: those that `show` prints.
+//! Prints the lines of a script, as `show` does.
 
 ghost use Rattle.std.specs.Prelude.{◌≡◌, ◌+◌, ◌*◌, ◌^◌, ◌<◌, ◌≤◌, ◌++◌, ◌∷◌, length, take, drop, vec_len, IfSome, OnOk, codes, decimal};
 ghost use Rattle.std.specs.List.{flat_map};
@@ -14,7 +14,7 @@ use std::fmt::Display;
 use std::io::Write;
 use wire_message::MessageHead;
 
-/// Adds what a value is printed as. An error says that memory was refused.
+/// Appends the printed form of a value. An error means that the allocation failed.
 pub fn push_printed<D: Display + Drop>(text: &mut Vec<u8>, value: D) -> Result<(), AllocError>
     ensures { OnOk result (IfSome (D.output value) (λ words. text.new.items ≡ text.old.items ++ words)) }
 {
@@ -24,14 +24,14 @@ pub fn push_printed<D: Display + Drop>(text: &mut Vec<u8>, value: D) -> Result<(
     }
 }
 
-/// Adds a number in decimal digits. An error says that memory was refused.
+/// Appends a number in decimal digits. An error means that the allocation failed.
 pub fn push_decimal(text: &mut Vec<u8>, number: u64) -> Result<(), AllocError>
     ensures { OnOk result (text.new.items ≡ text.old.items ++ decimal number) }
 {
     text.extend_from_slice(Buffer::new().format(number).as_bytes())
 }
 
-/// Writes a word before a place of a line, and answers where it begins.
+/// Writes a word so that it ends at index `end`, and returns the index where it begins.
 #[inline(always)]
 pub fn write_word(word: &[u8], line: &mut [u8], end: usize) -> usize
     requires { length word.now ≤ end × end ≤ length line.old }
@@ -43,7 +43,7 @@ pub fn write_word(word: &[u8], line: &mut [u8], end: usize) -> usize
     start
 }
 
-/// Adds a space and the octets as they are shown, or nothing where there are none.
+/// Appends a space and the octets, escaped if necessary, or nothing if there are no octets.
 fn push_after_space(text: &mut Vec<u8>, octets: &[u8]) -> Result<(), AllocError>
     ensures { OnOk result (text.new.items ≡ text.old.items ++ after_space octets.now) }
 {
@@ -54,7 +54,7 @@ fn push_after_space(text: &mut Vec<u8>, octets: &[u8]) -> Result<(), AllocError>
     push_shown(text, octets)
 }
 
-/// Makes a text so long. An error says that memory was refused.
+/// Extends a text with zeros to the length `places`. An error means that the allocation failed.
 #[inline(never)]
 fn lengthen(text: &mut Vec<u8>, places: usize) -> Result<(), AllocError>
     requires { vec_len text.old ≤ places }
@@ -64,10 +64,11 @@ fn lengthen(text: &mut Vec<u8>, places: usize) -> Result<(), AllocError>
     text.resize(places, 0)
 }
 
-/// How many more places are made at once than are wanted.
+/// How many octets more than necessary are added at once.
 const MORE_PLACES: usize = 1024;
 
-/// Sees to it that from a place on there is room for the line of a dataset of so many octets. An error says that memory was refused.
+/// Extends the text, if necessary, so that the line of a dataset of this many octets fits from
+/// index `at`. An error means that the allocation failed.
 #[inline(always)]
 fn make_room(text: &mut Vec<u8>, at: usize, octets: usize) -> Result<(), AllocError>
     requires within { at ≤ vec_len text.old }
@@ -82,7 +83,7 @@ fn make_room(text: &mut Vec<u8>, at: usize, octets: usize) -> Result<(), AllocEr
     lengthen(text, at + places + MORE_PLACES)
 }
 
-/// Adds the lines of all datasets of an envelope. An error says that memory was refused.
+/// Appends the lines of all datasets of an envelope. An error means that the allocation failed.
 pub fn push_fields(text: &mut Vec<u8>, envelope: &EnvelopeRef<'_>) -> Result<(), AllocError>
     ensures { OnOk result (text.new.items ≡ text.old.items ++ flat_map field_line envelope.now) }
 {
@@ -96,7 +97,7 @@ pub fn push_fields(text: &mut Vec<u8>, envelope: &EnvelopeRef<'_>) -> Result<(),
     Ok(())
 }
 
-/// Adds a space and a word of the header.
+/// Appends a space and a field of the header.
 fn push_word(text: &mut Vec<u8>, word: &[u8]) -> Result<(), AllocError>
     ensures { OnOk result (text.new.items ≡ text.old.items ++ sp ∷ word.now) }
 {
@@ -104,7 +105,7 @@ fn push_word(text: &mut Vec<u8>, word: &[u8]) -> Result<(), AllocError>
     text.extend_from_slice(word)
 }
 
-/// Adds the first words of the message's header.
+/// Appends the first fields of the message's header.
 fn push_first_words(text: &mut Vec<u8>, head: &MessageHead) -> Result<(), AllocError>
     ensures { OnOk result (text.new.items ≡ text.old.items
         ++ (codes "message" ++ (sp ∷ head.now.source ++ (sp ∷ head.now.number ++ sp ∷ head.now.priority)))) }
@@ -115,7 +116,7 @@ fn push_first_words(text: &mut Vec<u8>, head: &MessageHead) -> Result<(), AllocE
     push_word(text, head.priority())
 }
 
-/// Adds the last words of the message's header, its info, and the end of the line.
+/// Appends the last fields of the message's header, its info, and the end of the line.
 fn push_last_words(text: &mut Vec<u8>, head: &MessageHead) -> Result<(), AllocError>
     ensures { OnOk result (text.new.items ≡ text.old.items
         ++ (sp ∷ head.now.category ++ (sp ∷ head.now.words ++ (after_space head.now.info ++ codes "\n")))) }
@@ -127,7 +128,7 @@ fn push_last_words(text: &mut Vec<u8>, head: &MessageHead) -> Result<(), AllocEr
     Ok(())
 }
 
-/// Adds the line of the message's header. An error says that memory was refused.
+/// Appends the line of the message's header. An error means that the allocation failed.
 pub fn push_message(text: &mut Vec<u8>, head: &MessageHead) -> Result<(), AllocError>
     ensures { OnOk result (text.new.items ≡ text.old.items ++ message_line head.now) }
 {
@@ -135,7 +136,7 @@ pub fn push_message(text: &mut Vec<u8>, head: &MessageHead) -> Result<(), AllocE
     push_last_words(text, head)
 }
 
-/// Adds the line of the message's trailer. An error says that memory was refused.
+/// Appends the line of the message's trailer. An error means that the allocation failed.
 pub fn push_trailer(text: &mut Vec<u8>, trailer: &[u8]) -> Result<(), AllocError>
     ensures { OnOk result (text.new.items ≡ text.old.items ++ trailer_line trailer.now) }
 {

@@ -1,4 +1,4 @@
-//! Reads a script.
+//! Parses a script.
 
 ghost use Rattle.std.specs.Prelude.{◌≡◌, ◌≤◌, ◌+◌, ◌⊎◌, ◌++◌, [], ℕ, List, length, slice_index, IfOk, IfErr, OnOk, None};
 ghost use Rattle.iim_fields.specs.States.Standing.{finish_fault};
@@ -24,13 +24,13 @@ use iim_fields::{Envelope, EnvelopeBuilder, Limits};
 use std::alloc::Global;
 use wire_message::{MessageHead, is_trailer};
 
-/// The most octets of a script.
+/// The maximum size of a script, in octets.
 pub const MAX_SCRIPT: usize = 16_777_216;
 
-/// The line that stands before the story.
+/// The line that precedes the story.
 const TEXT: &[u8] = b"text";
 
-/// What stands before the story, and the story.
+/// The parts of a script before the story, and the story.
 #[derive(Drop)]
 struct Front<'a> {
     envelope: Envelope,
@@ -39,7 +39,7 @@ struct Front<'a> {
     story: Rest<'a>,
 }
 
-/// Whether a line begins with a digit, as one that tells a dataset.
+/// Checks whether a line begins with a digit, like the line of a dataset.
 fn begins_field(line: &[u8]) -> bool
     ensures { result ≡ is_digit (slice_index line.now 0) }
 {
@@ -49,7 +49,7 @@ fn begins_field(line: &[u8]) -> bool
     is_decimal(line[0])
 }
 
-/// Adds the datasets that the lines at the front tell, and answers what follows them.
+/// Parses the lines of datasets at the start, adds the datasets, and returns the rest.
 fn read_fields<'a>(
     alloc: Global,
     script: &'a [u8],
@@ -83,7 +83,7 @@ fn read_fields<'a>(
     Ok(rest)
 }
 
-/// The header that the next line tells, and what follows it.
+/// Parses the header in the next line. Returns it and the rest.
 fn read_head<'a>(alloc: Global, rest: Rest<'a>) -> Result<(MessageHead, Rest<'a>), ScriptFault>
     ensures told { IfOk result (λ read.
         (line : List ℕ) × NextLine rest.entry.octets.now line read.1.octets.now × TellsHead line read.0) }
@@ -108,7 +108,8 @@ fn read_head<'a>(alloc: Global, rest: Rest<'a>) -> Result<(MessageHead, Rest<'a>
     }
 }
 
-/// The trailer that the next line tells, and what follows it; or no octets, where that line tells none.
+/// Parses the trailer in the next line. Returns it and the rest, or an empty trailer if the next
+/// line has another form.
 fn read_trailer<'a>(alloc: Global, rest: Rest<'a>) -> Result<(Vec<u8>, Rest<'a>), ScriptFault>
     ensures taken { IfOk result (λ read.
         ((line : List ℕ) × NextLine rest.entry.octets.now line read.1.octets.now
@@ -138,7 +139,7 @@ fn read_trailer<'a>(alloc: Global, rest: Rest<'a>) -> Result<(Vec<u8>, Rest<'a>)
     ))
 }
 
-/// The story, where the next line is `text`.
+/// Consumes the line `text`, and returns the story after it.
 fn read_text<'a>(rest: Rest<'a>) -> Result<Rest<'a>, ScriptFault>
     ensures text { IfOk result (λ story. NextLine rest.entry.octets.now text_word story.octets.now) }
     ensures counted { IfOk result (λ story. story.lines ≡ rest.entry.lines + 1) }
@@ -158,7 +159,7 @@ fn read_text<'a>(rest: Rest<'a>) -> Result<Rest<'a>, ScriptFault>
     })
 }
 
-/// The envelope that a builder has, at the line `text`, before which `lines` lines stand.
+/// Returns the envelope of the builder, at the line `text` after `lines` lines.
 fn finish(builder: EnvelopeBuilder, lines: u64) -> Result<Envelope, ScriptFault>
     requires { lines ≤ max_script }
     ensures whole { OnOk result (finish_fault builder.fields ≡ None) }
@@ -173,7 +174,7 @@ fn finish(builder: EnvelopeBuilder, lines: u64) -> Result<Envelope, ScriptFault>
     }
 }
 
-/// What stands before the story, and what is left for it.
+/// Parses what precedes the story. Returns it and the story.
 fn read_front<'a>(alloc: Global, limits: Limits, script: &'a [u8]) -> Result<Front<'a>, ScriptFault>
     requires { length script.now ≤ max_script }
     ensures front { IfOk result (λ front. IsFront limits script.now front.envelope front.head front.trailer.items
@@ -196,7 +197,8 @@ fn read_front<'a>(alloc: Global, limits: Limits, script: &'a [u8]) -> Result<Fro
     })
 }
 
-/// What a script tells, its datasets within the limits; or its first fault by line.
+/// Parses a script whose datasets are within the limits. Returns its contents, or its first error
+/// by line.
 pub fn read_script<'a>(
     alloc: Global,
     limits: Limits,

@@ -1,14 +1,14 @@
-//! What is left of a script.
+//! The unread part of a script.
 
 ghost use Rattle.std.specs.Prelude.{◌+◌, ◌≤◌, length};
 ghost use Rattle.iim_script.specs.Format.Scripts.{max_script};
 
-/// What is left of a script, after its first `lines` lines.
+/// The unread part of a script, after its first `lines` lines.
 #[derive(Clone, Copy)]
 pub(crate) struct Rest<'a> {
     pub(crate) octets: &'a [u8],
     pub(crate) lines: u64,
 
-    // Each line has an octet at least.
+    // Each line has at least one octet, its LF.
     ghost short: { lines + length octets.now ≤ max_script },
 }

@@ -1,4 +1,4 @@
-//! What a script tells.
+//! The contents of a script.
 
 ghost use Rattle.std.specs.Prelude.{◌≡◌, IfOk};
 ghost use Rattle.iim_script.specs.Format.Scripts.{text_lines};
@@ -9,16 +9,16 @@ use std::alloc::{AllocError, Global};
 use wire_message::MessageHead;
 use wire_story::{Lines, TextCause, TextReader};
 
-/// What a script tells: all that is packed, but for the plan.
+/// The contents of a script: everything that is packed, except the plan.
 #[derive(Drop)]
 pub struct Script<'a> {
     /// The datasets of records 1 and 2.
     pub envelope: Envelope,
     /// The header of the message.
     pub head: MessageHead,
-    /// The text of the story: its lines, and LF, or CR LF, between each two.
+    /// The text of the story: its lines, separated by LF or CR LF.
     pub text: &'a [u8],
-    /// How many octets the text has where it is packed.
+    /// The size of the packed text, in octets.
     pub text_len: u64,
     /// The trailer of the message.
     pub trailer: Vec<u8>,
@@ -26,7 +26,7 @@ pub struct Script<'a> {
     pub text_line: u64,
 }
 
-/// Returns the error of lines that refused an octet of a text.
+/// Returns the allocation error of lines that could not be stored.
 fn growth_error(cause: TextCause) -> AllocError
     requires { cause ≡ TextCause.Sink }
 {
@@ -37,8 +37,8 @@ fn growth_error(cause: TextCause) -> AllocError
 }
 
 impl<'a> Script<'a> {
-    /// Copies the lines of the story out of its text, in the form that `iim_pack::pack` takes. What `read_script` returned meets the
-    /// condition. An error says that the allocation failed: it has no other reason.
+    /// Copies the lines of the story from its text, as `iim_pack::pack` takes them. What
+    /// `read_script` returned meets the condition. An error means that the allocation failed.
     pub fn lines(&self, alloc: Global) -> Result<Lines, AllocError>
         requires { IsText self.now.text.now (text_lines self.now.text.now) }
         ensures { IfOk result (λ lines. lines.lines ≡ text_lines self.now.text.now) }

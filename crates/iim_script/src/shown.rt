@@ -1,4 +1,4 @@
-//! Octets that are shown as text, read back.
+//! Parses octets that are printed as text with escapes.
 
 ghost use Rattle.std.specs.Prelude.{◌+◌, ◌≤◌, ◌∷◌, ℕ, List, IfOk, IfSome, IfNone};
 ghost use Rattle.iim_dataset.specs.Format.Octets.{sp, backslash};
@@ -6,10 +6,10 @@ ghost use Rattle.iim_script.specs.Format.Scripts.{IsHexDigit, IsOfDigits, Begins
 
 use std::alloc::{AllocError, Global};
 
-/// Begins an escape.
+/// The first octet of an escape.
 const BACKSLASH: u8 = b'\\';
 
-/// The value of a hexadecimal digit, in either case.
+/// Returns the value of a hexadecimal digit in either case, or `None` for another octet.
 fn hex_value(digit: u8) -> Option<u8>
     ensures some { IfSome result (λ value. IsHexDigit digit value × (value ≤ 15)) }
     ensures none { IfNone result ((value : ℕ) → IsHexDigit digit value → ⊥) }
@@ -22,7 +22,7 @@ fn hex_value(digit: u8) -> Option<u8>
     }
 }
 
-/// The octet of an escape with these digits.
+/// Returns the octet of an escape with these digits, or `None` if one is no hexadecimal digit.
 fn escaped(high: u8, low: u8) -> Option<u8>
     ensures some { IfSome result (IsOfDigits high low) }
     ensures none { IfNone result ((octet : ℕ) → IsOfDigits high low octet → ⊥) }
@@ -36,7 +36,8 @@ fn escaped(high: u8, low: u8) -> Option<u8>
     Some(high * 16 + low)
 }
 
-/// The octet of the escape whose backslash stands before these octets, and what follows. None where it begins no escape.
+/// Parses an escape after its backslash. Returns its octet and the rest, or `None` if the escape is
+/// invalid.
 fn escape(after: &[u8]) -> Option<(u8, &[u8])>
     ensures some { IfSome result (λ first. BeginsWith (backslash ∷ after.now) first.0 first.1.now) }
     ensures none { IfNone result ((octet : ℕ) (rest : List ℕ) → BeginsWith (backslash ∷ after.now) octet rest → ⊥) }
@@ -53,7 +54,8 @@ fn escape(after: &[u8]) -> Option<(u8, &[u8])>
     }
 }
 
-/// The octet that is shown first, and what follows. None where a backslash begins no escape, or nothing is shown.
+/// Parses the first octet or escape. Returns its octet and the rest, or `None` if the text is empty
+/// or the escape is invalid.
 fn first_octet(shown: &[u8]) -> Option<(u8, &[u8])>
     ensures some { IfSome result (λ first. BeginsWith shown.now first.0 first.1.now) }
     ensures none { IfNone result ((octet : ℕ) (rest : List ℕ) → BeginsWith shown.now octet rest → ⊥) }
@@ -67,7 +69,7 @@ fn first_octet(shown: &[u8]) -> Option<(u8, &[u8])>
     Some((shown[0], &shown[1..]))
 }
 
-/// The octets that are shown. None where a backslash begins no escape.
+/// Parses a text with escapes. Returns its octets, or `None` if an escape is invalid.
 pub(crate) fn unshown(alloc: Global, shown: &[u8]) -> Result<Option<Vec<u8>>, AllocError>
     ensures some { IfOk result (λ told. IfSome told (λ octets. TellsOctets shown.now octets.items)) }
     ensures none { IfOk result (λ told. IfNone told ((octets : List ℕ) → TellsOctets shown.now octets → ⊥)) }
@@ -84,7 +86,8 @@ pub(crate) fn unshown(alloc: Global, shown: &[u8]) -> Result<Option<Vec<u8>>, Al
     Ok(Some(octets))
 }
 
-/// The octets that are shown, one at least. None where a backslash begins no escape, and where nothing is shown.
+/// Parses a non-empty text with escapes. Returns its octets, or `None` if an escape is invalid or
+/// the text is empty.
 fn read_some(alloc: Global, shown: &[u8]) -> Result<Option<Vec<u8>>, AllocError>
     ensures some { IfOk result (λ told. IfSome told (λ octets. TellsLast (sp ∷ shown.now) octets.items)) }
     ensures none { IfOk result (λ told. IfNone told ((octets : List ℕ) → TellsLast (sp ∷ shown.now) octets → ⊥)) }
@@ -99,7 +102,8 @@ fn read_some(alloc: Global, shown: &[u8]) -> Result<Option<Vec<u8>>, AllocError>
     }
 }
 
-/// What stands at the end of a line: nothing, for no octets, or SP and at least one octet shown.
+/// Parses the end of a line: nothing, for no octets, or SP and at least one octet, escaped if
+/// necessary.
 pub(crate) fn read_last(alloc: Global, end: &[u8]) -> Result<Option<Vec<u8>>, AllocError>
     ensures some { IfOk result (λ told. IfSome told (λ octets. TellsLast end.now octets.items)) }
     ensures none { IfOk result (λ told. IfNone told ((octets : List ℕ) → TellsLast end.now octets → ⊥)) }

@@ -1,4 +1,4 @@
-//! The story of a script: all that follows the line `text`.
+//! Parses the story of a script: all that follows the line `text`.
 
 ghost use Rattle.std.specs.Prelude.{◌≡◌, ◌+◌, ◌<◌, ◌⊎◌, [], length, IfOk, IfErr, IfSome, IfNone};
 ghost use Rattle.iim_dataset.specs.Format.Octets.{lf};
@@ -12,7 +12,7 @@ use crate::rest::Rest;
 use crate::text::{StoryText, plain_text};
 use wire_story::is_text;
 
-/// The first line of a story, and what follows it; None where it is the last.
+/// Returns the first line of a story, and what follows it, or `None` if that line is the last.
 fn first_line(story: &[u8]) -> (&[u8], Option<&[u8]>)
     ensures more { IfSome result.1 (λ rest. NextLine story.now result.0.now rest.now) }
     ensures shorter { IfSome result.1 (λ rest. length result.0.now + length rest.now < length story.now) }
@@ -32,7 +32,8 @@ fn first_line(story: &[u8]) -> (&[u8], Option<&[u8]>)
     }
 }
 
-/// The text of a story, whose lines are looked at one after another; or its first fault by line.
+/// Returns the text of a story, whose lines are checked one after another, or its first error by
+/// line.
 fn text_by_lines<'a>(story: Rest<'a>) -> Result<StoryText<'a>, ScriptFault>
     ensures text { IfOk result (λ text. TellsText story.entry.octets.now text.octets.now text.packed_len) }
     ensures fault { IfErr result (λ fault. IsBadStory story.entry.octets.now story.entry.lines fault.line) }
@@ -60,7 +61,8 @@ fn text_by_lines<'a>(story: Rest<'a>) -> Result<StoryText<'a>, ScriptFault>
     }
 }
 
-/// The text of a story; or its first fault by line, the lines before the story counted too.
+/// Returns the text of a story, or its first error. The line of the error counts the lines before
+/// the story.
 pub(crate) fn read_story<'a>(story: Rest<'a>) -> Result<StoryText<'a>, ScriptFault>
     ensures text { IfOk result (λ text. TellsText story.entry.octets.now text.octets.now text.packed_len) }
     ensures fault { IfErr result (λ fault. IsBadStory story.entry.octets.now story.entry.lines fault.line) }

@@ -1,4 +1,4 @@
-//! The text of a story, where each line but the last ends in LF alone: looked through sixteen octets at a time.
+//! Checks the text of a story whose lines end in LF alone, sixteen octets at a time.
 
 ghost use Rattle.std.specs.Prelude.{◌≡◌, ◌==◌, ◌≤◌, count_by, length, map, take, IsTrue, IfSome};
 ghost use Rattle.std.specs.List.{list_all};
@@ -11,41 +11,42 @@ ghost use Rattle.iim_script.specs.Steps.{is_plain, TellsText};
 use iim_dataset::octets::{CR, EOT, ETX, LF, SOH, STX};
 use std::simd::prelude::*;
 
-/// How many octets are tested at once.
+/// How many octets are checked at once.
 const BLOCK: usize = 16;
 
-/// The octets that may not stand in a line are below this one, and so are few others.
+/// All octets that are not allowed in a line are below this one. Few others are.
 const LEAST_CALM: u8 = 14;
 
-/// The text of a story, where it lies, and how many octets it has where it is packed.
+/// The text of a story, borrowed from the script, and the size of the packed text in octets.
 #[derive(Clone, Copy)]
 pub(crate) struct StoryText<'a> {
     pub(crate) octets: &'a [u8],
     pub(crate) packed_len: u64,
 }
 
-/// Whether the octet may stand in a line, or is LF.
+/// Checks whether the octet is allowed in a line, or is LF.
 fn may_stand(octet: u8) -> bool
     ensures { result ≡ is_plain octet }
 {
     !(octet == SOH || octet == STX || octet == ETX || octet == EOT || octet == CR)
 }
 
-/// Whether each octet may stand in a line, or is LF.
+/// Checks whether each octet is allowed in a line, or is LF.
 fn are_plain(octets: &[u8]) -> bool
     ensures { result ≡ list_all is_plain octets.now }
 {
     octets.iter().all(|octet| may_stand(*octet))
 }
 
-/// How many octets are LF.
+/// Returns how many octets are LF.
 fn count_feeds(octets: &[u8]) -> usize
     ensures { result ≡ count_by (λ b. b == lf) octets.now }
 {
     octets.iter().filter(|octet| **octet == LF).count()
 }
 
-/// How many LF stand among octets each of which is one, or may stand in a line. They are tested one after another.
+/// Returns how many octets are LF, or `None` if an octet is neither LF nor allowed in a line.
+/// Checks one octet after another.
 fn feeds_in_rest(octets: &[u8]) -> Option<usize>
     ensures { IfSome result (λ count. IsTrue (list_all is_plain octets.now)
         × (count ≡ count_by (λ b. b == lf) octets.now)) }
@@ -57,7 +58,7 @@ fn feeds_in_rest(octets: &[u8]) -> Option<usize>
     }
 }
 
-/// The mask of those of the first sixteen octets that are below the least calm one.
+/// Returns the mask of those of the first sixteen octets that are below `LEAST_CALM`.
 #[inline(always)]
 fn low_in_block(block: &[u8]) -> u64
     requires { 16 ≤ length block.now }
@@ -67,7 +68,7 @@ fn low_in_block(block: &[u8]) -> u64
     octets.simd_lt(u8x16::splat(LEAST_CALM)).to_bitmask()
 }
 
-/// The mask of those of the first sixteen octets that are LF.
+/// Returns the mask of those of the first sixteen octets that are LF.
 #[inline(always)]
 fn feed_mask(block: &[u8]) -> u64
     requires { 16 ≤ length block.now }
@@ -77,7 +78,8 @@ fn feed_mask(block: &[u8]) -> u64
     octets.simd_eq(u8x16::splat(LF)).to_bitmask()
 }
 
-/// How many LF stand among the first sixteen octets, each of which is one, or may stand in a line.
+/// Returns how many of the first sixteen octets are LF, or `None` if one is neither LF nor allowed
+/// in a line.
 #[inline(always)]
 fn feeds_in_block(block: &[u8]) -> Option<usize>
     requires { 16 ≤ length block.now }
@@ -91,7 +93,7 @@ fn feeds_in_block(block: &[u8]) -> Option<usize>
     Some(feeds.count_ones() as usize)
 }
 
-/// How many LF stand among octets each of which is one, or may stand in a line.
+/// Returns how many octets are LF, or `None` if an octet is neither LF nor allowed in a line.
 fn feeds_in(octets: &[u8]) -> Option<usize>
     ensures { IfSome result (λ count. IsTrue (list_all is_plain octets.now)
         × (count ≡ count_by (λ b. b == lf) octets.now)) }
@@ -111,7 +113,7 @@ fn feeds_in(octets: &[u8]) -> Option<usize>
     }
 }
 
-/// A story without the LF at its end, where one stands there.
+/// Removes the LF at the end of a story, if there is one.
 fn without_feed(story: &[u8]) -> &[u8]
     ensures { WithoutLast lf story.now result.now }
 {
@@ -121,7 +123,8 @@ fn without_feed(story: &[u8]) -> &[u8]
     }
 }
 
-/// The text of a story in which no octet stands that may stand neither in a line nor be an LF.
+/// Returns the text of a story, or `None` if it has an octet that is neither LF nor allowed in a
+/// line.
 pub(crate) fn plain_text(story: &[u8]) -> Option<StoryText<'_>>
     requires { length story.now ≤ max_script }
     ensures { IfSome result (λ text. TellsText story.now text.octets.now text.packed_len) }

@@ -1,4 +1,5 @@
--- What a script is: its lines, their forms, what they tell, and what is printed of an envelope.
+-- The format of scripts: their lines, the forms of these, their contents, and what is printed of an
+-- envelope.
 use Rattle.std.specs.Prelude.{◌≡◌, ℕ, ◌==◌, false, ◌⊎◌, List, [], ◌∷◌, ◌++◌, ◌≢◌, ◌+◌, ◌*◌, ◌<◌, ◌≤◌, ◌-◌, get_or, IsTrue, length, codes, None}
 use Rattle.std.specs.List.{AllByRecursion, list_all, flat_map, join_with_byte}
 use Rattle.iim_dataset.specs.Format.Octets.{lf, cr, sp, digit_zero, capital_a, small_a, backslash, small_x, colon, is_digit}
@@ -7,27 +8,29 @@ use Rattle.wire_message.specs.Format.Messages.{Header, IsHeader, IsTrailer}
 use Rattle.iim_fields.specs.{States.Standing.add_fault, States.Standing.finish_fault, declared.limits.Limits.Limits}
 use Rattle.wire_story.specs.Format.{Texts.IsLine, Texts.delivered, Packing.lines_of}
 
--- None of the octets is this one.
+-- None of the octets equals this one.
 abbrev pub HasNo : ℕ → List ℕ → Type 0
 HasNo b xs = AllByRecursion (λ x. (x == b) ≡ false) xs
 
--- They are the octets but for this one at their end; or all of them, and it is not their last.
+-- `front` is the octets without this one at their end; or all of them, if this is not their last.
 abbrev pub WithoutLast : ℕ → List ℕ → List ℕ → Type 0
 WithoutLast b octets front = (octets ≡ front ++ b ∷ []) ⊎ ((octets ≡ front) × ((before : List ℕ) → octets ≡ before ++ b ∷ [] → ⊥))
 
--- The octets begin with the line and its end, and this follows: LF ends the line, and the one CR right before it is none of the line.
+-- The octets begin with the line and its end, followed by `after`. LF ends the line, and one CR
+-- right before it is not part of the line.
 pub record NextLine (octets line after : List ℕ) : Type 0 where
   pub ended : List ℕ
   pub no_feed : HasNo lf ended
   pub is_line : WithoutLast cr ended line
   pub parts : octets ≡ ended ++ lf ∷ after
 
--- The octets begin with the lines, each with its end, and this follows.
+-- The octets begin with the lines, each with its end, followed by `after`.
 abbrev pub NextLines : List ℕ → List (List ℕ) → List ℕ → Type 0
 NextLines octets [] after = octets ≡ after
 NextLines octets (line ∷ lines) after = (rest : List ℕ) × NextLine octets line rest × NextLines rest lines after
 
--- The digit is one of so many from `first` on, of which the first has the value `least`, and the digit this value.
+-- The digit is one of `many` from `first` on, the first of which has the value `least`; its own
+-- value is `value`.
 abbrev pub IsDigitFrom : ℕ → ℕ → ℕ → ℕ → ℕ → Type 0
 IsDigitFrom first least many digit value = (first ≤ digit) × (digit < first + many) × (digit + least ≡ first + value)
 
@@ -39,24 +42,25 @@ IsHexDigit digit value = IsDigitFrom digit_zero 0 10 digit value ⊎ (IsDigitFro
 abbrev pub IsOfDigits : ℕ → ℕ → ℕ → Type 0
 IsOfDigits high low octet = (h : ℕ) × (l : ℕ) × IsHexDigit high h × IsHexDigit low l × (octet ≡ h * 16 + l)
 
--- The text begins with the octet itself, which is no backslash, or with its escape: `\x` and two hexadecimal digits. The rest follows.
+-- The text begins with the octet itself, which is not a backslash, or with its escape: `\x` and two
+-- hexadecimal digits. The rest follows.
 abbrev pub BeginsWith : List ℕ → ℕ → List ℕ → Type 0
 BeginsWith text octet rest = ((octet ≢ backslash) × (text ≡ octet ∷ rest))
     ⊎ ((high : ℕ) × (low : ℕ) × (text ≡ backslash ∷ small_x ∷ high ∷ low ∷ rest) × IsOfDigits high low octet)
 
--- The text tells the octets, one after another.
+-- The text encodes the octets, one after another.
 abbrev pub TellsOctets : List ℕ → List ℕ → Type 0
 TellsOctets text [] = text ≡ []
 TellsOctets text (octet ∷ octets) = (rest : List ℕ) × BeginsWith text octet rest × TellsOctets rest octets
 
--- What ends a line: nothing, for no octets; else SP, and a text of at least one octet.
+-- What ends a line: nothing, for no octets; otherwise SP, and a text of at least one octet.
 abbrev pub TellsLast : List ℕ → List ℕ → Type 0
 TellsLast end [] = end ≡ []
 TellsLast end (octet ∷ octets) = (text : List ℕ) × (end ≡ sp ∷ text) × TellsOctets text (octet ∷ octets)
 
 -- ---- The forms of a script's lines.
 
--- the number of decimal digits, after those that have told this number
+-- the number of the decimal digits, after digits whose number is `n`
 abbrev pub decimal_from : ℕ → List ℕ → ℕ
 decimal_from n [] = n
 decimal_from n (digit ∷ digits) = decimal_from (n * 10 + (digit - digit_zero)) digits
@@ -69,7 +73,7 @@ pub record TellsNumber (digits : List ℕ) (n : ℕ) : Type 0 where
   pub value : n ≡ decimal_from 0 digits
   pub fits : n ≤ 255
 
--- The line is the numbers `R:D`, and what ends it, which begins with no digit.
+-- The line is `R:D`, and the rest, which does not begin with a digit.
 pub record TellsNames (line : List ℕ) (rec set : ℕ) (end : List ℕ) : Type 0 where
   pub rec_digits : List ℕ
   pub set_digits : List ℕ
@@ -78,7 +82,7 @@ pub record TellsNames (line : List ℕ) (rec set : ℕ) (end : List ℕ) : Type 
   pub undigited : is_digit (get_or end 0 0) ≡ false
   pub line_is : line ≡ rec_digits ++ (colon ∷ set_digits ++ end)
 
--- A line `R:D`, and SP and the octets as text where there are some.
+-- A line `R:D`, followed by SP and the octets as text if there are any.
 pub record TellsField (line : List ℕ) (d : Dataset) : Type 0 where
   pub end : List ℕ
   pub names : TellsNames line d.rec d.set end
@@ -88,11 +92,12 @@ pub record TellsField (line : List ℕ) (d : Dataset) : Type 0 where
 abbrev pub text_word : List ℕ
 text_word = codes "text"
 
--- the parts of a header before its info, with one SP between each two, and what ends the line
+-- the parts of a header before its info, separated by one SP, and the rest of the line
 abbrev pub head_words : Header → List ℕ → List ℕ
 head_words head end = head.source ++ (sp ∷ (head.number ++ (sp ∷ (head.priority ++ (sp ∷ (head.category ++ (sp ∷ (head.words ++ end))))))))
 
--- The octets are these parts, none with an SP in it, and what ends the line: nothing, or SP and more.
+-- The octets are these parts, none of which contains SP, and the rest of the line: nothing, or SP
+-- and more.
 pub record AreWords (octets : List ℕ) (head : Header) (end : List ℕ) : Type 0 where
   pub source : HasNo sp head.source
   pub number : HasNo sp head.number
@@ -102,40 +107,43 @@ pub record AreWords (octets : List ℕ) (head : Header) (end : List ℕ) : Type 
   pub ends : get_or end 0 sp ≡ sp
   pub octets_are : octets ≡ head_words head end
 
--- A line `message SOURCE NUMBER PRIORITY CATEGORY WORDS`, and SP and the info as text where there is one.
+-- A line `message SOURCE NUMBER PRIORITY CATEGORY WORDS`, followed by SP and the info as text if
+-- there is one.
 pub record TellsHead (line : List ℕ) (head : Header) : Type 0 where
   pub end : List ℕ
   pub is_header : IsHeader head
   pub is_end : TellsLast end head.info
   pub line_is : line ≡ codes "message " ++ head_words head end
 
--- A line `trailer`, and SP and the octets as text where there are some.
+-- A line `trailer`, followed by SP and the octets as text if there are any.
 pub record TellsTrailer (line octets : List ℕ) : Type 0 where
   pub end : List ℕ
   pub is_end : TellsLast end octets
   pub line_is : line ≡ codes "trailer" ++ end
 
--- ---- What a script is, and what it tells.
+-- ---- The format of a script, and its contents.
 
--- the most octets of a script
+-- the maximum size of a script, in octets
 abbrev pub max_script : ℕ
 max_script = 16777216
 
--- Each line tells the dataset in its place, and a builder takes these, one after another, after those before them.
+-- Each line describes the dataset at the same index, and a builder accepts these, one after
+-- another, after those before them.
 abbrev pub AreFieldLines : Limits → List Dataset → List (List ℕ) → List Dataset → Type 0
 AreFieldLines limits before [] [] = Unit {0}
 AreFieldLines limits before (line ∷ lines) (d ∷ ds) =
     TellsField line d × (add_fault limits before d ≡ None) × AreFieldLines limits (before ++ d ∷ []) lines ds
 AreFieldLines limits before lines ds = ⊥
 
--- No line, for a trailer of no octets; or the one line that tells it.
+-- No line, for an empty trailer; or the one line that describes the trailer.
 abbrev pub AreTrailer : List (List ℕ) → List ℕ → Type 0
 AreTrailer [] octets = octets ≡ []
 AreTrailer (line ∷ []) octets = TellsTrailer line octets × IsTrailer octets
 AreTrailer (line ∷ next ∷ lines) octets = ⊥
 
--- The octets begin with what stands before the story, and the story follows: lines of datasets, which make an envelope; the line of the
--- header; that of the trailer, if any; and the line `text`.
+-- The octets begin with what precedes the story, and the story follows. The lines are those of
+-- datasets, which are an envelope; that of the header; that of the trailer, if any; and the line
+-- `text`.
 pub record IsFront (limits : Limits) (octets : List ℕ) (fields : List Dataset) (head : Header) (trailer : List ℕ) (text_line : ℕ)
     (story : List ℕ) : Type 0 where
   pub field_lines : List (List ℕ)
@@ -148,18 +156,19 @@ pub record IsFront (limits : Limits) (octets : List ℕ) (fields : List Dataset)
   pub is_trailer : AreTrailer trailers trailer
   pub text_line_is : text_line ≡ length field_lines + length trailers + 2
 
--- The lines of a story, one at least: each but the last with its end; the last with its end, or without one, and then it is not
--- empty where others stand before it.
+-- The lines of a story, at least one. Each but the last has its end. The last may lack it, unless
+-- the last is empty and others precede it.
 abbrev pub IsStory : List ℕ → List (List ℕ) → Type 0
 IsStory octets lines = (0 < length lines) × (NextLines octets lines []
     ⊎ ((before : List (List ℕ)) × (last : List ℕ) × (lines ≡ before ++ last ∷ []) × NextLines octets before last
     × HasNo lf last × (last ≡ [] → before ≡ [])))
 
--- the lines of a text, as its octets deliver them
+-- the lines of a text, as a reader of stories delivers them
 abbrev pub text_lines : List ℕ → List (List ℕ)
 text_lines text = lines_of (delivered text)
 
--- A script tells datasets of records 1 and 2, a header, a trailer, and the lines of a story; the line `text` has this number.
+-- The contents of a script: the datasets of records 1 and 2, the header, the trailer, the lines of
+-- the story, and the number of the line `text`.
 pub record IsScript (limits : Limits) (octets : List ℕ) (fields : List Dataset) (head : Header) (trailer : List ℕ) (lines : List (List ℕ)) (text_line : ℕ) : Type 0 where
   pub story : List ℕ
   pub short : length octets ≤ max_script
@@ -167,16 +176,16 @@ pub record IsScript (limits : Limits) (octets : List ℕ) (fields : List Dataset
   pub is_story : IsStory story lines
   pub texts : AllByRecursion IsLine lines
 
--- a space and the octets, shown; nothing where there are none
+-- a space and the octets, escaped if necessary, or nothing if there are no octets
 abbrev pub after_space : List ℕ → List ℕ
 after_space [] = []
 after_space (x ∷ xs) = sp ∷ shown (x ∷ xs)
 
--- a dataset: its name and its octets
+-- the line of a dataset: its name and its octets
 abbrev pub field_line : Dataset → List ℕ
 field_line d = dataset_name d.rec d.set ++ (after_space d.octets ++ codes "\n")
 
--- the header of the message
+-- the line of the message's header
 abbrev pub message_line : Header → List ℕ
 message_line head =
     codes "message " ++ (head.source ++ (codes " " ++ (head.number ++ (codes " " ++ (head.priority ++ (codes " " ++ (head.category
@@ -189,11 +198,12 @@ trailer_line trailer = codes "trailer" ++ (after_space trailer ++ codes "\n")
 abbrev pub value_lines : List Dataset → Header → List ℕ → List ℕ
 value_lines fields head trailer = flat_map field_line fields ++ (message_line head ++ trailer_line trailer)
 
--- The octets are the lines of a story, joined by LF, and an LF; which may be missing, unless the last of several lines is empty.
+-- The octets are the lines of a story, joined by LF, and a final LF. The final LF may be missing,
+-- unless the last of several lines is empty.
 abbrev pub PrintsStory : List ℕ → List (List ℕ) → Type 0
 PrintsStory octets lines =
     (octets ≡ join_with_byte lf lines ++ lf ∷ []) ⊎ ((octets ≡ join_with_byte lf lines) × ((before : List (List ℕ)) → lines ≡ before ++ [] ∷ [] → before ≡ []))
 
--- the lines of the values, the line `text`, and a story
+-- a complete script: the lines of the values, the line `text`, and a story
 abbrev pub script_of : List Dataset → Header → List ℕ → List ℕ → List ℕ
 script_of fields head trailer story = value_lines fields head trailer ++ (codes "text\n" ++ story)

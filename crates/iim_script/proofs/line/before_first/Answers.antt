@@ -3,7 +3,7 @@ use Rattle.std.specs.Option.{unwrap_or}
 use Rattle.memchr.specs.Find.{IsFirstByte, is_byte}
 use Rattle.iim_script.proofs.line.before_first.Goals as goal
 
--- the first place that a search answers, or the length
+-- the first index that a search returns, or the length
 place : (octet : ℕ) (octets : List ℕ) (r : Option ℕ) → IsFirstByte (is_byte octet) octets r
     → unwrap_or r (length octets) ≡ position_or_len (λ b. b == octet) octets
 place octet octets None h =

@@ -2,7 +2,7 @@ use Rattle.iim_script.proofs.Words.{◌≡◌, ◌≤◌, List, ◌++◌, length
 use Rattle.std.proofs.Common.{vec_len}
 use Rattle.iim_script.proofs.printer.push_fields.Given as goal
 
--- some datasets are shown
+-- some datasets were printed
 abbrev pub invariant-loop-rec : goal.invariant-loop-rec
 invariant-loop-rec l = record {
   done : List Dataset;
