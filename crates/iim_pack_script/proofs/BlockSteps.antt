@@ -1,4 +1,4 @@
--- A target that is written to in blocks: its steps, and what they come to.
+-- A target with a buffer of one block: its steps, and their effects.
 use Rattle.iim_pack_script.proofs.Words.{◌≡◌, ℕ, ◌+◌, ◌-◌, ◌<◌, ◌≤◌, ◌⊎◌, inl, inr, take, take-append-drop, length-drop, nat_le, Bool, true, false, cond, List, [], ◌∷◌, ◌++◌, length, drop, Option, Some, None, refl, sym, ap, ◌∙◌, arith, append_assoc, append-nil, length-append, Accepted, Calm, CountedFailure, Device, Faulted, Begins, octets_behind}
 use Rattle.std.proofs.lemmas.Bool.{leb-true, le-leb, true≢false}
 use Rattle.std.proofs.lemmas.List.{drop-take}
@@ -22,7 +22,7 @@ passes_by false later n now held after rest on e = tt
 passes_by true true n now held after rest on e = ap (λ (t : List ℕ). n ∷ t) e
 passes_by true false n now held after rest on e = absurd (true≢false (sym (on refl)))
 
--- of what is held some went out
+-- some of the buffered octets were written
 pub passes : (first now after : Option (List ℕ)) (held out rest : List ℕ) → held ≡ out ++ rest → Appends now after out
     → Keeps (octets_behind first held now) (octets_behind first rest after)
 passes None now after held out rest e h = tt
@@ -35,7 +35,7 @@ passes (Some first) (Some now) (Some after) held out rest e h =
     (λ yes. let le = leb-true (length first) (length now) yes in le-leb (length first) (length after) (omega (arith, le, long, sum)))
     (rw (h, e) (append_assoc now out rest))
 
--- octets of a block that are moved to its front
+-- octets of a block that are moved to its start
 pub moved : (block new : List ℕ) (used count left : ℕ) → count + left ≡ used → used ≤ length block → new ≡ copy_within block count used 0
     → take left new ≡ drop count (take used block)
 moved block new used count left sum fits made =
@@ -47,11 +47,11 @@ moved block new used count left sum fits made =
     ∙ take-paste block 0 (drop count block) left (omega (arith, sum, fits)) (omega (arith, sum, fits, rest)) ∙ sym (drop-take count left block)
     ∙ ap (λ (k : ℕ). drop count (take k block)) sum
 
--- the device behind the first octets, with those that are held
+-- the target after the first octets, with the buffered ones
 abbrev pub behind : Option (List ℕ) → List ℕ → Device → Device
 behind first held d = record { octets = octets_behind first held d.octets; failures = d.failures; interruptions = d.interruptions }
 
--- one write of what is held
+-- one write of the buffered octets
 pub passed_on : (first : Option (List ℕ)) (held rest : List ℕ) (old new : Device) (count room : ℕ) → Accepted old new held count → rest ≡ drop count held
     → 0 < length held → (0 < count → 0 < room)
     → Keeps (behind first held old).octets (behind first rest new).octets
@@ -65,13 +65,13 @@ passed_on first held rest old new count room h is some makes_room = (
   ],
 )
 
--- a write that moved nothing
+-- a write that wrote nothing
 pub faulted_behind : (first : Option (List ℕ)) (held same : List ℕ) (old new : Device) (fault : IoFault) → held ≡ same → Faulted old new fault
     → Faulted (behind first held old) (behind first same new) fault
 faulted_behind first held same old new Failed is h = (passes first old.octets new.octets held [] same is (keeps_nothing old.octets new.octets h.0), h.1)
 faulted_behind first held same old new Interrupted is h = (passes first old.octets new.octets held [] same is (keeps_nothing old.octets new.octets h.0), h.1)
 
--- ---- what went through from the first to the last
+-- ---- what was written from the first state to the last
 
 record Went (first now held out : List ℕ) : Type 0 where
   pub gone : List ℕ
@@ -104,7 +104,7 @@ went_behind first (Some begun) (Some now) held out h =
 fresh_octets : (first : List ℕ) → octets_behind (Some first) [] (Some first) ≡ Some (length first ∷ (first ++ []))
 fresh_octets first = rw (le-leb (length first) (length first) (omega arith)) refl
 
--- all that was taken is out, where what was held went out at last
+-- everything accepted was written, if the buffered octets were finally written
 pub finished : (old begun mid last : Option (List ℕ)) (held out : List ℕ) → Appends (octets_behind old [] old) (octets_behind begun held mid) out
     → Appends mid last held → Appends old last out
 finished None begun mid last held out h k = tt
@@ -117,7 +117,7 @@ finished (Some first) begun mid last held out h k =
     finished_by first now None held out w k = absurd k
     finished_by first now (Some last) held out w k = rw (k, w.wrote, w.parts) (append_assoc first w.gone held)
 
--- only a front of what was taken is out, where what was held did not go out whole
+-- only a prefix of what was accepted was written, if the buffered octets were not all written
 pub broken_off : (old begun mid last : Option (List ℕ)) (held front rest out : List ℕ) → Appends (octets_behind old [] old) (octets_behind begun held mid) out
     → held ≡ front ++ rest → Appends mid last front → (gone : List ℕ) × Appends old last gone × Begins gone out
 broken_off None begun mid last held front rest out h e k = ([], tt, (out, refl))

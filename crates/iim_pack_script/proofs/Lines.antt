@@ -1,9 +1,9 @@
--- The lines of a text, packed one after another.
+-- Packing the lines of a text, one after another.
 use Rattle.iim_pack_script.proofs.Words.{◌≡◌, ℕ, ◌+◌, ◌≤◌, List, [], ◌∷◌, ◌++◌, length, length-append, map, refl, ap, sym, arith, append_assoc, IsLine, IsText, StoryEvent, LineOctet, LineEnd, events_of_lines, events_append, line_packed}
 use Rattle.wire_story.specs.{Format.Packing.lines_of, Format.Packing.packed_events, Laws.TextsAreDeliveredAsLines}
 use Rattle.wire_story.proofs.Collected.{text_collected}
 
--- the lines of the events of lines are these
+-- The lines of the events of lines are these lines.
 pub again : TextsAreDeliveredAsLines → (text : List ℕ) (lines : List (List ℕ)) → IsText text lines → lines_of (events_of_lines lines) ≡ lines
 again delivers text lines is = rw (← delivers text lines is) (text_collected text lines is)
 
@@ -20,7 +20,7 @@ first_is text line (next ∷ rest) after h more = h.0
 pub last_is : (text : List ℕ) (left : List (List ℕ)) → IsText text left → left ≡ text ∷ [] → IsLine text
 last_is text left h e = (rw e at h).0
 
--- what is done, the line and its end, and the lines after it
+-- the lines before, the line and its end, and the lines after it
 pub parts_more : (all done : List StoryEvent) (left rest : List (List ℕ)) (line after : List ℕ) → all ≡ done ++ events_of_lines left → left ≡ line ∷ rest
     → IsText after rest
     → all ≡ done ++ ((map LineOctet line ++ LineEnd ∷ []) ++ events_of_lines rest)
@@ -30,7 +30,7 @@ pub parts_last : (all done : List StoryEvent) (left : List (List ℕ)) (line : L
     → all ≡ done ++ map LineOctet line
 parts_last all done left line e f = rw (e, f) refl
 
--- how many octets events are packed as, one after another
+-- the packed size of events, one after another
 pub joined_len : (xs ys : List StoryEvent) → length (packed_events (xs ++ ys)) ≡ length (packed_events xs) + length (packed_events ys)
 joined_len xs ys = rw (events_append xs ys) (length-append (packed_events xs) (packed_events ys))
 

@@ -1,4 +1,4 @@
--- `pack`: what its parts leave comes to what it leaves.
+-- `pack`: its effect, from the effects of its parts.
 use Rattle.iim_pack_script.proofs.Words.{◌≡◌, ◌<◌, ◌⊎◌, ℕ, ◌+◌, ap, length-append, IfOk, min, ◌≤◌, ◌++◌, List, [], length, inl, inr, refl, take, drop, append_assoc, take-append-drop, sym, subst, ◌∙◌, arith, Bool, true, false, Option, Some, None, Result, Ok, Err, IfErr, IsTrue, Device, BrokeAfter, HasGiven, Stopped, Wrote, Begins, pack_cause, max_script, Answered, Asked, IsBrokenOff, IsNotPacked, IsPacked, IsPast, IsPlanOf, IsRead, IsScriptRefusal, IsScriptOf, FailsToAnswer, FailsToRead, ScriptContent, object_of, IsFresh, block_device, held_in, octets_behind, ComesTo, IsFailedRead, TellsFault}
 use Rattle.std.specs.Prelude.{if◌then◌else◌}
 use Rattle.std.specs.Option.{unwrap_or}
@@ -23,9 +23,9 @@ use Rattle.iim_output.specs.declared.fault.CommandFault.TheVariants.{CannotRead,
 use Rattle.iim_pack_script.specs.declared.packing.PackFault.{PackFault}
 use Rattle.iim_pack_script.specs.declared.packing.PackFault.TheVariants.{Refused, Around}
 
--- ---- a fresh target of blocks
+-- ---- a fresh block target
 
--- the device that it is, of the target's own
+-- the view of a fresh block target, from that of its inner target
 abbrev begun : Device → Device
 begun d = record { octets = octets_behind d.octets [] d.octets; failures = d.failures; interruptions = d.interruptions }
 
@@ -42,7 +42,7 @@ fresh_device state old fresh is h =
 
 -- ---- the bound of a plan
 
--- within the bound of the plan there is no more than is asked for
+-- within the bound of the plan, the object is within the requested size
 within_by : (unknown : Bool) (max : Option ℕ) (subfile : ℕ) (object : List ℕ)
     → IsTrue (is_plan subfile (if unknown then Unknown max else Known (length object)))
     → length object ≤ bound_of subfile (if unknown then Unknown max else Known (length object))
@@ -54,7 +54,7 @@ within_by false max subfile object plan within =
 within_by true None subfile object plan within = within
 within_by true (Some m) subfile object plan within = within
 
--- where the packer has no cause against it, the object has no more than are asked for
+-- if the packer has no cause against it, the object is within the requested size
 room_for : (a : Asked) (t : ScriptContent) (plan : Plan) → IsPlanOf a (object_of t) plan → pack_cause t.head t.lines t.trailer plan ≡ None → IsPast a t → ⊥
 room_for a t plan is none past =
     let against = rw none at (pack_order t.head t.lines t.trailer plan) in
@@ -62,7 +62,7 @@ room_for a t plan is none past =
     let few = rw is.subfile_is at (within_by a.unknown a.max plan.subfile (object_of t) (rw is.size_is at plan.valid) (rw is.size_is at within)) in
     omega (arith, few, past)
 
--- ---- what a packer comes to
+-- ---- the results of a packer
 
 begins_later : (xs ys zs : List ℕ) → Begins xs ys → Begins ys zs → Begins xs zs
 begins_later xs ys zs h k = (h.0 ++ k.0, rw (← append_assoc xs h.0 k.0, h.1) k.1)
@@ -70,7 +70,7 @@ begins_later xs ys zs h k = (h.0 ++ k.0, rw (← append_assoc xs h.0 k.0, h.1) k
 module _ {W : Type 0} (state : W → Device) (a : Asked) (octets : List ℕ) (t : ScriptContent) (plan : Plan) (old : W) (fresh : BlockTarget W)
     (tells : IsScriptOf octets t) (is_plan : IsPlanOf a (object_of t) plan) (same : fresh.writer ≡ old) (is_fresh : IsFresh fresh)
     (none : pack_cause t.head t.lines t.trailer plan ≡ None) where
-  -- the form is packed, and what was held of it at last went out
+  -- the form is packed, and the octets buffered at the end were written
   pub packs_told : (last : W) (new : BlockTarget W) → Packs (block_device state) fresh t.fields t.head t.lines t.trailer plan new
       → Wrote (state new.writer) (state last) (held_in new) → IsPacked a octets (state old) (state last)
   packs_told last new p out =
@@ -85,7 +85,7 @@ module _ {W : Type 0} (state : W → Device) (a : Asked) (octets : List ℕ) (t 
         ),
       )
 
-  -- or it did not go out whole
+  -- or they were not all written
   pub breaks_last : PackedOctetsAreOne → (last : W) (new : BlockTarget W) → Packs (block_device state) fresh t.fields t.head t.lines t.trailer plan new
       → (out : ℕ) × Stopped (state new.writer) (state last) (held_in new) out → IsBrokenOff a octets (state old) (state last)
   breaks_last one last new p (out, stopped) =
@@ -102,7 +102,7 @@ module _ {W : Type 0} (state : W → Device) (a : Asked) (octets : List ℕ) (t 
         λ form other. rw (← one t.fields t.head t.lines t.trailer plan p.out form p.packed other) b.2,
       )
 
-  -- a write failed before
+  -- an earlier write failed
   breaks_first : (fault : StartFault (BlockTarget W)) → StartBreaksOff (block_device state) (Packed t.fields t.head t.lines t.trailer plan) fresh fault
       → IsBrokenOff a octets (state old) (state fault.writer.writer)
   breaks_first fault h =
@@ -129,13 +129,13 @@ module _ {W : Type 0} (state : W → Device) (a : Asked) (octets : List ℕ) (t 
 
 -- ---- octets
 
--- the object has more octets than are asked for
+-- the object exceeds the requested size
 pub past_told : (a : Asked) (octets : List ℕ) (t : ScriptContent) (old : Device) (why : PackFault) → IsScriptOf octets t → IsPast a t
     → ComesTo causes.PastAnnounced t.text_line why → IsNotPacked a octets old old why
 past_told a octets t old (Refused line number name) tells past h = (refl, inr (t, tells, past, rw (h.0, h.1, h.2) refl))
 past_told a octets t old (Around fault) tells past h = absurd h
 
--- the first fault of a script is told
+-- the first error of a script is reported
 pub told_fault : (a : Asked) (octets : List ℕ) (old : Device) (f : ScriptFault) (why : PackFault) → IsScriptFault limits octets f.line f.cause
     → TellsFault f why → IsNotPacked a octets old old why
 told_fault a octets old f (Refused line number name) is h = (refl, inl (f.line, f.cause, is, h.0, rw (h.1, h.2, h.3) refl))
@@ -155,7 +155,7 @@ unread joins first mid new script room OutOfMemory few fits given h =
     let within : length h.0 ≤ room = h.2 in
     (script ++ h.0, omega (arith, long, within, fits), joins.more first mid new script h.0 given h.3, inl (omega (arith, long, some)))
 
--- ---- answers
+-- ---- results
 
 few_read : (old new : Device) (octets : List ℕ) → IsRead old new octets → length octets ≤ max_script + 1
 few_read old new octets read = elim read.1 [ inl h ↦ (let within : length octets ≤ max_script = h.1 in omega (arith, within)) | inr h ↦ omega (arith, h) ]
@@ -176,7 +176,7 @@ pub told_refused : (a : Asked) (octets text : List ℕ) (first rest old new erro
 told_refused a octets text first rest old new errors said (Ok status) read same refusal told = (octets, read, inr (text, refusal, same, told))
 told_refused a octets text first rest old new errors said (Err e) read same refusal told = tt
 
--- memory was short for the line that tells a refusal
+-- the allocation failed for the line that reports a refusal
 pub starved_as : (a : Asked) (octets : List ℕ) (first rest old new errors said : Device) (result : Result ℕ CommandFault)
     → IsRead first rest octets → new ≡ old → IfErr result (λ fault. fault ≡ OutOfMemory)
     → IfErr result (FailsToAnswer a (devices first old errors) (devices rest new said))

@@ -1,4 +1,4 @@
--- The names that several proofs bring in, passed on from one place.
+-- Names that several proofs use, re-exported from one module.
 pub use Rattle.iim_dataset.specs.States.Devices.{Accepted, BrokeAfter, Calm, CountedFailure, Device, Faulted, HasGiven, Stopped, Wrote}
 pub use Rattle.iim_object.specs.States.Writing.{Begins, most_of, total_of}
 pub use Rattle.iim_pack.proofs.Goings.{of_none}

@@ -1,4 +1,4 @@
--- What `pack` leaves of its input, its output and its errors.
+-- The effect of `pack` on its input, its output and its errors.
 use Rattle.std.specs.Prelude.{◌≡◌, ◌≢◌, ℕ, min, ◌+◌, ◌<◌, ◌≤◌, ◌⊎◌, Bool, if◌then◌else◌, List, ◌++◌, length, codes, decimal, Option}
 use Rattle.std.specs.{Option.unwrap_or, Io.KnownBytes.IsAtEnd}
 use Rattle.iim_dataset.specs.Format.{Octets.greatest_size, Datasets.Dataset}
@@ -18,8 +18,8 @@ pub use Rattle.iim_pack_script.specs.declared.packing.PackFault.{PackFault, TheV
 use Rattle.iim_output.specs.States.Devices.{Devices}
 use Rattle.iim_output.specs.Format.{limits, IsSaid, status_accepted, status_refused}
 
--- how an envelope is to be packed: the octets of a full subfile; whether the size is to be left unknown, and then the most octets of
--- the object
+-- A request: the size of a full subfile in octets; whether the size is left unknown, and if so the
+-- maximum size of the object.
 pub record Asked : Type 0 where
   pub subfile : ℕ
   pub unknown : Bool
@@ -28,17 +28,18 @@ pub record Asked : Type 0 where
 abbrev pub asked : ℕ → Bool → Option ℕ → Asked
 asked subfile unknown max = record { subfile = subfile; unknown = unknown; max = max }
 
--- the most octets of an object: the maximum of an unknown size, or else the greatest size; and no more than the subfiles hold that there
--- may be
+-- The maximum size of an object: the maximum of an unknown size, otherwise the greatest size; and
+-- at most what the maximum number of subfiles contains.
 abbrev pub most_for : Asked → ℕ
 most_for a = min (if a.unknown then unwrap_or a.max greatest_size else greatest_size) (most_in a.subfile)
 
--- The plan is the one that is asked for, of this object: its size is said to be what the maximum says, or how many octets it has.
+-- The plan is the requested one for this object: its size is the requested maximum, or the object's
+-- own.
 pub record IsPlanOf (a : Asked) (object : List ℕ) (plan : Plan) : Type 0 where
   pub subfile_is : plan.subfile ≡ a.subfile
   pub size_is : plan.size ≡ (if a.unknown then Unknown a.max else Known (length object))
 
--- ---- what a script tells
+-- ---- the contents of a script
 
 pub record ScriptContent : Type 0 where
   pub fields : List Dataset
@@ -47,31 +48,33 @@ pub record ScriptContent : Type 0 where
   pub lines : List (List ℕ)
   pub text_line : ℕ
 
--- the object of it
+-- the object of these contents
 abbrev pub object_of : ScriptContent → List ℕ
 object_of t = canonical t.head t.lines t.trailer
 
--- The object has more octets than are asked for.
+-- The object exceeds the requested size.
 abbrev pub IsPast : Asked → ScriptContent → Type 0
 IsPast a t = most_for a < length (object_of t)
 
--- The octets are a script, within the program's limits, that tells this.
+-- The octets are a script, within the program's limits, with these contents.
 abbrev pub IsScriptOf : List ℕ → ScriptContent → Type 0
 IsScriptOf octets t = IsScript limits octets t.fields t.head t.trailer t.lines t.text_line
 
--- The form is the packed one of what is told, as it is asked for.
+-- The form is the packed form of the contents, as requested.
 pub record IsFormOf (a : Asked) (t : ScriptContent) (form : List ℕ) : Type 0 where
   pub plan : Plan
   pub is_plan : IsPlanOf a (object_of t) plan
   pub packed : Packed t.fields t.head t.lines t.trailer plan form
 
--- the line that tells a refusal: the number of a line of the script, and a cause's number and name
+-- the line that reports a refusal: the number of a line of the script, and a cause's number and
+-- name
 abbrev pub refusal_line : ℕ → ℕ → List ℕ → List ℕ
 refusal_line line number name =
     codes "refused: script line " ++ (decimal line ++ (codes " cause " ++ (decimal number ++ (codes " " ++ (name ++ codes "\n")))))
 
--- Why the octets are not packed, and the line that tells it: they are no script, for their first fault; or they are one whose object has
--- more octets than are asked for, which is told of the line `text`.
+-- Why the octets are not packed, and the line that reports it: they are no script, with their first
+-- error; or they are a script whose object exceeds the requested size, which is reported at the
+-- line `text`.
 abbrev pub IsScriptRefusal : Asked → List ℕ → List ℕ → Type 0
 IsScriptRefusal a octets text = ((line : ℕ) × (cause : ScriptCause) × IsScriptFault limits octets line cause × (cause ≢ script.OutOfMemory)
     × (text ≡ refusal_line line (cause_number cause) (cause_name cause)))
@@ -80,12 +83,14 @@ IsScriptRefusal a octets text = ((line : ℕ) × (cause : ScriptCause) × IsScri
 
 -- ---- the input
 
--- These octets were read, and no read failed: all that the input has, or one more than a script may have.
+-- These octets were read, and no read failed: the complete input, or one octet more than a script
+-- may have.
 abbrev pub IsRead : Device → Device → List ℕ → Type 0
 IsRead old new octets = HasGiven old new octets × ((IsAtEnd new.octets × (length octets ≤ max_script)) ⊎ (length octets ≡ max_script + 1))
 
--- Why there is no script: a read failed after no more octets than a script may have; or an allocation failed, for octets that were
--- read or once all of them were. Before its first octet or its end an input causes no allocation.
+-- Why there is no script: a read failed after at most as many octets as a script may have; or an
+-- allocation failed, for octets that were read or at the end of the input. Nothing is allocated
+-- before the first octet or the end of the input.
 abbrev pub FailsToRead : Device → Device → CommandFault → Type 0
 FailsToRead old new CannotRead = (octets : List ℕ) × (fault : IoFault) × (length octets ≤ max_script) × MissedAfter old new octets fault
 FailsToRead old new CannotWrite = ⊥
@@ -94,34 +99,35 @@ FailsToRead old new OutOfMemory = (octets : List ℕ) × (length octets ≤ max_
 
 -- ---- the output
 
--- The octets are a script, and the form that is asked for of what it tells is out.
+-- The octets are a script, and the requested packed form of its contents was written.
 abbrev pub IsPacked : Asked → List ℕ → Device → Device → Type 0
 IsPacked a octets old new = (t : ScriptContent) × (form : List ℕ) × IsScriptOf octets t × IsFormOf a t form × Wrote old new form
 
--- The octets are a script whose object has room, and a write failed after octets with which the form begins that is packed of what
--- the script tells by the plan that is asked for.
+-- The octets are a script whose object is within the requested size, and a write failed after
+-- octets that are a prefix of the packed form by the requested plan.
 abbrev pub IsBrokenOff : Asked → List ℕ → Device → Device → Type 0
 IsBrokenOff a octets old new = (t : ScriptContent) × (plan : Plan) × (out : List ℕ) × IsScriptOf octets t × (IsPast a t → ⊥)
     × IsPlanOf a (object_of t) plan × BrokeAfter old new out × ((form : List ℕ) → Packed t.fields t.head t.lines t.trailer plan form → Begins out form)
 
--- Why the octets are not packed: they are refused, by the line that tells it; or the output broke; or memory was short. Only where the
--- output broke anything is written.
+-- Why the octets are not packed: they are rejected, and this is the line that reports it; or a
+-- write failed; or an allocation failed. Only if a write failed, anything is written.
 abbrev pub IsNotPacked : Asked → List ℕ → Device → Device → PackFault → Type 0
 IsNotPacked a octets old new (Refused line number name) = (new ≡ old) × IsScriptRefusal a octets (refusal_line line number name.now)
 IsNotPacked a octets old new (Around CannotRead) = ⊥
 IsNotPacked a octets old new (Around CannotWrite) = IsBrokenOff a octets old new
 IsNotPacked a octets old new (Around OutOfMemory) = new ≡ old
 
--- ---- what is left
+-- ---- the effect
 
--- The envelope of the script is packed, and nothing is told; or the script is refused, nothing is written to the output, and the
--- errors tell it.
+-- The envelope of the script is packed, and nothing is printed; or the script is rejected, nothing
+-- is written to the output, and the errors report it.
 abbrev pub Answered : Asked → Devices → Devices → ℕ → Type 0
 Answered a old new status = (octets : List ℕ) × IsRead old.input new.input octets
     × ((IsPacked a octets old.output new.output × (new.errors ≡ old.errors) × (status ≡ status_accepted))
     ⊎ ((text : List ℕ) × IsScriptRefusal a octets text × (new.output ≡ old.output) × IsSaid old.errors new.errors text status_refused status))
 
--- Why there is no answer: the input was not read; or memory was short; or the output broke. Only in the last case anything is written.
+-- Why no status is returned: the input was not read; or an allocation failed; or a write failed.
+-- Only in the last case anything is written.
 abbrev pub FailsToAnswer : Asked → Devices → Devices → CommandFault → Type 0
 FailsToAnswer a old new CannotWrite = (octets : List ℕ) × IsRead old.input new.input octets × IsBrokenOff a octets old.output new.output
 FailsToAnswer a old new fault = FailsToRead old.input new.input fault × (new.output ≡ old.output)

@@ -1,6 +1,6 @@
--- What octets are, and what is said of them.
+-- Definitions of the command `pack`.
 pub mod Format
--- What only proofs and private clauses cite.
+-- Definitions that only proofs and private clauses cite.
 pub mod Steps
 
--- A target that is written to in blocks.
+-- A target with a buffer of one block.

@@ -1,4 +1,4 @@
--- What the parts of `pack` leave, and a target that is written to in blocks.
+-- The effects of the parts of `pack`, and a target with a buffer of one block. (Private to proofs.)
 use Rattle.std.specs.Prelude.{◌≡◌, ◌<◌, ℕ, ◌-◌, cond, nat_le, List, ◌∷◌, ◌++◌, length, take, Option, Some, None, ◌≢◌, ◌≤◌, codes}
 use Rattle.std.specs.Io.KnownBytes.{IsAtEnd}
 use Rattle.iim_dataset.specs.States.Devices.{Device, Missed, HasGiven}
@@ -10,22 +10,23 @@ use Rattle.iim_pack_script.specs.declared.blocks.BlockTarget.{BlockTarget}
 use Rattle.iim_object.specs.declared.writing.cause.PackCause.TheVariants as causes
 use Rattle.iim_script.specs.declared.fault.ScriptCause.TheVariants as script
 
--- what it took and did not pass on
+-- the buffered octets
 abbrev pub held_in : {W : Type 0} → BlockTarget W → List ℕ
 held_in b = take b.used b.block.now
 
--- how many more octets there is room for
+-- the remaining capacity of the block
 abbrev pub room_in : {W : Type 0} → BlockTarget W → ℕ
 room_in b = length b.block.now - b.used
 
--- the octets of a target that had the first ones, and then those that are held. They stand behind the number of the first ones, so that
--- two of a kind went on from as many. They are known where the first ones were, and are no fewer.
+-- The octets of a target that first had `first`, and then those that are buffered. The number of
+-- the first octets precedes them, so that two targets that agree started from the same number. They
+-- are known if the first octets were, and are no fewer.
 abbrev pub octets_behind : Option (List ℕ) → List ℕ → Option (List ℕ) → Option (List ℕ)
 octets_behind None held now = None
 octets_behind (Some first) held None = None
 octets_behind (Some first) held (Some now) = cond (nat_le (length first) (length now)) (Some (length first ∷ (now ++ held))) None
 
--- it as a device
+-- the block target, viewed as a plain target
 abbrev pub block_device : {W : Type 0} → (W → Device) → BlockTarget W → Device
 block_device state b = record {
   octets = octets_behind (state b.first.value).octets (held_in b) (state b.writer).octets;
@@ -33,12 +34,12 @@ block_device state b = record {
   interruptions = (state b.writer).interruptions;
 }
 
--- It holds nothing, and nothing went through it.
+-- Nothing is buffered, and nothing was written through it.
 pub record IsFresh {W : Type 0} (b : BlockTarget W) : Type 0 where
   pub first_is : b.first.value ≡ b.writer
   pub empty : b.used ≡ 0
 
--- One read, past interruptions, added `count` octets: none only at the end.
+-- One read, retried after interruptions, added `count` octets: 0 only at the end.
 pub record GotSome (old new : Device) (before after : List ℕ) (count : ℕ) : Type 0 where
   pub more : List ℕ
   pub given : HasGiven old new more
@@ -46,23 +47,24 @@ pub record GotSome (old new : Device) (before after : List ℕ) (count : ℕ) : 
   pub counted : count ≡ length more
   pub at_end : count ≡ 0 → IsAtEnd new.octets
 
--- A read failed; or it returned octets, no more than the buffer has, and the allocation for them failed.
+-- A read failed; or it returned octets, at most as many as fit into the buffer, and the allocation
+-- for them failed.
 abbrev pub IsFailedRead : Device → Device → ℕ → CommandFault → Type 0
 IsFailedRead old new room CannotRead = (fault : IoFault) × Missed old new fault
 IsFailedRead old new room CannotWrite = ⊥
 IsFailedRead old new room OutOfMemory = (more : List ℕ) × (0 < length more) × (length more ≤ room) × HasGiven old new more
 
--- what a script was read as
+-- the contents of a parsed script
 abbrev pub told_by : Script → ScriptContent
 told_by s = record { fields = s.envelope; head = s.head; trailer = s.trailer.items; lines = text_lines s.text.now; text_line = s.text_line }
 
--- The fault is told by a line of its own, or is that memory was short.
+-- The error is reported by its line, or is an allocation failure.
 abbrev pub TellsFault : ScriptFault → PackFault → Type 0
 TellsFault f (Refused line number name) = (f.cause ≢ script.OutOfMemory) × (line ≡ f.line) × (number ≡ cause_number f.cause) × (name.now ≡ cause_name f.cause)
 TellsFault f (Around OutOfMemory) = f.cause ≡ script.OutOfMemory
 TellsFault f (Around _) = ⊥
 
--- The cause comes to this, of a script whose line `text` has that number.
+-- The error for a cause of the packer, for a script whose line `text` has that number.
 abbrev pub ComesTo : PackCause → ℕ → PackFault → Type 0
 ComesTo causes.PastAnnounced text_line (Refused line number name) = (line ≡ text_line) × (number ≡ pack_number causes.PastAnnounced) × (name.now ≡ codes "PastAnnounced")
 ComesTo causes.OutOfMemory text_line (Around OutOfMemory) = Unit {0}

@@ -1,4 +1,4 @@
-//! A target that is written to in blocks.
+//! A target with a buffer of one block.
 
 ghost use Rattle.std.specs.Prelude.{◌≡◌, ℕ, ◌<◌, ◌≤◌, ◌+◌, ◌-◌, ◌⊎◌, [], ◌++◌, length, min, take, drop, IfOk, IfErr, OnErr};
 ghost use Rattle.iim_dataset.specs.States.Devices.{Accepted, Faulted};
@@ -6,7 +6,8 @@ ghost use Rattle.iim_dataset.specs.States.Devices.{Accepted, Faulted};
 use iim_dataset::{IoFault, Target, put};
 use std::snapshot::Snapshot;
 
-/// Writes once the first octets of a block, and moves those of them that are not out to its front.
+/// Writes the first `used` octets of a block once, and moves those that were not written to its
+/// start.
 fn write_front<W: Target>(writer: &mut W, block: &mut [u8], used: usize) -> Result<usize, IoFault>
     requires { used ≤ length block.old }
     ensures ok { IfOk result (Accepted (W.state writer.old) (W.state writer.new) (take used block.old)) }
@@ -24,14 +25,16 @@ fn write_front<W: Target>(writer: &mut W, block: &mut [u8], used: usize) -> Resu
     }
 }
 
-/// Takes octets into a block, and passes them on to a target where the block is full. What it took is out, or held; a failed write
-/// loses none of it. Contracts see it as a device that took what is out and what is held, with the faults of the target.
+/// A target that collects octets in a block, and writes the block to another target when it is
+/// full. Octets that it accepted were written or are buffered; a failed write loses none of them.
+/// Contracts view it as a target that accepted the octets written and those buffered, with the
+/// failures of the inner target.
 pub(crate) struct BlockTarget<'b, W> {
     pub(crate) writer: W,
-    /// The target as it was at first, for contracts.
+    /// The inner target as it was at first, for contracts.
     first: Snapshot<W>,
     block: &'b mut [u8],
-    /// How many octets of the block are held.
+    /// How many octets of the block are buffered.
     used: usize,
     ghost some: { 0 < length block.now },
     ghost within: { used ≤ length block.now },
@@ -42,7 +45,7 @@ impl<'b, W: Target> BlockTarget<'b, W> {
     ghost use Rattle.std.specs.Io.KnownBytes.{Appends, Keeps};
     ghost use Rattle.iim_pack_script.specs.Steps.{IsFresh, block_device, held_in, room_in};
 
-    /// A target that holds nothing yet, over this one.
+    /// Creates a target with an empty buffer over `writer`.
     pub(crate) fn new(block: &'b mut [u8], writer: W) -> BlockTarget<'b, W>
         requires { 0 < length block.old }
         ensures writer { result.writer ≡ writer }
@@ -57,7 +60,7 @@ impl<'b, W: Target> BlockTarget<'b, W> {
         }
     }
 
-    /// The target that is written to. What is still held is lost.
+    /// Returns the inner target. Octets still buffered are lost.
     pub(crate) fn into_writer(self) -> W
         ensures { result ≡ self.entry.writer }
     {
@@ -70,7 +73,7 @@ impl<'b, W: Target> BlockTarget<'b, W> {
         writer
     }
 
-    /// Lets out what is held, and hands back the target, also where a write failed.
+    /// Flushes the buffer, and returns the inner target, also if a write fails.
     pub(crate) fn finish(self) -> Result<W, W>
         ensures ok { IfOk result (λ last. Wrote (W.state self.entry.writer) (W.state last) (held_in self.entry)) }
         ensures err { IfErr result (λ last. (out : ℕ)
@@ -88,7 +91,7 @@ impl<'b, W: Target> BlockTarget<'b, W> {
         }
     }
 
-    /// Holds as much of the piece as there is room for, and answers how much.
+    /// Buffers as much of the chunk as fits, and returns how much that is.
     fn hold(&mut self, piece: &[u8]) -> usize
         ensures count { result ≡ min (length piece.now) (room_in self.old) }
         ensures held { Appends (block_device W.state self.old).octets (block_device W.state self.new).octets
@@ -101,7 +104,8 @@ impl<'b, W: Target> BlockTarget<'b, W> {
         count
     }
 
-    /// Writes once what is held, and answers how much of it is out: some, and there is room; or none, which is a failure.
+    /// Writes the buffered octets once, and returns how many were written. If any were, the block
+    /// has capacity again; 0 is a failure.
     fn pass_on(&mut self) -> Result<usize, IoFault>
         requires { 0 < self.old.used }
         ensures ok { IfOk result (λ count.

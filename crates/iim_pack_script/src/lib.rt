@@ -1,10 +1,12 @@
-//! The envelope that a script tells, packed: `pack`.
+//! Packs the envelope that a script describes: the command `pack`.
 //!
-//! [`script::read_script`] tells what a script tells, within the limits of the commands; [`packing::pack_octets`] packs the script in
-//! some octets, and [`packing::pack_script`] that of an input.
+//! [`script::read_script`] parses a script within the limits of the commands;
+//! [`packing::pack_octets`] packs a script from memory, and [`packing::pack_script`] one from a
+//! source.
 //!
-//! Stands on `iim_pack` and `iim_script`, on `iim_output` for what it tells, on `iim_request` for what it is asked for, and on the crates
-//! below them; it knows no unpacker. `iim_commands` stands on it, and the interface for C.
+//! Depends on `iim_pack` and `iim_script`, on `iim_output` for what it prints, on `iim_request` for
+//! the requests, and on the crates below these. It uses no unpacker. `iim_commands` and the C
+//! interface depend on it.
 #![tactic(auto)]
 
 mod blocks;

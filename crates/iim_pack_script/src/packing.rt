@@ -1,4 +1,4 @@
-//! `pack`: the envelope that a script tells.
+//! The command `pack`: packs the envelope that a script describes.
 
 ghost use Rattle.std.specs.Prelude.{◌≡◌, ℕ, ◌<◌, ◌≤◌, ◌⊎◌, List, None, length, IfOk, IfErr, IfSome, IfNone, OnErr};
 ghost use Rattle.wire_message.specs.Format.Messages.{IsTrailer};
@@ -29,23 +29,23 @@ use std::error::Error;
 use std::fmt;
 use std::fmt::{Display, Formatter};
 
-/// What keeps an envelope from being packed.
+/// Why no envelope was packed.
 #[derive(Debug, Drop)]
 pub enum PackFault {
-    /// The script is refused.
+    /// The script is rejected.
     Refused {
-        /// The number of the line that is told, from 1; 0 where the script is too long.
+        /// The number of the reported line, from 1, or 0 if the script is too long.
         line: u64,
-        /// The cause's number.
+        /// The number of the cause.
         number: u8,
-        /// The cause's name.
+        /// The name of the cause.
         name: &'static str,
     },
-    /// Something went wrong around it.
+    /// Reading, writing or an allocation failed.
     Around(CommandFault),
 }
 
-/// Writes the line that the command prints, without its end.
+/// Writes the line that the command prints, without its line end.
 impl Display for PackFault {
     fn fmt<W: fmt::Write>(&self, f: &mut Formatter<W>) -> fmt::Result {
         match self {
@@ -59,7 +59,8 @@ impl Display for PackFault {
 
 impl Error for PackFault {}
 
-/// Reads once, past interruptions, and adds what came to a script: answers how many octets, none only at the end.
+/// Reads once, retrying after interruptions, and appends what was read to the script. Returns how
+/// many octets were read: 0 only at the end.
 fn read_some<R: Source>(
     reader: &mut R,
     block: &mut [u8],
@@ -81,7 +82,7 @@ fn read_some<R: Source>(
     }
 }
 
-/// Reads an input whole, but for what stands after the first octet too many for a script.
+/// Reads a complete input, but at most one octet more than a script may have.
 fn read_input<R: Source>(alloc: Global, reader: &mut R) -> Result<Vec<u8>, CommandFault>
     ensures read { IfOk result (λ script. IsRead (R.state reader.old) (R.state reader.new) script.items) }
     ensures unread { IfErr result (FailsToRead (R.state reader.old) (R.state reader.new)) }
@@ -101,7 +102,7 @@ fn read_input<R: Source>(alloc: Global, reader: &mut R) -> Result<Vec<u8>, Comma
     Ok(script)
 }
 
-/// The plan that is asked for. None where the object has more octets than the plan has room for.
+/// Returns the requested plan, or `None` if the object exceeds the size that it allows.
 fn plan_of(request: PackRequest, told: &Script<'_>) -> Option<Plan>
     requires trailer { IsTrailer told.now.trailer.items }
     requires len { told.now.text_len ≡ length (packed_text (text_lines told.now.text.now)) }
@@ -129,8 +130,8 @@ fn plan_of(request: PackRequest, told: &Script<'_>) -> Option<Plan>
     Some(plan)
 }
 
-/// What a packer's cause comes to, of a script whose line `text` has this number. No other cause comes where the trailer is good and a
-/// known size is the object's.
+/// Converts a packer's cause to an error, for a script whose line `text` has this number. No other
+/// cause is possible if the trailer is valid and a known size is the object's.
 fn fault_for(cause: PackCause, text_line: u64) -> PackFault
     requires { (cause ≡ causes.PastAnnounced) ⊎ (cause ≡ causes.OutOfMemory) ⊎ (cause ≡ causes.Write) }
     ensures { ComesTo cause text_line result }
@@ -147,7 +148,7 @@ fn fault_for(cause: PackCause, text_line: u64) -> PackFault
     }
 }
 
-/// Packs what a script tells, in blocks, and hands back the output.
+/// Packs the contents of a script through a block, and returns the output.
 fn pack_told<W: Target>(
     alloc: Global,
     request: PackRequest,
@@ -188,7 +189,7 @@ fn pack_told<W: Target>(
     }
 }
 
-/// What a script's fault comes to.
+/// Converts an error of a script.
 fn fault_of(fault: ScriptFault) -> PackFault
     ensures { TellsFault fault result }
 {
@@ -202,10 +203,13 @@ fn fault_of(fault: ScriptFault) -> PackFault
     }
 }
 
-/// Packs the envelope that the octets tell, where they are a script, and hands back the output: the packed form is out.
+/// Packs the envelope that the octets describe if they are a script, and returns the output, to
+/// which the packed form was written.
 ///
-/// A fault is told with the output as it is: a refusal of the script by its first fault, or by `80 PastAnnounced` at the line `text`;
-/// `CannotWrite` where a write failed, and then a front of the packed form is out; `OutOfMemory`. Else nothing is written.
+/// **Errors:** the first error of the script; `80 PastAnnounced` at the line `text` if the object
+/// exceeds the requested size; `CannotWrite` if a write fails, after which a prefix of the packed
+/// form was written; `OutOfMemory`. Each error returns the output. Except for `CannotWrite`,
+/// nothing is written.
 pub fn pack_octets<W: Target>(
     alloc: Global,
     request: PackRequest,
@@ -224,7 +228,7 @@ pub fn pack_octets<W: Target>(
     }
 }
 
-/// Tells a refusal of a line, and answers the status.
+/// Prints the refusal of a line, and returns the status.
 fn tell_refusal<E: Target>(
     alloc: Global,
     errors: &mut E,
@@ -243,14 +247,18 @@ fn tell_refusal<E: Target>(
     }
 }
 
-/// Packs the envelope that a script tells: reads the script from the reader, whole, but no more than one octet past the most that a
-/// script may have, and writes the packed form to the output. Answers the status, and hands back the output.
+/// Packs the envelope that a script describes: reads the script from `reader`, at most one octet
+/// more than a script may have, and writes the packed form to `output`. Returns the status and the
+/// output.
 ///
-/// The status is 0 where the packed form is out. It is 1 where the script is refused, which a line on the errors tells, as
-/// `refused: script line 4 cause 13 CountRange`: by its first fault, or by `80 PastAnnounced` at the line `text` where its object has
-/// more octets than are asked for. It is 3 where that line can't be written. A fault is not told yet: `CannotRead` where a read
-/// failed, `CannotWrite` where a write to the output did, and then a front of the packed form is out, `OutOfMemory` where memory was
-/// refused. In all other cases nothing is written to the output.
+/// The status is 0 if the packed form was written. It is 1 if the script is rejected; then a line
+/// on `errors` reports it, such as `refused: script line 4 cause 13 CountRange`: its first error,
+/// or `80 PastAnnounced` at the line `text` if its object exceeds the requested size. It is 3 if
+/// that line cannot be written.
+///
+/// **Errors**, which are not printed here: `CannotRead` if a read fails; `CannotWrite` if a write
+/// to the output fails, after which a prefix of the packed form was written; `OutOfMemory` if an
+/// allocation fails. Except for status 0 and `CannotWrite`, nothing is written to the output.
 pub fn pack_script<R: Source, W: Target, E: Target>(
     alloc: Global,
     request: PackRequest,

@@ -1,4 +1,4 @@
-//! Scripts, within the limits of the commands.
+//! Scripts within the limits of the commands.
 
 ghost use Rattle.std.specs.Prelude.{◌≡◌, length, IfOk, IfErr};
 ghost use Rattle.iim_script.specs.Format.Causes.{IsScriptFault};
@@ -10,7 +10,8 @@ use iim_output::limits::LIMITS;
 use iim_script::{Script, ScriptFault};
 use std::alloc::Global;
 
-/// What a script tells, its datasets within [`LIMITS`]; or its first fault by line.
+/// Parses a script whose datasets are within [`LIMITS`]. Returns its contents, or its first error
+/// by line.
 pub fn read_script<'a>(alloc: Global, octets: &'a [u8]) -> Result<Script<'a>, ScriptFault>
     ensures script { IfOk result (λ told. IsScript limits octets.now told.envelope told.head told.trailer.items
         (text_lines told.text.now) told.text_line) }

@@ -1,4 +1,4 @@
-//! The text of a script, packed where it lies.
+//! Packs the text of a script without a copy.
 
 ghost use Rattle.std.specs.Prelude.{◌≡◌, ◌+◌, ◌<◌, ◌≤◌, ◌++◌, ◌∷◌, [], None, false, length, map, IfOk, IfErr, IfSome, IfNone, OnOk, OnErr};
 ghost use Rattle.iim_dataset.specs.Format.Octets.{greatest_size};
@@ -21,11 +21,11 @@ use std::alloc::Global;
 use wire_message::{MessageHead, head_text};
 use wire_story::laws::{lines_are_packed_as_their_events, texts_are_delivered_as_lines};
 
-/// ETX and EOT.
+/// The least ending of an object, in octets: ETX and EOT.
 const LEAST_ENDING: u64 = 2;
 
-/// How many octets the object has that is packed of a header, a text of `text_len` packed octets and a trailer. None where they are
-/// more than a number of 64 bits tells.
+/// Returns the size in octets of the object that is packed from a header, a text of `text_len`
+/// packed octets and a trailer. Returns `None` if it does not fit into 64 bits.
 pub(crate) fn object_len(
     head: &MessageHead,
     text: &[u8],
@@ -82,7 +82,7 @@ fn put_text<W: Target>(packer: &mut Packer<W>, text: &[u8]) -> Result<(), PackCa
     packer.known_text(rest)
 }
 
-/// A packer that a write has broken, as a fault.
+/// Converts a packer whose write failed to an error.
 fn given_back<W: Target>(packer: Packer<W>, cause: PackCause) -> StartFault<W>
     ensures cause { result.cause ≡ cause }
     ensures writer { result.writer ≡ packer.object.writer }
@@ -97,7 +97,8 @@ fn given_back<W: Target>(packer: Packer<W>, cause: PackCause) -> StartFault<W>
     }
 }
 
-/// Packs an envelope, a header, a text and a trailer by a plan that they fit, and hands back what was written to.
+/// Packs an envelope, a header, a text and a trailer by a plan that allows them, and returns the
+/// writer.
 pub(crate) fn pack_text<W: Target>(
     alloc: Global,
     envelope: &Envelope,

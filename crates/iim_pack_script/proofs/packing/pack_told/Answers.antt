@@ -24,7 +24,7 @@ returns-in-Err-clause-unpacked g c octets tells =
     c.args.output c.new.result tells c.in-Some.ensures.plan c.new.ensures.writer c.new.ensures.fresh c.in-Some.ensures.fits c.in-Err.fault
     c.fault_for-in-Err.result (rw c.as_slice.ensures.value at c.in-Err.ensures.fault) c.fault_for-in-Err.ensures)
 
--- the object has more octets than are asked for
+-- the object exceeds the requested size
 pub returns-in_default-clause-unpacked : goal.returns-in_default-clause-unpacked
 returns-in_default-clause-unpacked g c octets tells =
     past_told (asked c.args.request.subfile c.args.request.unknown c.args.request.max) octets (told_by c.args.told.now) (g.W.Target.state c.args.output)

@@ -12,7 +12,7 @@ returns-in-Ok-clause-ok g c =
     on_ok_weaker c.line_end.result (λ (l : Lengthens state m c.line_end.new.self (LineEnd ∷ [])).
     leads_on state k m c.line_end.new.self (map LineOctet line) (LineEnd ∷ []) c.texts_join.ensures c.in-Ok.ensures.ok l) c.line_end.ensures.ok
 
--- where the line is packed, its end has no cause
+-- if the line is packed, its end has no cause
 ends : (g : Over) (c : In-Ok g) → line_end_cause c.known_text.new.self ≡ None
 ends g c =
     let m = c.known_text.new.self in

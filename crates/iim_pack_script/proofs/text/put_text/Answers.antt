@@ -67,7 +67,7 @@ known_text-requires g c =
     let inv = c.loop-line.invariant in
     last_is c.loop-line.rest.now inv.left inv.text (c.in_default.ensures.one inv.left inv.text)
 
--- what is done, and the last line
+-- what was done, and the last line
 parts : (g : Over) (c : In_default g) → events_of_lines (text_lines c.args.text.now) ≡ c.loop-line.invariant.done ++ map LineOctet c.loop-line.rest.now
 parts g c =
     let inv = c.loop-line.invariant in
