@@ -1,4 +1,5 @@
--- The order of the ids, the first row with each of them in it, and rows that are told their first one.
+-- The order of the ids, the first row with each id in that order, and rows in which `first` is
+-- set.
 use Rattle.iim_audit.proofs.Words.{◌≡◌, ℕ, zero, suc, ◌+◌, ◌^◌, ◌<◌, ◌≤◌, List, [], ◌∷◌, ◌++◌, length, map, get_or, Some, ap, sym, ◌∙◌, refl, arith, ◌-◌, ◌⊎◌, Option, inl, inr, ⊎_elim, Bool, true, false, None, take, ◌≢◌, set, All, Contains, slice_get, is_lt, nat_cmp, ordering_then, ordering_reverse, option_cmp, get_or-map, length-map, get_or_default, get_or-set_same, get_or-set_other, All-permutation, Contains-permutation, IsPermutation-map, ranks_by, sorted_far, Identity, id_cmp, id_eq, text_eq, IsOrder, IsPlace, by_index, index_at, index_cmp, key_at, key_of, keyed_cmp, place_cmp, place_of, places_of, AreFilled, AreFresh, filled, ids_of, leb_tells, nat_tests, first_same}
 use Rattle.std.specs.List.Sorted.{IsPermutation, IsSortedBy}
 use Rattle.std.specs.Cmp.{IsTotalOrder, IsStrictWeakOrder, then_total, on_total, nat_cmp_total}
@@ -12,7 +13,7 @@ use Rattle.std.proofs.lemmas.Cmp.{tied_itself, tied_back}
 use Rattle.iim_audit.specs.Format.{AuditRow}
 use Rattle.iim_audit.proofs.Lines.{id_at, length_ids}
 
--- ---- the order of places
+-- ---- the order of sort keys
 
 places_total : (ids : List Identity) → IsTotalOrder (place_cmp ids)
 places_total ids = then_total (on_total key_at nat_cmp_total) (on_total index_at (then_total (on_total (slice_get ids) (options_total id_total)) nat_cmp_total))
@@ -27,7 +28,7 @@ then_assoc _ p q = refl
 nobody : Identity
 nobody = record { service = []; number = []; date_sent = [] }
 
--- places stand to each other as the indices of their rows
+-- sort keys compare as the indices of their rows do
 same_cmp : (ids : List Identity) (a b : ℕ) → IsPlace ids a → IsPlace ids b → place_cmp ids a b ≡ index_cmp keyed_cmp ids (index_at a) (index_at b)
 same_cmp ids a b is_a is_b =
     let x = get_or ids (index_at a) nobody in
@@ -36,7 +37,7 @@ same_cmp ids a b is_a is_b =
     let at_b = slice_get-get_or ids (index_at b) nobody is_b.below in
     rw (is_a.key nobody, is_b.key nobody, at_a, at_b) (then_assoc (nat_cmp (key_of x) (key_of y)) (id_cmp x y) (nat_cmp (index_at a) (index_at b)))
 
--- ---- the places of all rows
+-- ---- the sort keys of all rows
 
 length_places : (n : ℕ) (ids : List Identity) → length (places_of n ids) ≡ length ids
 length_places n [] = refl
@@ -60,7 +61,7 @@ each_there ids few i there =
     let is = at_place 0 ids i 0 nobody there in
     (i, omega (arith, length-map places index_at, inside), get_or-map index_at places i 0 i inside ∙ omega (arith, is, there, few))
 
--- indices of all rows, once their places are sorted
+-- the sorted keys of all rows have the indices of all rows
 pub order_of : (ids : List Identity) (sorted : List ℕ) → length ids ≤ 2 ^ 32 → IsPermutation (places_of 0 ids) sorted
     → IsSortedBy (λ a b. is_lt (place_cmp ids a b)) sorted → IsOrder ids (map index_at sorted)
 order_of ids sorted few moved in_order =
@@ -82,7 +83,7 @@ order_of ids sorted few moved in_order =
           rw (get_or-map index_at sorted (k + 1) 0 d next, get_or-map index_at sorted k 0 d here, ← same) (in_order k 0 low next);
     }
 
--- a row more
+-- appends a row
 pub places_push : (n : ℕ) (ids : List Identity) (id : Identity) → places_of n (ids ++ id ∷ []) ≡ places_of n ids ++ place_of id (n + length ids) ∷ []
 places_push n [] id = ap (λ k. place_of id k ∷ []) (omega arith)
 places_push n (x ∷ ids) id =
@@ -102,7 +103,7 @@ order_total ids = then_total (on_total (slice_get ids) ids_total) nat_cmp_total
 order_rank : (ids : List Identity) → IsStrictWeakOrder (λ a b. is_lt (index_cmp keyed_cmp ids a b))
 order_rank ids = ranks_by (order_total ids) (λ (i : ℕ). i)
 
--- the ids at two indices are the same
+-- the ids at two indices are equal
 abbrev pub AreSame : List Identity → ℕ → ℕ → Type 0
 AreSame ids a b = by_index keyed_cmp ids a b ≡ Equal
 
@@ -119,7 +120,7 @@ same_or_not : (o : Ordering) → (o ≡ Equal) ⊎ (o ≡ Equal → ⊥)
 same_or_not Equal = inl refl
 same_or_not _ = inr (λ e. cc)
 
--- where neither comes before the other
+-- neither comes before the other
 neither : (o p : Ordering) → o ≡ ordering_reverse p → is_lt o ≡ false → is_lt p ≡ false → o ≡ Equal
 neither o p flips up down = grind arith
 
@@ -131,13 +132,15 @@ less_second o a b same none = grind arith
 
 -- ---- the least index with an id
 
--- The index `group` is the least one with its id, and so far the last one in the order has that id.
+-- The index `group` is the least one with its id, and the last one so far in the order has that
+-- id.
 pub record IsRun (ids : List Identity) (order : List ℕ) (k group : ℕ) : Type 0 where
   pub within : group < length ids
   pub least : (i : ℕ) → i < length ids → AreSame ids i group → group ≤ i
   pub last : (j : ℕ) → j + 1 ≡ k → AreSame ids (get_or order j 0) group
 
--- the index at a place is the least one with its id where the one before it has another
+-- the index at position k of the order is the least one with its id, if the one before it has
+-- another id
 begins_least : (ids : List Identity) (order : List ℕ) (k i : ℕ) → IsOrder ids order → k < length order
     → ((j : ℕ) → j + 1 ≡ k → AreSame ids (get_or order j 0) (get_or order k 0) → ⊥) → i < length ids → AreSame ids i (get_or order k 0) → get_or order k 0 ≤ i
 begins_least ids order k i is within apart there same =
@@ -162,7 +165,7 @@ begins_least ids order k i is within apart there same =
     less_second (by_index keyed_cmp ids i group) i group same here)
     (below_or_not p k)
 
--- one place more: it has the same least index, or is the least one itself
+-- one more position: it has the same least index, or is the least one itself
 pub run_more : (ids : List Identity) (order : List ℕ) (k group now : ℕ) → IsOrder ids order → k < length order → IsRun ids order k group
     → (AreSame ids (get_or order k 0) group → now ≡ group) → ((AreSame ids (get_or order k 0) group → ⊥) → now ≡ get_or order k 0)
     → IsRun ids order (k + 1) now × AreSame ids (get_or order k 0) now
@@ -189,7 +192,7 @@ text_same [] ys e = grind arith
 text_same (x ∷ xs) [] e = cc
 text_same (x ∷ xs) (y ∷ ys) e = grind (arith, nat_tests, text_same xs ys)
 
--- the same ids have one key
+-- equal ids have equal keys
 pub key_same : (x y : Identity) → id_eq x y ≡ true → key_of x ≡ key_of y
 key_same x y e = grind (arith, text_same x.number y.number)
 
@@ -201,7 +204,7 @@ keyed_tied x y e =
 pub eq_apart : (x y : Identity) → (keyed_cmp x y ≡ Equal → ⊥) → id_eq x y ≡ false
 eq_apart x y apart = grind (arith, keyed_tied x y)
 
--- the id at an index is not there before it
+-- no earlier index has the id of this index
 found : (n : ℕ) (id : Identity) (ids : List Identity) (at g : ℕ) → g < at → at ≤ length ids → option_cmp keyed_cmp (Some id) (slice_get ids g) ≡ Equal
     → ((i : ℕ) → i < g → option_cmp keyed_cmp (Some id) (slice_get ids i) ≡ Equal → ⊥) → first_same n id (take at ids) ≡ Some (n + g)
 found n id [] at g before fits same apart = absurd (omega arith)
@@ -219,7 +222,7 @@ missing n id (x ∷ ids) zero fits apart = refl
 missing n id (x ∷ ids) (suc at) fits apart =
     rw (eq_apart id x (apart 0 (omega arith))) (missing (n + 1) id ids at (omega arith) (λ i less. apart (suc i) (omega arith)))
 
--- what the first index of a run tells a row with its id
+-- the value of `first` that the first index of a group gives to a row with its id
 pub first_of_run : (ids : List Identity) (order : List ℕ) (k group at : ℕ) (id : Identity) → IsRun ids order k group → at < length ids
     → slice_get ids at ≡ Some id → AreSame ids at group → (group < at → first_same 1 id (take at ids) ≡ Some (group + 1))
     × ((group < at → ⊥) → first_same 1 id (take at ids) ≡ None)
@@ -232,9 +235,10 @@ first_of_run ids order k group at id run there here same =
       λ none. missing 1 id ids at (omega arith) (λ i less. earlier i (omega (arith, none))),
     )
 
--- ---- rows that are told their first one
+-- ---- rows in which `first` is set
 
--- The first k indices of the order are gone through: their rows are told, and the others are told or as they were.
+-- The first k indices of the order were visited: in their rows `first` is set, and in the other
+-- rows it is set or unchanged.
 pub record SoFar (old : List AuditRow) (order : List ℕ) (k group : ℕ) (now : List AuditRow) : Type 0 where
   pub run : IsRun (ids_of old) order k group
   pub rows : (i : ℕ) (d : AuditRow) → i < length old → (get_or now i d ≡ get_or old i d) ⊎ (get_or now i d ≡ filled old i (get_or old i d))
@@ -263,12 +267,13 @@ same_ids : (rows : List AuditRow) (a b : ℕ) (d : AuditRow) → a < length rows
     → by_index keyed_cmp (ids_of rows) a b ≡ keyed_cmp (get_or rows a d).id (get_or rows b d).id
 same_ids rows a b d a_there b_there = rw (id_there rows a d a_there, id_there rows b d b_there)
 
--- a row that is told its first one, or not where it has none; and this may have been told before
+-- a row in which `first` is set, or not if there is no earlier one; it may have been set before
 told_row : {f g : Option ℕ} (was there row : AuditRow) → f ≡ g → there.first ≡ None → (was ≡ there) ⊎ (was ≡ record there { first = f })
     → (row ≡ record was { first = g }) ⊎ ((row ≡ was) × (g ≡ None)) → row ≡ record there { first = f }
 told_row was there row same fresh was_old is = grind arith
 
--- one index more: `next` is the first one with the id of the row at the index `at`, `was` is that row, and `row` what it is told to be
+-- one more index: `next` is the first one with the id of the row at the index `at`, `was` is that
+-- row, and `row` the row after this step
 pub so_far_more : (old : List AuditRow) (order : List ℕ) (k group next at : ℕ) (now new : List AuditRow) (was row : AuditRow) → get_or order k 0 ≡ at
     → IsOrder (ids_of old) order → AreFresh old → k < length order → length now ≡ length old → SoFar old order k group now
     → ((d : AuditRow) → id_eq (get_or now at d).id (get_or now group d).id ≡ true → next ≡ group)
@@ -316,7 +321,7 @@ so_far_more old order k group next at now new was row at_is is fresh here_k len 
       ];
     }
 
--- at the end each row is told
+-- at the end `first` is set in each row
 pub all_filled : (old : List AuditRow) (order : List ℕ) (group : ℕ) (now : List AuditRow) → IsOrder (ids_of old) order → length now ≡ length old
     → SoFar old order (length order) group now → AreFilled old now
 all_filled old order group now is len so_far = record {

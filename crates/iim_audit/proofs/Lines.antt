@@ -1,11 +1,11 @@
--- The rows of envelopes, without and with their first ones, and the lines of rows.
+-- The rows of envelopes, with `first` unset and set, and the lines of rows.
 use Rattle.iim_audit.proofs.Words.{◌≡◌, ℕ, zero, suc, ◌<◌, ℤ, List, [], ◌∷◌, ◌++◌, length, append_assoc, append-nil, None, map, take, get_or, ap, sym, ◌∙◌, refl, arith, subst, ◌+◌, add-zero, get_or-map, length-map, map-append, map_push, same_lists, length-take-le, take_more, Identity, Value, id_of, first_same, row_with, rows_after, report_of, HaveShortIds, IsShort, AreFilled, AreFresh, ids_of, le_of_lt, row_line, lines_from}
 use Rattle.std.proofs.lemmas.List.Elements.{All-push}
 use Rattle.iim_audit.specs.Format.{AuditRow}
 
 -- ---- the ids of rows
 
--- there are as many as rows
+-- there are as many ids as rows
 pub length_ids : (rows : List AuditRow) → length (ids_of rows) ≡ length rows
 length_ids rows = length-map rows (λ (row : AuditRow). row.id)
 
@@ -15,7 +15,7 @@ id_at rows i d x there = get_or-map (λ (row : AuditRow). row.id) rows i d x the
 
 -- ---- rows by the values of envelopes
 
--- the rows of envelopes, none with its first one
+-- the rows of envelopes, with `first` unset
 abbrev pub bare_rows : ℤ → List Value → List AuditRow
 bare_rows now values = map (λ v. row_with now v None) values
 
@@ -32,7 +32,7 @@ fresh_bare now [] k d there = absurd (omega arith)
 fresh_bare now (v ∷ vs) zero d there = refl
 fresh_bare now (v ∷ vs) (suc k) d there = fresh_bare now vs k d (omega arith)
 
--- a row with the number of the first of these ids
+-- a row with `first` set to the number of the first of these ids
 abbrev with_first : List Identity → AuditRow → AuditRow
 with_first ids row = record row { first = first_same 1 row.id ids }
 
@@ -44,7 +44,7 @@ row_at now earlier (v ∷ vs) (suc i) d there =
     rw (map-append id_of earlier (v ∷ []), append_assoc (map id_of earlier) (id_of v ∷ []) (take i (map id_of vs)))
     at (row_at now (earlier ++ v ∷ []) vs i d (omega arith))
 
--- rows that are told their first ones are the report
+-- rows in which `first` is set are the report
 pub report_told : (now : ℤ) (values : List Value) (old new : List AuditRow) → old ≡ bare_rows now values → AreFilled old new → new ≡ report_of now values
 report_told now values old new same filled =
     let are : AreFilled (bare_rows now values) new = rw same at filled in
@@ -54,7 +54,7 @@ report_told now values old new same filled =
 
 -- ---- rows whose ids are short
 
--- a row more
+-- appends a row
 pub short_push : (rows : List AuditRow) (row : AuditRow) → HaveShortIds rows → IsShort row.id → HaveShortIds (rows ++ row ∷ [])
 short_push rows row have is = rw (map_push (λ (r : AuditRow). r.id) rows row) (All-push IsShort (ids_of rows) row.id have is)
 
@@ -64,7 +64,7 @@ short_at rows i d there have =
     let x = (get_or rows i d).id in
     subst IsShort (id_at rows i d x there) (have i x (omega (arith, length_ids rows)))
 
--- a row more
+-- appends a row
 pub lines_from-push : (n : ℕ) (rows : List AuditRow) (row : AuditRow) → lines_from n (rows ++ row ∷ []) ≡ lines_from n rows ++ row_line (n + length rows) row
 lines_from-push n [] row = append-nil (row_line n row) ∙ ap (λ (k : ℕ). row_line k row) (sym (add-zero n))
 lines_from-push n (x ∷ rows) row =

@@ -1,4 +1,4 @@
--- Envelopes that come one after another.
+-- Envelopes that follow one another.
 use Rattle.iim_audit.proofs.Words.{◌≡◌, ℕ, ◌+◌, ◌≤◌, ◌<◌, ℤ, List, [], ◌∷◌, ◌++◌, length, append-nil, Option, None, Some, ap, sym, ◌∙◌, refl, arith, inl, inr, AllByRecursion, length-map, map-append, Device, HasGiven, GiftsJoin, IoFault, Limits, Value, Admits, Listed, Divides, IsListed, IsListing, Whole, RefusedBy, TooMany, joined, values_of, max_envelopes, Unpacking, IsDoneWith, raised, ShowsParts, UnpackedRef, Keeps, IsCutOff, IsTaken, TookOne, TookNone, report_of, row_with}
 use Rattle.std.proofs.Common.{length-append}
 use Rattle.std.specs.Io.KnownBytes.{IsAtEnd}
@@ -9,12 +9,13 @@ use Rattle.iim_audit.specs.declared.fault.AuditCause.{AuditCause}
 use Rattle.iim_audit.specs.declared.fault.AuditCause.TheVariants as causes
 use Rattle.iim_audit.specs.declared.ledger.Ledger.{Ledger}
 
--- how many octets are told of the last envelope
+-- the count of octets after the last envelope
 told_more : (before : ℕ) (es : List Listed) (e : Listed) → told_after before (es ++ e ∷ []) ≡ raised 0 (length e.octets)
 told_more before [] e = refl
 told_more before (f ∷ es) e = told_more (raised 0 (length f.octets)) es e
 
--- Just these envelopes came, and the ledger has their rows; the intake has answered no fault, and tells the octets of the last one.
+-- Exactly these envelopes were read, and the ledger has their rows; the intake has not failed, and
+-- its count is that of the last one.
 pub record HasRead (limits : Limits) (now : ℤ) (old new : Device) (ledger : Ledger) (before : ℕ) (failed : Option ℕ) (told : ℕ) : Type 0 where
   pub envelopes : List Listed
   pub admitted : AllByRecursion (IsListed limits) envelopes
@@ -23,7 +24,7 @@ pub record HasRead (limits : Limits) (now : ℤ) (old new : Device) (ledger : Le
   pub lives : failed ≡ None
   pub tells : told ≡ told_after before envelopes
 
--- without memory for the unpacker
+-- the allocation of the unpacker fails
 pub short_first : (limits : Limits) (old : Device) (before : ℕ) (left : Option ℕ) → GiftsJoin → left ≡ None
     → FailsLeaving limits (old, before) (old, left, before) 1 causes.OutOfMemory
 short_first limits old before left joins lives =
@@ -70,7 +71,7 @@ module _ {limits : Limits} {now : ℤ} {old mid : Device} {ledger : Ledger} {bef
         took.keeps,
       )
 
-  -- at a fault
+  -- an error of the intake
   pub fails : (new : Device) (kept : Option ℕ) (used : ℕ) (cause : AuditCause) → TookNone limits mid new told kept used cause
       → FailsLeaving limits (old, before) (new, kept, used) number cause
   fails new kept used (causes.Refused e) (was, keeps, none) =
@@ -82,7 +83,7 @@ module _ {limits : Limits} {now : ℤ} {old mid : Device} {ledger : Ledger} {bef
   fails new kept used causes.Interrupted (was, none) = let missed = missed_at was in (missed.0, (missed.1, none))
   fails new kept used _ took = absurd took
 
-  -- with one envelope more than are listed
+  -- one envelope more than can be listed
   pub one_too_many : {new : Device} {left : Option ℕ} {used words : ℕ} {u : Unpacking} → max_envelopes < number → left ≡ None
       → TookOne limits mid new u used words → FailsLeaving limits (old, before) (new, left, used) number causes.TooManyEnvelopes
   one_too_many {new} many lives one =
@@ -93,7 +94,7 @@ module _ {limits : Limits} {now : ℤ} {old mid : Device} {ledger : Ledger} {bef
       let given = given_then new e.octets one.given in
       (record { input = _; given = given; envelopes = read.envelopes; listing = listing; nothing_more = refl; in_hand = next }, (lives, one.counts))
 
-  -- without memory for the row of an envelope
+  -- the allocation of the row of an envelope fails
   pub short_after : {new : Device} {left : Option ℕ} {used words : ℕ} {u : Unpacking} → number ≤ max_envelopes → left ≡ None
       → TookOne limits mid new u used words → FailsLeaving limits (old, before) (new, left, used) number causes.OutOfMemory
   short_after {new} less lives one =
@@ -106,7 +107,7 @@ module _ {limits : Limits} {now : ℤ} {old mid : Device} {ledger : Ledger} {bef
         (lives, one.counts ∙ sym (told_more before read.envelopes one.envelope)),
       )
 
-  -- an envelope more
+  -- one more envelope
   pub read_one : {new : Device} {later : Ledger} {left : Option ℕ} {used words : ℕ} {u : Unpacking} {got : UnpackedRef} → left ≡ None
       → ((values : List Value) (v : Value) → Keeps now ledger values → IsTaken (record { unpacked = got; words = words }) v
       → Keeps now later (values ++ v ∷ []))

@@ -1,4 +1,4 @@
--- From what an intake and an unpacker answer to what an audit takes of it.
+-- From what an intake and an unpacker return to what an audit uses of it.
 use Rattle.iim_audit.proofs.Words.{◌≡◌, ℕ, List, [], length, refl, sym, ap, subst, ◌∙◌, false, ◌≢◌, ◌⊎◌, Option, Some, None, Bool, true, inl, inr, ⊎_elim, arith, ℤ, ◌≤◌, ◌++◌, take, Result, Ok, Err, IfOk, IfErr, OctetsAreHandedOnOneWay, EventsTellTheDatasets, WordsSoFar, CountsWords, capped, words, Value, Admits, object_of, Device, IoFault, Limits, FedEnvelope, Faults, WasMissed, WasRefused, WasTruncated, Unpacking, IsDoneWith, Stands, limits_in, Progresses, IsDone, IsRefusedIn, failed_at, cause_of, IsCutOff, IsRefusal, TookEnvelope, TookOne, TookNone, IsTaken, option_map, raised, ShowsParts, UnpackedRef, row_with, counted_words, PieceAudit}
 use Rattle.iim_dataset.specs.{Format.Datasets.count_octets, Format.Datasets.InTag, States.Reading.handed_on, States.Reading.HandsOn}
 use Rattle.wire_story.specs.{Format.Texts.StoryEvent, Format.Texts.IsText, Laws.TextsAreCountedAsLines, Laws.DeliveryMayBeCut, Steps.counts_joined}
@@ -42,7 +42,7 @@ text_of_value laws octets text v admits (whole, begun, reads, is) =
     let same : admits.text ≡ text = found ∙ sym (is ∙ ap text_so_far object) in
     subst (λ (t : List ℕ). IsText t v.lines) same admits.lines
 
--- The words of an envelope are counted, from a count of none on.
+-- The words of an envelope are counted, starting from zero.
 pub words_of_value : TextLaws → (octets : List ℕ) (more : List StoryEvent) (v : Value) (old new : WordsSoFar) → Admits octets v → Delivers [] octets more
     → old.words ≡ 0 → old.inside ≡ false → CountsWords old more new → new.words ≡ capped (words v.lines)
 words_of_value laws octets more v old new admits adds none outside counts =
@@ -50,9 +50,9 @@ words_of_value laws octets more v old new admits adds none outside counts =
     laws.counts added v.lines old new (text_of_value laws octets added v admits is) none outside
     (subst (λ (events : List StoryEvent). CountsWords old events new) delivers counts)
 
--- ---- what an intake answers
+-- ---- what an intake returns
 
--- an unpacker that stood on no octets was fed an envelope, and a count of no words its lines
+-- an unpacker in the initial state was fed an envelope, and a count of zero words the lines of it
 pub took_one : TextLaws → (limits : Limits) (old new : Device) (u v : Unpacking) (a b : WordsSoFar) (used n : ℕ) (whole : Bool) → whole ≡ true
     → limits_in u ≡ limits → Stands u [] 0 → a.words ≡ 0 → a.inside ≡ false → n ≡ b.words → FedEnvelope CountsWords (old, u, a) (new, v, b) used whole
     → TookOne limits old new v used n
@@ -78,7 +78,7 @@ took_end limits old new u v a b used whole is fed =
     let (none, was) = rw is at fed in
     (was.1.given, was.1.at_end, none)
 
--- A sink that counts no failure refused nothing.
+-- A sink that counts no failure did not stop the unpacker.
 pub unsunk : (cause : Cause) → CountsFor cause 0 0 → cause ≢ Message Sink
 unsunk cause counts same = ⊎_elim (λ rose. omega arith) (λ full. omega arith) (rw same at counts)
 
@@ -106,7 +106,7 @@ module _ {S : Type 0} (goes : S → List StoryEvent → S → Type 0) (failures 
       let here = missed_open goes failures old new u v a b octet fault was [] 0 stands in
       record { rest = was.octets; missed = was.missed; is_open = here.0; keeps = keeps ∙ ap Some here.2 }
 
-  -- why an intake gives nothing to an unpacker that stands on no octets
+  -- why an intake feeds no envelope to an unpacker in the initial state
   pub none_fresh : (octet before : ℕ) (kept : Option ℕ) (told : ℕ) (fault : IntakeFault) → failures a ≡ 0 → failures b ≡ 0 → kept ≡ Some octet → told ≡ 0
       → Stands u [] 0 → Faults goes failures old new u v a b octet fault → TookNone (limits_in u) old new before kept told (cause_of fault)
   none_fresh octet before kept told (intakes.Refused e) first last keeps none stands faults =
@@ -116,11 +116,11 @@ module _ {S : Type 0} (goes : S → List StoryEvent → S → Type 0) (failures 
 
 -- ---- words
 
--- of no octets
+-- the words of no octets
 pub none_by : (count : WordsSoFar) → count.words ≡ 0 → count.inside ≡ false → HaveWords [] count
 none_by count none outside = record { more = []; delivers = adds_none []; counts = record { words = λ few. omega (arith, none); inside = outside } }
 
--- and of a piece more
+-- the words of one more chunk
 pub more_words : DeliveryMayBeCut → (p piece : List ℕ) (old new : WordsSoFar) (more : List StoryEvent) → HaveWords p old → Delivers p piece more
     → CountsWords old more new
     → HaveWords (p ++ piece) new
@@ -130,17 +130,18 @@ more_words cut p piece old new more before delivers counts = record {
   counts = counts_joined no_words old new before.more more before.counts counts;
 }
 
--- those of an envelope are the words of its lines
+-- the words of an envelope are the words of its lines
 all_words : TextLaws → (p : List ℕ) (v : Value) (count : WordsSoFar) → HaveWords p count → Admits p v → count.words ≡ counted_words v
 all_words laws p v count have admits = words_of_value laws p have.more v no_words count admits have.delivers refl refl have.counts
 
--- ---- a piece that is fed
+-- ---- a chunk that is fed
 
 module _ (u v : Unpacking) (piece : List ℕ) where
   abbrev IsSound : Progress → Type 0
   IsSound progress = (v.refused ≡ None) × ((used : ℕ) → progress ≡ Done used → IsDone v × (used ≤ length piece))
 
-  -- what is told of an unpacker is so: of one that was inside an envelope, and of one that was at the end of one
+  -- what an unpacker returns is true: for one that was inside an envelope, and for one that was at
+  -- the end of one
   sound_on : (progress : Progress) (p : List ℕ) (a : ℕ) (more : List StoryEvent) → Progresses v p a piece more progress → IsSound progress
   sound_on More p a more goes = (goes.0.taking, λ used is. absurd cc)
   sound_on (Done used) p a more goes = (goes.1.taking, λ now is. ((goes.1.taking, goes.1.ended), (let same : used ≡ now = cc in rw same at goes.0)))
@@ -156,7 +157,7 @@ module _ (u v : Unpacking) (piece : List ℕ) where
       let there = stood (λ done. let bad = is ∙ done.1 in cc) in
       sound_on progress there.0 there.1 more (goes there.0 there.1 there.2)
 
-  -- what the unpacker answers, with the words that were counted
+  -- what the unpacker returns, with the words that were counted
   pub fed_by : (r : Result Progress Refusal) (old new : WordsSoFar) → (u.refused ≡ None → (IsDone u → ⊥) → (p : List ℕ) × (a : ℕ) × Stands u p a)
       → IfOk r (λ progress. (◌≡◌ {A = ℕ} 0 0) × ((more : List StoryEvent) × CountsWords old more new
       × ((p : List ℕ) (a : ℕ) → Stands u p a → Progresses v p a piece more progress)))
@@ -178,7 +179,7 @@ pub refused_as : (r : Result Progress Refusal) (u : Unpacking) (old new : WordsS
 refused_as (Ok progress) u old new piece refuses counts = tt
 refused_as (Err e) u old new piece refuses counts = record { more = refuses.0; refuses = refuses.2; by_octets = unsunk e.cause counts }
 
--- ---- what is found
+-- ---- what is found in a chunk
 
 pub found_none : DeliveryMayBeCut → (limits : Limits) (now : ℤ) (old new : PieceAudit) (piece : List ℕ)
     → HasFed old.unpacker old.count piece new.unpacker new.count More

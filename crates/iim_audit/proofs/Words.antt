@@ -1,4 +1,4 @@
--- The names that several proofs bring in, passed on from one place.
+-- The names that several proofs import, re-exported from one module.
 pub use Rattle.iim_audit.specs.Format.{counted_words, first_same, id_of, report_of, row_with, rows_after, ages_of, lines_from, row_line}
 pub use Rattle.iim_audit.specs.Steps.{HaveShortIds, IsShort, AreFilled, AreFresh, IsOrder, IsPlace, by_index, filled, ids_of, index_at, index_cmp, key_after, key_at, key_of, keyed_cmp, place_cmp, place_of, places_of, IsCutOff, IsRefusal, IsTaken, Keeps, TookEnvelope, TookNone, TookOne, cause_of}
 pub use Rattle.iim_audit.specs.declared.pieces.PieceAudit.{PieceAudit}

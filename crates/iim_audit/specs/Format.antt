@@ -1,4 +1,5 @@
--- What an audit answers: the rows of envelopes, their ages and copies, and the text of a report.
+-- What an audit returns: the rows of envelopes, their ages and copy states, and the text of a
+-- report.
 use Rattle.std.specs.Prelude.{ℤ, pos, ◌-ℤ◌, ◌*ℤ◌, ◌≤ℤ◌, Option, List, int_le, not, false, if◌then◌else◌, ℕ, ◌+◌, [], ◌∷◌, ◌++◌, map, slice_get, Some, None, ◌≡◌, ◌<◌, ◌⊎◌, length, ◌≤◌, take, slice_index, Bool, true, count_by, codes, decimal, is_some}
 use Rattle.std.specs.{Int.int_div_euclid, Str.Parse.digits_value, Io.KnownBytes.IsAtEnd, Fmt.signed_decimal}
 use Rattle.std.specs.Option.{option_map, option_map_or, option_and_then, unwrap_or}
@@ -25,11 +26,11 @@ use Rattle.iim_audit.specs.declared.fault.AuditCause.TheVariants as causes
 abbrev pub whole_seconds : ℤ → ℤ
 whole_seconds nanoseconds = int_div_euclid nanoseconds (pos nanoseconds_in_second)
 
--- the whole seconds from the instant sent to now, where these data name one
+-- the whole seconds from the instant sent to now, if these data state that instant
 abbrev pub age_at : ℤ → List Dataset → Option ℤ
 age_at now fields = option_map (λ sent. whole_seconds (now -ℤ sent)) (instant_sent fields)
 
--- The seconds are the greatest whole number of them that is not above the nanoseconds.
+-- The seconds are the greatest integer that is not above the nanoseconds.
 pub record IsFloor (nanoseconds seconds : ℤ) : Type 0 where
   pub below : (seconds *ℤ pos nanoseconds_in_second) ≤ℤ nanoseconds
   pub greatest : (others : ℤ) → (others *ℤ pos nanoseconds_in_second) ≤ℤ nanoseconds → others ≤ℤ seconds
@@ -38,7 +39,7 @@ pub record IsFloor (nanoseconds seconds : ℤ) : Type 0 where
 abbrev pub WholeSecondsAreFloors : Type 0
 WholeSecondsAreFloors = (nanoseconds : ℤ) → IsFloor nanoseconds (whole_seconds nanoseconds)
 
--- held where the release is to come; else expired where the expiration is past; else free
+-- held if the release is later than now; otherwise expired if the expiration is earlier; else free
 abbrev pub copy_at : ℤ → List Dataset → CopyState
 copy_at now fields =
     if option_map_or (λ release. not (int_le release now)) (instant_of_release fields) false then Held
@@ -47,7 +48,7 @@ copy_at now fields =
 
 -- ---- The rows of a report, by the values of the envelopes.
 
--- what an envelope is known by: 1:30 Service Identifier, 1:40 Envelope Number and 1:70 Date Sent
+-- the identity of an envelope: 1:30 Service Identifier, 1:40 Envelope Number, 1:70 Date Sent
 abbrev pub id_of : Value → Identity
 id_of v = record {
   service = unwrap_or (first_data 1 30 v.fields) [];
@@ -59,16 +60,16 @@ id_of v = record {
 abbrev pub priority_of : Value → Option ℕ
 priority_of v = option_and_then (λ digit. slice_get digit 0) (first_data 1 60 v.fields)
 
--- the words of the lines, counted up to the greatest number of 64 bits
+-- the number of words of the lines, capped at the greatest number of 64 bits
 abbrev pub counted_words : Value → ℕ
 counted_words v = capped (words v.lines)
 
--- the number of the first of these ids that is the same; they are numbered from n
+-- the number of the first of these ids that is equal to `id`; they are numbered from n
 abbrev pub first_same : ℕ → Identity → List Identity → Option ℕ
 first_same n id [] = None
 first_same n id (other ∷ others) = if id_eq id other then Some n else first_same (n + 1) id others
 
--- the row of an envelope, with the number of the first one with its id, where that came before
+-- the row of an envelope; `first` is the number of the first one with its id, if that is earlier
 abbrev pub row_with : ℤ → Value → Option ℕ → AuditRow
 row_with now v first = record {
   id = id_of v;
@@ -82,11 +83,11 @@ row_with now v first = record {
   copy = copy_at now v.fields;
 }
 
--- the row of an envelope after those: all of them are looked through for its id
+-- the row of an envelope after these earlier ones, which are searched for its id
 abbrev pub row_of : ℤ → List Value → Value → AuditRow
 row_of now earlier v = row_with now v (first_same 1 (id_of v) (map id_of earlier))
 
--- the rows of envelopes after those
+-- the rows of envelopes after these earlier ones
 abbrev pub rows_after : ℤ → List Value → List Value → List AuditRow
 rows_after now earlier [] = []
 rows_after now earlier (v ∷ vs) = row_of now earlier v ∷ rows_after now (earlier ++ v ∷ []) vs
@@ -95,9 +96,9 @@ rows_after now earlier (v ∷ vs) = row_of now earlier v ∷ rows_after now (ear
 abbrev pub report_of : ℤ → List Value → List AuditRow
 report_of now values = rows_after now [] values
 
--- ---- What an audit answers, by the octets that its intake has next in line.
+-- ---- What an audit returns, by the octets that its intake has not read yet.
 
--- The whole input is envelopes, not too many, and the rows are their report.
+-- The input consists of envelopes, not too many, and the rows are their report.
 pub record IsAudited (limits : Limits) (now : ℤ) (old new : Device) (rows : List AuditRow) : Type 0 where
   pub input : List ℕ
   pub given : HasGiven old new input
@@ -106,7 +107,8 @@ pub record IsAudited (limits : Limits) (now : ℤ) (old new : Device) (rows : Li
   pub listing : IsListing limits input envelopes Whole
   pub report : rows ≡ report_of now (values_of envelopes)
 
--- After the envelopes before that of this number come octets that are refused. They end the input where no octet of them is the refused one.
+-- After the envelopes before this number the octets are rejected. If no octet is the rejected one,
+-- the input ends there.
 pub record IsRefusedAt (limits : Limits) (old new : Device) (number : ℕ) (e : Refusal) : Type 0 where
   pub input : List ℕ
   pub given : HasGiven old new input
@@ -115,7 +117,8 @@ pub record IsRefusedAt (limits : Limits) (old new : Device) (number : ℕ) (e : 
   pub at_end : listing.ends.0 ≡ length listing.rest → IsAtEnd new.octets
   pub in_hand : number ≡ length envelopes + 1
 
--- After the envelopes before that of this number come octets on which it can continue, and then this fault of the reader.
+-- After the envelopes before this number come octets of a viable prefix, and then this error of
+-- the reader.
 pub record IsMissedAt (limits : Limits) (old new : Device) (number : ℕ) (fault : IoFault) : Type 0 where
   pub input : List ℕ
   pub missed : MissedAfter old new input fault
@@ -125,12 +128,13 @@ pub record IsMissedAt (limits : Limits) (old new : Device) (number : ℕ) (fault
   pub is_open : IsOpen limits rest
   pub in_hand : number ≡ length envelopes + 1
 
--- how many octets the last of these envelopes has, as an intake tells it; or what it told before them
+-- the intake's count of octets after these envelopes: the length of the last one, or the count
+-- before, if the list is empty
 abbrev pub told_after : ℕ → List Listed → ℕ
 told_after before [] = before
 told_after before (e ∷ es) = told_after (raised 0 (length e.octets)) es
 
--- There was no memory for the envelope of this number: before it was read, or after it.
+-- The allocation for the envelope of this number failed: before it was read, or after it.
 pub record IsShortAt (limits : Limits) (old new : Device) (number : ℕ) : Type 0 where
   pub input : List ℕ
   pub given : HasGiven old new input
@@ -138,7 +142,7 @@ pub record IsShortAt (limits : Limits) (old new : Device) (number : ℕ) : Type 
   pub divides : Divides limits input envelopes []
   pub in_hand : (number ≡ length envelopes + 1) ⊎ ((number ≡ length envelopes) × (0 < number))
 
--- One envelope more came than are listed, and just that: it is the one of this number.
+-- One more envelope was read than can be listed, and no further octet. It has this number.
 pub record IsOneTooMany (limits : Limits) (old new : Device) (number : ℕ) : Type 0 where
   pub input : List ℕ
   pub given : HasGiven old new input
@@ -155,8 +159,10 @@ FailsAt limits old new number causes.Interrupted = IsMissedAt limits old new num
 FailsAt limits old new number causes.OutOfMemory = IsShortAt limits old new number
 FailsAt limits old new number causes.TooManyEnvelopes = IsOneTooMany limits old new number
 
--- What of the intake is left: after a fault of it the octet that it tells from then on, which is that of the refusal, or how many octets
--- of the envelope in hand came; and how many octets its last envelope had. (What it told before the audit, then what it keeps and tells.)
+-- The state in which an audit leaves the intake. After an error of the intake: the octet that it
+-- returns from then on, that of the refusal or the number of octets received of the partial
+-- envelope. Otherwise: the length of its last envelope. (The count before the audit; then what the
+-- intake stores and counts after it.)
 abbrev pub Leaves : (limits : Limits) (old new : Device) (number : ℕ) (cause : AuditCause) → FailsAt limits old new number cause → ℕ → Option ℕ → ℕ → Type 0
 Leaves limits old new number (causes.Refused e) why before kept told = (kept ≡ Some e.octet) × (told ≡ 0)
 Leaves limits old new number causes.Read why before kept told = (kept ≡ Some (raised 0 (length why.rest))) × (told ≡ 0)
@@ -164,32 +170,35 @@ Leaves limits old new number causes.Interrupted why before kept told = (kept ≡
 Leaves limits old new number causes.OutOfMemory why before kept told = (kept ≡ None) × (told ≡ told_after before why.envelopes)
 Leaves limits old new number causes.TooManyEnvelopes why before kept told = (kept ≡ None) × (told ≡ raised 0 (length why.listing.ends.1.octets))
 
--- why there is no report, and what of the intake is left (what is next in line and the octets that it tells, before and after; after,
--- also the octet that it keeps)
+-- why there is no report, and the state in which the audit leaves the intake (the unread input and
+-- the count of octets, before and after; after, also the octet that the intake stores)
 abbrev pub FailsLeaving : Limits → Device × ℕ → Device × Option ℕ × ℕ → ℕ → AuditCause → Type 0
 FailsLeaving limits (old, before) (new, kept, told) number cause = (why : FailsAt limits old new number cause) × Leaves limits old new number cause why before kept told
 
--- The intake had answered a fault before, which is told with envelope 1; or there was no memory, and it was not asked.
+-- The intake had already failed, and the same error is returned with envelope 1; or the allocation
+-- failed, and the intake was not read.
 abbrev pub IsToldAgain : ℕ → ℕ → ℕ → ℕ → AuditCause → Type 0
 IsToldAgain octet before told number cause =
     (number ≡ 1) × (((cause ≡ causes.Refused (failed_at octet)) × (told ≡ 0)) ⊎ ((cause ≡ causes.OutOfMemory) × (told ≡ before)))
 
--- a count of no words, at the beginning of a line
+-- a count of zero words, at the beginning of a line
 abbrev pub no_words : WordsSoFar
 no_words = record { words = 0; inside = false }
 
--- The words of what the octets deliver were counted, from a count of none on.
+-- The words in the text that these octets deliver were counted, starting from zero.
 pub record HaveWords (p : List ℕ) (count : WordsSoFar) : Type 0 where
   pub more : List StoryEvent
   pub delivers : Delivers [] p more
   pub counts : CountsWords no_words more count
 
--- The audit stands on these octets of an envelope, of which `a` are counted, and their words.
+-- The audit is in the state after these octets of an envelope, with `a` as their count, and has
+-- counted their words.
 pub record StandsOn (audit : PieceAudit) (p : List ℕ) (a : ℕ) : Type 0 where
   pub unpacker : Stands audit.unpacker p a
   pub words : HaveWords p audit.count
 
--- The octets are an envelope, and this is told of it: its row, which names no earlier one, and the instants of its copy.
+-- The octets are an envelope, and this is its row, with `first` unset, and the instants of its
+-- copy.
 pub record IsRowOf (limits : Limits) (now : ℤ) (octets : List ℕ) (found : PieceRow) : Type 0 where
   pub value : Value
   pub envelope : IsEnvelopeWithin limits octets value
@@ -197,14 +206,16 @@ pub record IsRowOf (limits : Limits) (now : ℤ) (octets : List ℕ) (found : Pi
   pub release : option_map (λ t. t.nanosecond) found.release ≡ instant_of_release value.fields
   pub expires : option_map (λ t. t.nanosecond) found.expires ≡ instant_of_expiration value.fields
 
--- What a piece comes to after octets `p` of an envelope, of which `a` are counted: none ends in it, and the audit stands on all octets;
--- or one ends after some octets of the piece, and the audit stands on none.
+-- The result for a chunk after octets `p` of an envelope, with `a` as their count. Either no
+-- envelope ends in it, and the audit is in the state after all octets; or one ends within the
+-- chunk, and the audit is in the initial state.
 abbrev pub Finds : Limits → ℤ → List ℕ → ℕ → List ℕ → PieceAudit → Option PieceRow → Type 0
 Finds limits now p a piece audit None = StandsOn audit (p ++ piece) (raised a (length piece))
 Finds limits now p a piece audit (Some found) =
     (found.used ≤ length piece) × (found.octets ≡ raised a found.used) × IsRowOf limits now (p ++ take found.used piece) found × StandsOn audit [] 0
 
--- Octet k of the piece is refused, after those octets: with it a layer is dead.
+-- Octet k of the chunk is rejected after these octets: with it some layer has no valid
+-- continuation.
 pub record Refuses (limits : Limits) (p : List ℕ) (a : ℕ) (piece : List ℕ) (e : Refusal) : Type 0 where
   pub k : ℕ
   pub within : k < length piece
@@ -214,20 +225,20 @@ pub record Refuses (limits : Limits) (p : List ℕ) (a : ℕ) (piece : List ℕ)
 
 -- ---- The text of a report.
 
--- a digit, or `-` where there is none
+-- a digit, or `-` if it is absent
 abbrev pub digit_or_dash : Option ℕ → ℕ
 digit_or_dash digit = unwrap_or digit minus
 
--- a number of seconds, with `-` before one below zero, or `-` alone where there is none
+-- a number of seconds, with `-` before a negative one, or `-` alone if it is absent
 abbrev pub seconds_or_dash : Option ℤ → List ℕ
 seconds_or_dash None = codes "-"
 seconds_or_dash (Some n) = signed_decimal n
 
--- service, number and date sent, after the row's number
+-- the row's number, then service, number and date sent
 abbrev pub known_by : ℕ → AuditRow → List ℕ
 known_by number row = decimal number ++ (codes " " ++ (shown row.id.service ++ (codes " " ++ (row.id.number ++ (codes " " ++ row.id.date_sent)))))
 
--- the sizes, and the words announced and counted
+-- the sizes, and the numbers of words announced and counted
 abbrev pub sizes_of : AuditRow → List ℕ
 sizes_of row = codes " size " ++ (decimal row.size ++ (codes " subfiles " ++ (decimal row.subfiles ++ (codes " words " ++ (decimal row.announced ++ (codes "/" ++ decimal row.counted))))))
 
@@ -236,7 +247,7 @@ copy_word Held = codes "held"
 copy_word Expired = codes "expired"
 copy_word Free = codes "free"
 
--- the age, the first envelope with the same id, and whether the copy may be used
+-- the age, the first envelope with the same id, and the copy state
 abbrev pub ages_of : AuditRow → List ℕ
 ages_of row =
     codes " age " ++ (seconds_or_dash row.age ++ (codes " repeats " ++ (number_or_dash row.first ++ (codes " copy " ++ (copy_word row.copy ++ codes "\n")))))
@@ -250,7 +261,7 @@ abbrev pub lines_from : ℕ → List AuditRow → List ℕ
 lines_from n [] = []
 lines_from n (row ∷ rows) = row_line n row ++ lines_from (n + 1) rows
 
--- how many rows repeat an earlier one
+-- the number of rows that repeat an earlier one
 abbrev pub repeated_rows : List AuditRow → ℕ
 repeated_rows rows = count_by (λ row. is_some row.first) rows
 
@@ -258,7 +269,7 @@ abbrev pub is_held : CopyState → Bool
 is_held Held = true
 is_held _ = false
 
--- how many rows are of copy that is held
+-- the number of rows whose copy is held
 abbrev pub held_rows : List AuditRow → ℕ
 held_rows rows = count_by (λ row. is_held row.copy) rows
 
@@ -266,11 +277,11 @@ held_rows rows = count_by (λ row. is_held row.copy) rows
 abbrev pub sums_line : List AuditRow → List ℕ
 sums_line rows = decimal (length rows) ++ (codes " envelopes, " ++ (decimal (repeated_rows rows) ++ (codes " repeated, " ++ (decimal (held_rows rows) ++ codes " held\n"))))
 
--- what is printed of a report
+-- the text of a report
 abbrev pub printed_report : List AuditRow → List ℕ
 printed_report rows = lines_from 1 rows ++ sums_line rows
 
--- The number of what stopped an audit: for a refusal, that of its cause.
+-- The number of the cause that stopped an audit: for a refusal, that of its cause.
 abbrev pub audit_number : AuditCause → ℕ
 audit_number (causes.Refused refusal) = cause_number refusal.cause
 audit_number causes.Read = 71
@@ -278,7 +289,7 @@ audit_number causes.Interrupted = 72
 audit_number causes.OutOfMemory = 70
 audit_number causes.TooManyEnvelopes = 90
 
--- The name of what stopped an audit.
+-- The name of the cause that stopped an audit: for a refusal, that of its cause.
 abbrev pub audit_name : AuditCause → List ℕ
 audit_name (causes.Refused refusal) = cause_name refusal.cause
 audit_name causes.Read = codes "Read"

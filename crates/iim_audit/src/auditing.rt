@@ -1,4 +1,4 @@
-//! Audits the envelopes of an intake.
+//! Audits of all envelopes of an intake.
 
 ghost use Rattle.std.specs.Prelude.{◌≡◌, ℕ, None, Some, IfOk, IfErr, OnOk, IsErrAnd};
 ghost use Rattle.iim_unpack.specs.States.Intakes.{in_line};
@@ -21,8 +21,8 @@ use wire_message::laws::message_laws;
 use wire_story::WordCount;
 use wire_story::laws::story_laws;
 
-/// Begins an unpacker again and feeds it the next envelope of an intake: answers how many words its lines have, or None at the end of
-/// the input.
+/// Resets an unpacker and feeds it the next envelope of an intake. Returns the number of words in
+/// its story, or `None` at the end of the input.
 fn take_envelope<R: Source>(
     intake: &mut Intake<R>,
     unpacker: &mut Unpacker,
@@ -52,10 +52,11 @@ fn take_envelope<R: Source>(
     }
 }
 
-/// The report of all envelopes of an input, at the instant `now`: a row for each, in their order. An intake that had answered
-/// a fault before tells it again, with envelope 1.
+/// Returns the report of all envelopes of an input at the instant `now`: one row for each, in the
+/// order of the input. If the intake had already failed, returns the same error again, with
+/// envelope 1.
 ///
-/// It takes memory for each row, and time that grows with n log n for n envelopes.
+/// Allocates memory for each row. Takes time proportional to n log n for n envelopes.
 pub fn audit<R: Source>(
     alloc: Global,
     intake: &mut Intake<R>,
@@ -68,11 +69,11 @@ pub fn audit<R: Source>(
         → IfErr result (λ fault. FailsLeaving limits (in_line R.state intake.old, intake.old.octets)
         (in_line R.state intake.new, intake.new.failed, intake.new.octets) fault.envelope fault.cause) }
 
-    // After a report the intake has answered no fault, and tells no octets.
+    // After a report the intake has not failed, and its count of octets is 0.
     ensures lives { OnOk result (intake.new.failed ≡ None) }
     ensures none { OnOk result (intake.new.octets ≡ 0) }
 
-    // Where it had answered a fault before, it is left as it was, but for the octets that it tells.
+    // An intake that had already failed is unchanged, except for its count of octets.
     ensures again { (octet : ℕ) → intake.old.failed ≡ Some octet
         → IsErrAnd result (λ fault. IsToldAgain octet intake.old.octets intake.new.octets fault.envelope fault.cause) }
     ensures as_it_was { (octet : ℕ) → intake.old.failed ≡ Some octet → intake.new

@@ -1,4 +1,4 @@
-//! Whether copy may be used now.
+//! Copy states: whether the copy of an envelope may be used.
 
 ghost use Rattle.std.specs.Prelude.{◌≡◌, ◌≤◌, length, Some};
 ghost use Rattle.iim_audit.specs.Format.{copy_at, copy_word};
@@ -11,11 +11,11 @@ use std::fmt::{Display, Formatter};
 /// Whether the copy of an envelope may be used.
 #[derive(Clone, Copy, Debug, PartialEq, Eq)]
 pub enum CopyState {
-    /// Its release is still to come.
+    /// Its release is later than the instant of the audit.
     Held,
-    /// Its expiration has passed.
+    /// It is not held, and its expiration is earlier than that instant.
     Expired,
-    /// Neither.
+    /// It may be used.
     Free,
 }
 
@@ -28,7 +28,7 @@ impl Display for CopyState {
 }
 
 impl CopyState {
-    /// What it is printed as.
+    /// Returns the word that a report prints for this state: `held`, `expired` or `free`.
     pub(crate) fn word(self) -> &'static str
         ensures word { result.now ≡ copy_word self }
         ensures short { length result.now ≤ 7 }
@@ -41,7 +41,7 @@ impl CopyState {
     }
 }
 
-/// Whether the copy of an envelope may be used at an instant.
+/// Returns whether the copy of an envelope may be used at the instant `now`.
 pub(crate) fn copy_at(envelope: &EnvelopeRef<'_>, now: Timestamp) -> CopyState
     ensures { result ≡ copy_at now.nanosecond envelope.now }
 {

@@ -1,24 +1,25 @@
-//! Why there is no report.
+//! Errors of an audit.
 
 use iim_unpack::{IntakeFault, Refusal};
 use thiserror::Error;
 
-/// What stopped an audit.
+/// The reason why an audit returns no report.
 #[derive(Clone, Copy, Debug, PartialEq, Eq, Error)]
 pub enum AuditCause {
-    /// The envelope was refused, or the input ends in it; or the intake had answered a fault before.
+    /// The envelope was rejected, or the input ends inside it, or the intake had already failed.
     #[error("{0}")]
     Refused(Refusal),
     /// The reader failed: cause 71.
     #[error("the input cannot be read")]
     Read,
-    /// A million interruptions of the reader came in a row: cause 72.
+    /// The reader was interrupted a million times in a row: cause 72.
     #[error("the input is interrupted again and again")]
     Interrupted,
-    /// Memory was refused: cause 70.
+    /// An allocation failed: cause 70.
     #[error("out of memory")]
     OutOfMemory,
-    /// There are 1,000,000 envelopes, and it is one more: cause 90.
+    /// The input has more than 1,000,000 envelopes, and this is the first of them too many: cause
+    /// 90.
     #[error("too many envelopes")]
     TooManyEnvelopes,
 }
@@ -27,7 +28,8 @@ impl AuditCause {
     ghost use Rattle.std.specs.Prelude.{◌≡◌};
     ghost use Rattle.iim_audit.specs.Format.{audit_number, audit_name};
 
-    /// Returns the number of the cause, as it is printed: for a refusal, that of its cause.
+    /// Returns the number of the cause, as it is printed. For a refusal, this is the number of its
+    /// cause.
     pub fn number(self) -> u8
         ensures { result ≡ audit_number self }
     {
@@ -40,7 +42,8 @@ impl AuditCause {
         }
     }
 
-    /// Returns the name of the cause, as it is printed: for a refusal, that of its cause.
+    /// Returns the name of the cause, as it is printed. For a refusal, this is the name of its
+    /// cause.
     pub fn name(self) -> &'static str
         ensures { result.now ≡ audit_name self }
     {
@@ -54,17 +57,17 @@ impl AuditCause {
     }
 }
 
-/// What stopped an audit, and at which envelope.
+/// The error of an audit: its cause, and the envelope at which it occurred.
 #[derive(Clone, Copy, Debug, PartialEq, Eq, Error)]
 #[error("envelope {envelope}: {cause}")]
 pub struct AuditFault {
-    /// The number of the envelope in hand, from 1.
+    /// The number of the envelope that was being read, from 1.
     pub envelope: u64,
-    /// What stopped the audit at it.
+    /// The reason why the audit stopped there.
     pub cause: AuditCause,
 }
 
-/// A fault at the envelope with this number.
+/// Returns an error at the envelope with this number.
 pub(crate) fn fault_at(envelope: u64, cause: AuditCause) -> AuditFault
     ensures { result ≡ record { envelope = envelope; cause = cause } }
 {
@@ -74,7 +77,7 @@ pub(crate) fn fault_at(envelope: u64, cause: AuditCause) -> AuditFault
 ghost use Rattle.std.specs.Prelude.{◌≡◌};
 ghost use Rattle.iim_audit.specs.Steps.{cause_of};
 
-/// The cause for a fault of an intake.
+/// Returns the cause of an audit's error for an error of its intake.
 pub(crate) fn cause_of(fault: IntakeFault) -> AuditCause
     ensures { result ≡ cause_of fault }
 {

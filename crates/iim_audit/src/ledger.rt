@@ -1,4 +1,4 @@
-//! What an audit keeps while it reads.
+//! The rows that an audit stores while it reads.
 
 ghost use Rattle.std.specs.Prelude.{◌≡◌, ◌+◌, ◌<◌, ◌≤◌, ◌^◌, ◌++◌, ◌∷◌, [], ℤ, List, length, OnOk};
 ghost use Rattle.iim_places.specs.Format.Admitted.{Value};
@@ -11,8 +11,8 @@ use crate::row::{AuditRow, Taken, row_of};
 use jiff::Timestamp;
 use std::alloc::{AllocError, Global};
 
-/// The rows so far, none with its first envelope yet, and the place of each. The places come with the rows, since at the end of
-/// an input no memory may be asked for.
+/// The rows so far, each with `first` still unset, and the sort key of each row. The keys are
+/// stored together with the rows, because nothing may be allocated at the end of the input.
 #[derive(Drop)]
 pub(crate) struct Ledger {
     rows: Vec<AuditRow>,
@@ -22,7 +22,7 @@ pub(crate) struct Ledger {
 impl Ledger {
     ghost use Rattle.iim_audit.specs.Steps.{Keeps, HaveShortIds, ids_of, places_of};
 
-    /// A ledger of no envelopes.
+    /// Creates an empty ledger.
     pub(crate) fn new(alloc: Global) -> Ledger
         ensures keeps { (now : ℤ) → Keeps now result [] }
         ensures empty { result.rows.items ≡ [] }
@@ -34,14 +34,14 @@ impl Ledger {
         }
     }
 
-    /// The number of the next envelope, from 1.
+    /// Returns the number of the next envelope, from 1.
     pub(crate) fn next_number(&self) -> u64
         ensures { result ≡ length self.now.rows.items + 1 }
     {
         self.rows.len() as u64 + 1
     }
 
-    /// Adds the row of the next envelope.
+    /// Appends the row of the next envelope. Returns an error if an allocation fails.
     pub(crate) fn enter(&mut self, got: &Taken<'_>, now: Timestamp) -> Result<(), AllocError>
         requires few { length self.old.rows.items < 2 ^ 32 }
         requires places { self.old.places.items ≡ places_of 0 (ids_of self.old.rows.items) }
@@ -60,7 +60,8 @@ impl Ledger {
         Ok(())
     }
 
-    /// The report of the rows, each with its first envelope. It takes no memory.
+    /// Returns the report of the rows, with `first` set in each row that repeats an earlier one.
+    /// Allocates nothing.
     pub(crate) fn into_report(self) -> Report
         requires few { length (ids_of self.rows.items) ≤ 2 ^ 32 }
         requires places { self.places.items ≡ places_of 0 (ids_of self.rows.items) }

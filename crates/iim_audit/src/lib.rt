@@ -1,8 +1,9 @@
-//! Audits a stream of envelopes: a row for each, with its id, its sizes, its words, its age, which of them repeats which, and
-//! whether its copy may be used.
+//! Audits a stream of envelopes. The report has a row for each envelope: its id, its sizes, its
+//! words, its age, the earlier envelope that it repeats, and whether its copy may be used.
 //!
-//! Stands on `iim_unpack`, and on the crates below it for what an envelope's views tell. The crate above uses [`audit`],
-//! whose report is a function of the list of envelopes and of the present instant.
+//! Depends on `iim_unpack`, and on the crates below it for the views of an envelope. The entry
+//! point is [`audit`]; its report is a function of the list of envelopes and of the present
+//! instant.
 #![tactic(auto)]
 
 mod age;

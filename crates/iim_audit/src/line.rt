@@ -1,4 +1,5 @@
-//! Lines of a report, in a fixed room. They are made from their end on, so that the digits of a number are written where they stay.
+//! Lines of a report, in a buffer of fixed length. A line is built from its end to its beginning,
+//! so that the digits of a number are written in place.
 
 ghost use Rattle.std.specs.Prelude.{◌≡◌, ◌+◌, ◌*◌, ◌≤◌, [], ◌++◌, decimal, length};
 ghost use Rattle.iim_dataset.specs.Format.Datasets.{shown, shown_octet};
@@ -7,14 +8,15 @@ use iim_dataset::internals::{escaped, is_plain};
 use itoa::write_digits;
 use std::marker::Model;
 
-/// The most octets of a line, or more.
+/// The capacity of a line in octets. No line is longer.
 pub(crate) const ROOM: usize = 272;
 
-/// A line of a report, as it is printed. It takes no memory. Contracts see it as the list of its octets.
+/// A line of a report, as it is printed. It allocates nothing. Contracts see it as the list of its
+/// octets.
 #[derive(Drop)]
 pub struct ReportLine {
     room: [u8; ROOM],
-    // Where the octets begin: they stand last in the room.
+    // The index of the first octet: the octets are at the end of the buffer.
     from: usize,
 }
 
@@ -29,7 +31,7 @@ impl Model for ReportLine {
 }
 
 impl ReportLine {
-    /// No octets.
+    /// Creates an empty line.
     pub(crate) fn new() -> ReportLine
         ensures { result ≡ [] }
     {
@@ -39,14 +41,14 @@ impl ReportLine {
         }
     }
 
-    /// The octets.
+    /// Returns the octets of the line.
     pub fn as_slice(&self) -> &[u8]
         ensures { result.now ≡ self.now }
     {
         &self.room[self.from..]
     }
 
-    /// Adds octets at the front.
+    /// Inserts octets at the front.
     #[inline(always)]
     pub(crate) fn prepend(&mut self, octets: &[u8])
         requires { length self.old + length octets.now ≤ ROOM }
@@ -58,7 +60,7 @@ impl ReportLine {
         self.from = from;
     }
 
-    /// Adds a number at the front.
+    /// Inserts a number at the front, in decimal.
     pub(crate) fn prepend_number(&mut self, number: u64)
         requires { length self.old + 20 ≤ ROOM }
         ensures octets { self.new ≡ decimal number ++ self.old }
@@ -67,7 +69,7 @@ impl ReportLine {
         self.from = write_digits(number, &mut self.room, self.from);
     }
 
-    /// Adds an octet at the front, as it is shown.
+    /// Inserts an octet at the front, escaped as in a report.
     fn prepend_shown_octet(&mut self, octet: u8)
         requires { length self.old + 4 ≤ ROOM }
         ensures octets { self.new ≡ shown_octet octet ++ self.old }
@@ -80,7 +82,7 @@ impl ReportLine {
         }
     }
 
-    /// Adds octets at the front, as they are shown.
+    /// Inserts octets at the front, escaped as in a report.
     pub(crate) fn prepend_shown(&mut self, octets: &[u8])
         requires { length self.old + 4 * length octets.now ≤ ROOM }
         ensures octets { self.new ≡ shown octets.now ++ self.old }

@@ -1,4 +1,4 @@
-//! Audits envelopes that come in pieces.
+//! Audits of envelopes that are received in chunks.
 
 ghost use Rattle.std.specs.Prelude.{◌≡◌, ◌≤◌, ℕ, List, [], length, None, Some, Err, IfOk, IfErr, IfSome, OnOk};
 ghost use Rattle.iim_unpack.specs.States.Unpacking.{IsDone, IsDoneWith, failed_at, limits_in};
@@ -16,29 +16,30 @@ use wire_message::laws::message_laws;
 use wire_story::WordCount;
 use wire_story::laws::{delivery_may_be_cut, story_laws};
 
-/// What is told of an envelope that ends in a piece.
+/// The row of an envelope that ends in a chunk, with its lengths and instants.
 #[derive(Debug, Drop)]
 pub struct PieceRow {
-    /// How many octets of the piece were used: the envelope ends with the last of them.
+    /// The number of octets of the chunk that were consumed. The last of them ends the envelope.
     pub used: usize,
-    /// How many octets the envelope has, also those of earlier pieces.
+    /// The length of the envelope in octets, those of earlier chunks included.
     pub octets: u64,
-    /// Its row, which names no earlier envelope.
+    /// The row of the envelope. Its `first` is `None`.
     pub row: AuditRow,
-    /// The instant from which on its copy may be used, where it names one.
+    /// The first instant at which the copy may be used, if the envelope states one.
     pub release: Option<Timestamp>,
-    /// The last instant at which its copy may be used, where it names one.
+    /// The last instant at which the copy may be used, if the envelope states one.
     pub expires: Option<Timestamp>,
 }
 
-/// An audit of envelopes that come in pieces. One unpacker serves for all: it begins again after each envelope, on the same memory.
+/// An audit of envelopes that are received in chunks. It has one unpacker for all envelopes, which
+/// is reset after each of them and reuses its memory.
 #[derive(Drop)]
 pub struct PieceAudit {
     unpacker: Unpacker,
     count: WordCount,
 }
 
-/// Feeds a piece, and counts the words of what is delivered of its text.
+/// Feeds a chunk to an unpacker, and counts the words of the text in it.
 fn feed_count(
     unpacker: &mut Unpacker,
     piece: &[u8],
@@ -56,7 +57,8 @@ fn feed_count(
 }
 
 impl PieceAudit {
-    /// An audit that stands on no octets, with memory for just what the limits allow: no later call takes any.
+    /// Creates an audit that has consumed no octets. Allocates the memory that the limits allow;
+    /// no later call allocates.
     pub fn new(alloc: Global, limits: Limits) -> Result<PieceAudit, AllocError>
         ensures stands { IfOk result (λ audit. StandsOn audit [] 0) }
         ensures limits { IfOk result (λ audit. limits_in audit.unpacker ≡ limits) }
@@ -66,8 +68,8 @@ impl PieceAudit {
         Ok(PieceAudit { unpacker, count })
     }
 
-    /// An audit that continues from an unpacker with which no envelope has ended, where so many words were counted in the octets so
-    /// far, the last of them inside a word of its line or not.
+    /// Creates an audit that continues from an unpacker inside an envelope. `words` is the number
+    /// of words counted in the octets so far, and `inside` is whether they end inside a word.
     pub fn resume(unpacker: Unpacker, words: u64, inside: bool) -> PieceAudit
         requires { IsDone unpacker → ⊥ }
         ensures unpacker { result.unpacker ≡ unpacker }
@@ -77,22 +79,23 @@ impl PieceAudit {
         PieceAudit { unpacker, count }
     }
 
-    /// The unpacker, which tells how many octets of the begun envelope have come, and gives the ticket of their place.
+    /// Returns the unpacker, which has the number of octets received of the partial envelope and
+    /// its state.
     pub fn unpacker(&self) -> &Unpacker
         ensures { result.now ≡ self.now.unpacker }
     {
         &self.unpacker
     }
 
-    /// How many words were counted in the octets of the begun envelope, and whether they end inside a word: from there an audit can be
-    /// resumed.
+    /// Returns the number of words counted in the partial envelope, and whether its octets end
+    /// inside a word. [`PieceAudit::resume`] continues from these values.
     pub fn words(&self) -> (u64, bool)
         ensures { result ≡ (self.now.count.words, self.now.count.inside) }
     {
         self.count.so_far()
     }
 
-    /// The row of the envelope that has ended, with the last of these octets of a piece.
+    /// Returns the row of the complete envelope, of which `used` octets were in the last chunk.
     fn row_told(&self, used: usize, now: Timestamp) -> PieceRow
         requires { IsDone self.now.unpacker }
         ensures used { result.used ≡ used }
@@ -119,7 +122,7 @@ impl PieceAudit {
         }
     }
 
-    /// Begins with the next envelope.
+    /// Resets the audit for the next envelope.
     fn again(&mut self)
         ensures stands { StandsOn self.new [] 0 }
         ensures limits { limits_in self.new.unpacker ≡ limits_in self.old.unpacker }
@@ -128,20 +131,23 @@ impl PieceAudit {
         self.count = WordCount::new();
     }
 
-    /// The row of the next envelope that ends in a piece, at the instant `now`, and how many octets of the piece were used: those after
-    /// them are of the next one. None where all were used, and the envelope in hand can continue.
+    /// Feeds a chunk up to the end of the first envelope that ends in it. Returns the row of that
+    /// envelope at the instant `now`, and the number of octets that were consumed: the octets
+    /// after them belong to the next envelope. Returns `None` if the whole chunk was consumed and
+    /// the envelope can continue. Allocates nothing.
     ///
-    /// An error is the refusal of the first octet with which a layer is dead; later calls answer [`iim_unpack::Cause::Failed`]. No call
-    /// takes memory.
+    /// **Errors:** the refusal of the first octet at which some layer has no valid continuation.
+    /// After an error, every call returns [`iim_unpack::Cause::Failed`].
     pub fn next_row(&mut self, piece: &[u8], now: Timestamp) -> Result<Option<PieceRow>, Refusal>
-        // What octets come to is told of them as a whole, however they were cut.
+        // The result depends on all octets of the envelope, not on how they were split into
+        // chunks.
         ensures found { IfOk result (λ found. (p : List ℕ) (a : ℕ) → StandsOn self.old p a
             → Finds (limits_in self.old.unpacker) now.nanosecond p a piece.now self.new found) }
         ensures refused { IfErr result (λ e. (p : List ℕ) (a : ℕ) → StandsOn self.old p a
             → Refuses (limits_in self.old.unpacker) p a piece.now e) }
         ensures failed { IfErr result (λ e. self.new.unpacker.refused ≡ Some e.octet) }
 
-        // After a refusal nothing changes any more.
+        // After a refusal a call changes nothing.
         ensures again { (octet : ℕ) → self.old.unpacker.refused ≡ Some octet → (result ≡ Err (failed_at octet))
             × (self.new ≡ self.old) }
         ensures limits { self.old.unpacker.refused ≡ None → OnOk result (limits_in self.new.unpacker

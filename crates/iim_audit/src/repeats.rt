@@ -1,4 +1,4 @@
-//! Which rows repeat an earlier one.
+//! The rows that repeat an earlier one.
 
 ghost use Rattle.std.specs.Prelude.{◌≡◌, ℕ, ◌<◌, ◌≤◌, ◌^◌, ◌+◌, Some, None, true, false, length, map, slice_index_or};
 ghost use Rattle.std.specs.List.{All};
@@ -12,10 +12,12 @@ use crate::row::AuditRow;
 use iim_fields::EnvelopeId;
 use std::cmp::Ordering;
 
-/// How many indices there may be: a place has the index of its row below this, and above it the key of the row's id.
+/// The number of possible indices. A sort key has the index of its row below this, and above it
+/// the key of the row's id.
 const INDICES: u64 = 1 << 32;
 
-/// The key of an id: four bits of each octet of its number. So the keys of different numbers differ.
+/// Returns the key of an id: four bits of each octet of its number. Different numbers have
+/// different keys.
 fn key_of(id: &EnvelopeId) -> u32
     ensures { result ≡ key_of id.now }
 {
@@ -26,14 +28,14 @@ fn key_of(id: &EnvelopeId) -> u32
     key
 }
 
-/// The place of the row at this index, which has this id.
+/// Returns the sort key of the row at `index`, whose id is `id`.
 pub(crate) fn place_of(id: &EnvelopeId, index: u32) -> u64
     ensures { result ≡ place_of id.now index }
 {
     u64::from(key_of(id)) * INDICES + u64::from(index)
 }
 
-/// The key of a place.
+/// Returns the key of the id in a sort key.
 #[inline(always)]
 fn key_at(place: u64) -> u64
     ensures { result ≡ key_at place }
@@ -41,7 +43,7 @@ fn key_at(place: u64) -> u64
     place / INDICES
 }
 
-/// The index of a place.
+/// Returns the index of the row in a sort key.
 #[inline(always)]
 fn index_at(place: u64) -> usize
     ensures { result ≡ index_at place }
@@ -49,7 +51,7 @@ fn index_at(place: u64) -> usize
     (place % INDICES) as usize
 }
 
-/// How two rows stand to each other by their ids; one that is not there comes first.
+/// Compares the ids of the rows at two indices. An index out of range comes first.
 fn compare_ids(rows: &[AuditRow], a: usize, b: usize) -> Ordering
     ensures { result ≡ by_index id_cmp (ids_of rows.now) a b }
 {
@@ -61,14 +63,15 @@ fn compare_ids(rows: &[AuditRow], a: usize, b: usize) -> Ordering
     }
 }
 
-/// How the indices of two rows stand to each other: by their ids, and by themselves where these are the same.
+/// Compares two indices by the ids of their rows, and by the indices themselves if the ids are
+/// equal.
 fn compare_indices(rows: &[AuditRow], a: usize, b: usize) -> Ordering
     ensures { result ≡ index_cmp id_cmp (ids_of rows.now) a b }
 {
     compare_ids(rows, a, b).then(a.cmp(&b))
 }
 
-/// How two places stand to each other: by their keys, and by their rows where these are the same.
+/// Compares two sort keys by the keys of their ids, and by their rows if these are equal.
 #[inline(always)]
 fn compare(rows: &[AuditRow], a: u64, b: u64) -> Ordering
     ensures { result ≡ place_cmp (ids_of rows.now) a b }
@@ -79,7 +82,8 @@ fn compare(rows: &[AuditRow], a: u64, b: u64) -> Ordering
     }
 }
 
-/// Sorts the places of rows by their keys, by the ids of the rows where these are the same, and then by the indices. It takes no memory.
+/// Sorts the sort keys of rows: by the keys of their ids, then by the ids, then by the indices.
+/// Allocates nothing.
 fn sort_places(rows: &[AuditRow], places: &mut [u64])
     ensures permutation { IsPermutation places.old places.new }
     ensures sorted { IsSortedBy (λ a b. is_lt (place_cmp (ids_of rows.now) a b)) places.new }
@@ -87,8 +91,9 @@ fn sort_places(rows: &[AuditRow], places: &mut [u64])
     places.sort_unstable_by(|a, b| compare(rows, *a, *b));
 }
 
-/// The place of the first row with the id of the row at `place`, where `group` is that of the first one with the id before it in the order.
-/// Rows are looked at only where their keys are the same.
+/// Returns the sort key of the first row with the same id as the row at `place`. `group` is that
+/// sort key for the row before it in the sorted order. The rows are compared only if the keys of
+/// their ids are equal.
 #[inline(always)]
 fn group_of(rows: &[AuditRow], group: u64, place: u64) -> u64
     requires group { IsPlace (ids_of rows.now) group }
@@ -109,7 +114,8 @@ fn group_of(rows: &[AuditRow], group: u64, place: u64) -> u64
     }
 }
 
-/// Tells the row at `at` the number of the row at `group`, where that came before.
+/// Sets the number of the first row with the same id, `group`, in the row at `at`, if that row is
+/// earlier.
 fn tell_first(row: &mut AuditRow, group: usize, at: usize)
     ensures told { group < at → row.new ≡ record (row.old) { first = Some (group + 1) } }
     ensures untold { (group < at → ⊥) → row.new ≡ row.old }
@@ -120,7 +126,8 @@ fn tell_first(row: &mut AuditRow, group: usize, at: usize)
     }
 }
 
-/// Tells each row the number of the first one with its id, where that came before. The places stand in the order of the ids.
+/// Sets in each row the number of the first row with the same id, if that row is earlier. The sort
+/// keys are sorted by the ids of their rows.
 fn fill_firsts(rows: &mut [AuditRow], places: &[u64])
     requires { All (IsPlace (ids_of rows.old)) places.now }
     ensures filled { IsOrder (ids_of rows.old) (map index_at places.now) → AreFresh rows.old
@@ -138,8 +145,8 @@ fn fill_firsts(rows: &mut [AuditRow], places: &[u64])
     }
 }
 
-/// Tells each row the number of the first one with its id, where that came before. The places are those of all rows, in any
-/// order. It takes no memory.
+/// Sets in each row the number of the first row with the same id, if that row is earlier. `places`
+/// has the sort keys of all rows, in any order. Allocates nothing.
 pub(crate) fn tell_repeats(rows: &mut [AuditRow], places: &mut [u64])
     requires few { length (ids_of rows.old) ≤ 2 ^ 32 }
     requires places { places.old ≡ places_of 0 (ids_of rows.old) }

@@ -5,7 +5,7 @@ ghost use Rattle.std.specs.Prelude.{◌≡◌};
 use crate::row::AuditRow;
 use std::marker::Model;
 
-/// A row for each envelope, in their order. Contracts see it as the list of its rows.
+/// One row for each envelope, in the order of the input. Contracts see it as the list of its rows.
 #[derive(Debug, Drop)]
 pub struct Report {
     pub(crate) rows: Vec<AuditRow>,
@@ -25,7 +25,7 @@ impl Model for Report {
 }
 
 impl Report {
-    /// The rows, in the order of the envelopes.
+    /// Returns the rows, in the order of the envelopes.
     pub fn rows(&self) -> &[AuditRow]
         ensures { result.now ≡ self.now }
     {

@@ -14,37 +14,40 @@ use iim_fields::EnvelopeId;
 use iim_unpack::UnpackedRef;
 use jiff::Timestamp;
 
-/// What is told of one envelope.
+/// The values that a report has for one envelope.
 #[derive(Debug, Drop)]
 pub struct AuditRow {
-    /// What it is known by: service, number and date sent.
+    /// Its identity: service, number and date sent.
     pub id: EnvelopeId,
-    /// The octets of its object.
+    /// The number of octets of its object.
     pub size: u64,
-    /// The subfiles of its object.
+    /// The number of subfiles of its object.
     pub subfiles: u64,
-    /// The words of its story: the longest runs, inside one line, of octets other than SP and TAB.
+    /// The number of words of its story: the longest spans, within one line, of octets other than
+    /// SP and TAB.
     pub counted: u64,
-    /// How many whole seconds ago it was sent, below zero for the future; None where it names no instant.
+    /// The whole seconds since it was sent, negative if that is in the future, or `None` if it
+    /// states no instant.
     pub age: Option<i64>,
-    /// The words that its message announces.
+    /// The number of words that its message announces.
     pub announced: u64,
-    /// The number of the first envelope with the same id, where that came before.
+    /// The number of the first envelope with the same id, if that is earlier.
     pub first: Option<u64>,
-    /// The digit of 1:60 Envelope Priority, as an octet, where it was sent.
+    /// The digit of 1:60 Envelope Priority, as an ASCII octet, if it was sent.
     pub priority: Option<u8>,
-    /// Whether the copy may be used now.
+    /// Whether the copy may be used at the instant of the audit.
     pub copy: CopyState,
 }
 
-/// What was taken of one envelope: its parts, where they lie, and the words of its lines.
+/// What a row is made from: borrowed parts of an unpacked envelope, and the number of words of its
+/// story.
 #[derive(Drop)]
 pub(crate) struct Taken<'u> {
     pub(crate) unpacked: UnpackedRef<'u>,
     pub(crate) words: u64,
 }
 
-/// The number that up to six digits write.
+/// Returns the number that one to six digits encode.
 fn number_of(digits: &[u8]) -> u64
     requires { IsField is_digit 1 max_words digits.now }
     ensures value { result ≡ digits_value 10 digits.now }
@@ -57,7 +60,7 @@ fn number_of(digits: &[u8]) -> u64
     number
 }
 
-/// The row of an envelope that repeats none.
+/// Returns the row of an envelope, with `first` unset.
 pub(crate) fn row_of(got: &Taken<'_>, now: Timestamp) -> AuditRow
     ensures row { (v : Value) → IsTaken got.now v → result ≡ row_with now.nanosecond v None }
     ensures short { IsShort result.id }

@@ -12,7 +12,7 @@ use crate::row::AuditRow;
 use itoa::Buffer;
 use std::alloc::{AllocError, Global};
 
-/// Adds a number of seconds at the front, or `-` where there is none.
+/// Inserts a number of seconds at the front, or `-` for `None`.
 fn prepend_seconds(line: &mut ReportLine, seconds: Option<i64>)
     requires { length line.old + 20 ≤ ROOM }
     ensures octets { line.new ≡ seconds_or_dash seconds ++ line.old }
@@ -24,7 +24,7 @@ fn prepend_seconds(line: &mut ReportLine, seconds: Option<i64>)
     }
 }
 
-/// Adds a number at the front, or `-` where there is none.
+/// Inserts a number at the front, or `-` for `None`.
 fn prepend_number_or_dash(line: &mut ReportLine, number: Option<u64>)
     requires { length line.old + 20 ≤ ROOM }
     ensures octets { line.new ≡ number_or_dash number ++ line.old }
@@ -36,7 +36,7 @@ fn prepend_number_or_dash(line: &mut ReportLine, number: Option<u64>)
     }
 }
 
-/// Adds a row's number at the front, and what its envelope is known by.
+/// Inserts the number of a row and the id of its envelope at the front.
 fn prepend_id(line: &mut ReportLine, number: u64, row: &AuditRow)
     requires short { IsShort row.now.id }
     requires room { length line.old ≤ 190 }
@@ -51,7 +51,7 @@ fn prepend_id(line: &mut ReportLine, number: u64, row: &AuditRow)
     line.prepend_number(number);
 }
 
-/// Adds the sizes of a row at the front, and its words.
+/// Inserts the sizes and word counts of a row at the front.
 fn prepend_sizes(line: &mut ReportLine, row: &AuditRow)
     requires { length line.old ≤ 70 }
     ensures octets { line.new ≡ sizes_of row.now ++ line.old }
@@ -67,7 +67,7 @@ fn prepend_sizes(line: &mut ReportLine, row: &AuditRow)
     line.prepend(b" size ");
 }
 
-/// Adds the age of a row at the front, which envelope it repeats, and whether its copy may be used.
+/// Inserts the age of a row, the envelope that it repeats, and its copy state at the front.
 fn prepend_ages(line: &mut ReportLine, row: &AuditRow)
     requires { length line.old ≤ 0 }
     ensures octets { line.new ≡ ages_of row.now ++ line.old }
@@ -82,7 +82,7 @@ fn prepend_ages(line: &mut ReportLine, row: &AuditRow)
     line.prepend(b" age ");
 }
 
-/// The line of a row.
+/// Returns the line of a row.
 fn line_of(number: u64, row: &AuditRow) -> ReportLine
     requires { IsShort row.now.id }
     ensures { result ≡ row_line number row.now }
@@ -96,21 +96,21 @@ fn line_of(number: u64, row: &AuditRow) -> ReportLine
     line
 }
 
-/// How many rows repeat an earlier one.
+/// Returns the number of rows that repeat an earlier one.
 fn repeated(rows: &[AuditRow]) -> usize
     ensures { result ≡ repeated_rows rows.now }
 {
     rows.iter().filter(|row| row.first.is_some()).count()
 }
 
-/// Whether the copy of the row is held.
+/// Checks whether the copy of a row is held.
 fn is_held(row: &AuditRow) -> bool
     ensures { result ≡ is_held row.now.copy }
 {
     row.copy == CopyState::Held
 }
 
-/// How many rows are of copy that is held.
+/// Returns the number of rows whose copy is held.
 fn held(rows: &[AuditRow]) -> usize
     ensures { result ≡ held_rows rows.now }
 {
@@ -122,8 +122,9 @@ impl Report {
     ghost use Rattle.iim_audit.specs.Format.{row_line, sums_line};
     ghost use Rattle.iim_audit.specs.declared.row.AuditRow.{AuditRow as Row};
 
-    /// The line of the row at an index. A service is shown: octets from 20 to 7E but the backslash as they are, all others as `\x` and
-    /// two hexadecimal digits. A priority, an age or a first envelope that is absent is `-`. LF ends the line.
+    /// Returns the line of the row at an index. The service is escaped: octets from 20 to 7E
+    /// except the backslash are written as they are, all others as `\x` and two hexadecimal
+    /// digits. A priority, an age or a first envelope that is absent is `-`. The line ends in LF.
     pub fn line(&self, index: usize) -> ReportLine
         requires { index < length self.now }
         ensures { (row : Row) → result ≡ row_line (index + 1) (slice_index_or self.now index row) }
@@ -132,7 +133,8 @@ impl Report {
         line_of(index as u64 + 1, row)
     }
 
-    /// The line after those of the rows: how many rows there are, how many of them repeat an earlier one, and of how many the copy is held.
+    /// Returns the line after the rows: the number of rows, of rows that repeat an earlier one,
+    /// and of rows whose copy is held.
     pub fn last_line(&self) -> ReportLine
         ensures { result ≡ sums_line self.now }
     {
@@ -148,7 +150,8 @@ impl Report {
     }
 }
 
-/// The text of a report: a line for each row, and the last one.
+/// Returns the text of a report: a line for each row, and the last line. Returns an error if an
+/// allocation fails.
 pub fn report_text(alloc: Global, report: &Report) -> Result<Vec<u8>, AllocError>
     ensures { IfOk result (λ text. text.items ≡ printed_report report.now) }
 {

@@ -76,7 +76,7 @@ envelopes-preserved g c =
           c.take_envelope.ensures.leads;
     }
 
--- where the intake had failed it is told again, with the first number
+-- an intake that had failed returns the same error again, with the first number
 pub returns-in-Err-clause-again : goal.returns-in-Err-clause-again
 returns-in-Err-clause-again g c = λ octet e.
     let before = c.envelopes.invariant in

@@ -3,7 +3,7 @@ use Rattle.iim_audit.specs.declared.row.AuditRow.{AuditRow}
 use Rattle.iim_audit.proofs.{Firsts.key_same, Lines.id_at, Lines.length_ids}
 use Rattle.iim_audit.proofs.repeats.group_of.Goals as goal
 
--- the key of a place is that of its row's id
+-- the key in a sort key is that of its row's id
 key_is : (rows : List AuditRow) (place : ℕ) (d : AuditRow) → IsPlace (ids_of rows) place → key_at place ≡ key_of (get_or rows (index_at place) d).id
 key_is rows place d is =
     let x = (get_or rows (index_at place) d).id in

@@ -2,7 +2,7 @@ use Rattle.iim_audit.proofs.Words.{◌≡◌, ◌+◌, ◌*◌, ◌≤◌, ◌++
 use Rattle.iim_dataset.specs.Format.Datasets.{shown}
 use Rattle.iim_audit.proofs.line.ReportLine.prepend_shown.Given as goal
 
--- the octets that are not left were added
+-- the octets before `left` were inserted
 abbrev pub invariant-loop-left : goal.invariant-loop-left
 invariant-loop-left l = record {
   few : l.left ≤ length l.octets;
