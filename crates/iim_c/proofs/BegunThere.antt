@@ -1,4 +1,4 @@
--- What is begun at the place of a ticket.
+-- What is in progress in the state of a ticket.
 use Rattle.iim_c.proofs.Words.{◌≡◌, ℕ, List, [], get_or, sym, ap, subst, ◌∙◌, arith, Dataset, count_octets, InTag, InData, Reads, Split, SplitsTicket, Place, IsPlaceOf, IsTicketAt, TicketFault, IimBegun, TellsOctets, ◌==◌, ◌-◌, if◌then◌else◌, ◌∷◌, ◌++◌, inl, inr, length, drop, refl, append_assoc, length-append, drop_at, Head, Limits, Cause}
 use Rattle.std.proofs.Common.{◌⊎◌}
 use Rattle.iim_dataset.specs.{Format.Datasets.Begun, Laws.DatasetLaws, States.Reading.handed_on}
@@ -11,7 +11,7 @@ use Rattle.iim_fields.specs.{Format.Records.AreSections, Laws.EnvelopesEndWithTh
 use Rattle.iim_places.proofs.Lasts.{last_sections}
 use Rattle.iim_object.specs.declared.reading.fault.SizeCause.TheVariants as sizes
 
--- ---- what octets have begun
+-- ---- what is in progress after octets
 
 tells_at : (at : ℕ) (p : List ℕ) (whole : List Dataset) (begun : Begun) (message : MessagePlace) (found : IimBegun) (s : Split) (span : IimSpan)
     → Reads count_octets p whole begun → s.section ≡ (place_of whole begun message).section → s.phase ≡ (place_of whole begun message).phase
@@ -36,7 +36,7 @@ octets_tell of_places one ticket at s found h b p place t led =
       tells = tells_at at p led.whole led.begun led.message found s found.octets led.reads section phase b.is;
     }
 
--- ---- no ticket
+-- ---- octets that are not a ticket
 
 no_other : (ticket : List ℕ) (s : Split) → SplitsTicket ticket s → HasOtherVersion ticket → ⊥
 no_other ticket s h other =
@@ -56,7 +56,7 @@ token_of at (InData h taken) = if h.rec == 8 then at else at - length taken
 begins_token : (at : ℕ) (begun : Begun) (found : IimBegun) → TellsBegun at begun found → found.token ≡ token_of at begun
 begins_token at begun found told = grind arith
 
--- the last octets of some, and the next
+-- the last octets of a list, and the next
 from_there : (p front xs : List ℕ) (next n : ℕ) → p ≡ front ++ xs → n ≡ length p - length xs → drop n (p ++ next ∷ []) ≡ xs ++ next ∷ []
 from_there p front xs next n is counts =
     rw (is, append_assoc front xs (next ∷ [])) (drop_at front (xs ++ next ∷ []) n (omega (arith, counts, ap length is, length-append front xs)))
@@ -71,12 +71,12 @@ data_there p whole h taken next n reads counts =
     let parts = rw reads.is_rest.4 at reads.parts in
     from_there p (reads.front ++ reads.is_rest.0) taken next n (parts ∙ sym (append_assoc reads.front reads.is_rest.0 taken)) counts
 
--- an octet of data is looked at by itself in subfiles alone
+-- only in subfiles an octet of data is checked by itself
 in_subfile : (cause : Cause) (limits : Limits) (ds : List Dataset) (h : Head) (taken : List ℕ) (octet : ℕ)
     → (rule_of cause).holds limits ds (AtOctet (InData h taken) octet) → h.rec ≡ 8
 in_subfile cause limits ds h taken octet holds = grind arith
 
--- an octet that is judged by itself, of what is begun
+-- an octet that is checked by itself, of what is in progress
 octet_of : (p : List ℕ) (whole : List Dataset) (begun : Begun) (next n : ℕ) (cause : Cause) (limits : Limits) (ds : List Dataset)
     → Reads count_octets p whole begun → n ≡ token_of (length p) begun
     → (rule_of cause).holds limits ds (AtOctet begun next) → AreOctetsOf (AtOctet begun next) (drop n (p ++ next ∷ []))
@@ -103,7 +103,7 @@ token_there p whole (InData h taken) next n cause limits ds reads counts (AtValu
       data_there p whole h taken next n reads from ∙ sym octets,
     )
 
--- of the last dataset all has come, and the octets are an envelope's
+-- the last dataset is complete, and the octets are an envelope
 not_ended : EnvelopesEndWithTheLastRecord → (limits : Limits) (whole : List Dataset) (begun : Begun) → AllCanContinue limits whole begun
     → (AreSections whole → ⊥) → HaveEnded whole begun → ⊥
 not_ended ends limits whole (InTag held) all unfinished nine = unfinished (last_sections ends whole all.sizes.records nine)

@@ -6,7 +6,7 @@ use Rattle.std.proofs.lemmas.List.{drop-set-lt, get_or-set_same, get_or-set_othe
 use Rattle.iim_c.specs.Format.Tickets.{ArrayHasFields, IsFieldAt, no_dataset}
 use Rattle.iim_c.specs.declared.field.IimDataset.{IimDataset}
 
--- before the first none is written
+-- before the first dataset no entry is written
 pub none_put : (ticket : List ℕ) (s : Split) (from count : ℕ) (array : List IimDataset) → count ≡ 0 → ArrayHasFields ticket s from count array array
 none_put ticket s from count array none = record { each = λ k below room. absurd (omega (arith, none, below)); others = refl }
 
@@ -26,7 +26,7 @@ set_put ticket s from n old now found had same is = record {
   others = drop-set-lt (n + 1) now n found (omega arith) ∙ (sym (drop-drop 1 n now) ∙ (ap (drop 1) had.others ∙ drop-drop 1 n old));
 }
 
--- the dataset with this index, which is written where it is one of those after the first `from`
+-- the dataset with this index is written if it is one of those after the first `from`
 pub one_put : (ticket : List ℕ) (s : Split) (from index : ℕ) (old now new : List IimDataset) (found : IimDataset)
     → ArrayHasFields ticket s from (index - from) old now → length now ≡ length old → IsFieldAt ticket s index found
     → (index < from → new ≡ now) → (from ≤ index → new ≡ set now (index - from) found)

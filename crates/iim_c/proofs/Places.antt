@@ -1,20 +1,21 @@
--- The place of a ticket, and the unpacker that stands there.
+-- The state of a ticket, and the unpacker in that state.
 use Rattle.iim_c.proofs.Words.{◌≡◌, ◌==◌, ◌⊎◌, ℕ, true, length, arith, List, [], ◌∷◌, inl, inr, refl, sym, ap, ◌∙◌, get_or, None, Limits, ◌≢◌, Cause, CountsFor, Message, Sink, PlaceLaws, IsTicketAt, Place, IsPlaceOf, Unpacking, Stands, IsDone, IsDoneWith, limits_in}
 use Rattle.iim_places.specs.{Laws.TicketsTellOnePlace, Format.Tickets.ticket_in}
 use Rattle.iim_c.specs.{Steps.IsBegun, Format.Feeding.StandsAt, Format.Feeding.EndsAt, Format.Feeding.IsSaid}
 
--- Some octets have led there.
+-- Some octets have reached the ticket's state.
 abbrev pub IsPlace : Limits → List ℕ → ℕ → Type 0
 IsPlace limits ticket at = (p : List ℕ) × (a : ℕ) × (StandsAt limits ticket at p a ⊎ EndsAt limits ticket at p a)
 
--- An unpacker is begun: some octets have led to the ticket, and it stands on each that have, under its limits.
+-- An unpacker is restored: some octets have reached the ticket's state, and the unpacker is in the
+-- state after all octets that have, under its limits.
 pub record Begun (limits : Limits) (ticket : List ℕ) (at : ℕ) (u : Unpacking) : Type 0 where
   pub some : IsPlace limits ticket at
   pub stands : (p : List ℕ) (a : ℕ) → StandsAt limits ticket at p a → Stands u p a
   pub ends : (p : List ℕ) (a : ℕ) → EndsAt limits ticket at p a → IsDoneWith u p a
   pub same : limits_in u ≡ limits
 
--- a ticket tells one place, to which all octets lead that lead to it
+-- a ticket encodes one state, and all octets that reach the ticket reach it
 led_there : TicketsTellOnePlace → (ticket p : List ℕ) (q : Place) → ((place : Place) × IsTicketAt ticket place × IsPlaceOf p place)
     → IsTicketAt ticket q → IsPlaceOf p q
 led_there law ticket p q (place, h, led) k =
@@ -22,7 +23,7 @@ led_there law ticket p q (place, h, led) k =
     let version : h.version ≡ k.version = ap (λ (xs : List ℕ). get_or xs 4 0) same in
     rw (← law h.version place q h.is_version h.possible (rw version k.possible) (same ∙ ap (λ (n : ℕ). ticket_in n q) (sym version))) led
 
--- an envelope has octets, so none has led to no ticket
+-- an envelope is not empty, so no envelope reaches the empty ticket
 pub begun : PlaceLaws → (limits : Limits) (ticket : List ℕ) (at : ℕ) (u : Unpacking) → IsBegun limits ticket at u → Begun limits ticket at u
 begun laws limits [] at u is = record {
   some = ([], 0, inl (record { led = (refl, refl); is_open = rw is.1 at is.0.is_open }));
@@ -56,13 +57,14 @@ is_done d = (d.taking, d.ended)
 pub not_open : (u : Unpacking) → IsDone u → (p : List ℕ) (a : ℕ) → Stands u p a → ⊥
 not_open u done p a stands = let h = sym stands.unended ∙ done.1 in cc
 
--- what holds of the octets on which it stands, and of those with which it is done, is said of the ticket
+-- what holds of the octets that the unpacker has consumed, and of those with which it is done,
+-- holds of the ticket's octets
 pub said : {limits : Limits} {ticket : List ℕ} {at : ℕ} {u : Unpacking} → Begun limits ticket at u → (stands ends : List ℕ → ℕ → Type 0)
     → ((p : List ℕ) (a : ℕ) → Stands u p a → stands p a) → ((p : List ℕ) (a : ℕ) → IsDoneWith u p a → ends p a) → IsSaid limits ticket at stands ends
 said b stands ends standing done =
     record { some = b.some; open_octets = λ p a s. standing p a (b.stands p a s); envelopes = λ p a e. done p a (b.ends p a e) }
 
--- what holds of a place holds of the unpacker that stands there
+-- what holds of a state holds of the unpacker in that state
 pub at_place : (P : Type 0) {limits : Limits} {ticket : List ℕ} {at : ℕ} {u : Unpacking} → Begun limits ticket at u
     → ((p : List ℕ) (a : ℕ) → Stands u p a → P) → ((p : List ℕ) (a : ℕ) → IsDoneWith u p a → P) → P
 at_place P b standing done = elim b.some.2 as (λ _. P) [ inl s ↦ standing _ _ (b.stands _ _ s) | inr e ↦ done _ _ (b.ends _ _ e) ]
@@ -70,11 +72,11 @@ at_place P b standing done = elim b.some.2 as (λ _. P) [ inl s ↦ standing _ _
 pub begun_alive : {limits : Limits} {ticket : List ℕ} {at : ℕ} {u : Unpacking} → Begun limits ticket at u → u.refused ≡ None
 begun_alive {u} b = at_place (u.refused ≡ None) b (λ p a stands. stands.taking) (λ p a done. done.taking)
 
--- a refusal with which no failure is counted is none of the sink
+-- a refusal with which no failure is counted is not that of the sink
 pub not_sink : (cause : Cause) → CountsFor cause 0 0 → cause ≢ Message Sink
 not_sink cause counts is = grind arith
 
--- ---- none
+-- ---- the empty ticket
 
 pub begun_none : (limits : Limits) (ticket : List ℕ) (at : ℕ) (u : Unpacking) → true ≡ (length ticket == 0) → Stands u [] 0 → limits_in u ≡ limits
     → IsBegun limits ticket at u

@@ -1,4 +1,4 @@
--- How much of a text is delivered: no more than the octets that it came in.
+-- The length of the delivered text: no more than the octets that encode it.
 use Rattle.std.proofs.Common.{◌≡◌, ℕ, ◌+◌, ◌<◌, ◌≤◌, ◌==◌, nat_eq, if◌then◌else◌, Bool, List, [], ◌∷◌, ◌++◌, length, drop, map, refl, ap, sym, subst, ◌∙◌, inl, inr, arith, append-nil, append_assoc, length-append, length-drop, suc}
 use Rattle.std.specs.List.{position_or_len, before_first, after_first}
 use Rattle.std.proofs.lemmas.Grind.{common_steps}
@@ -20,7 +20,7 @@ before_more : (p : ℕ → Bool) (x e : List ℕ) → length (before_first p (x 
 before_more p [] e = grind (arith, length-take)
 before_more p (b ∷ x) e = let more = before_more p x e in grind (arith, common_steps)
 
--- what stands after the first, and more of it
+-- what follows the first, and more of it
 record After (x y : List ℕ) (count : ℕ) : Type 0 where
   added : List ℕ
   is : y ≡ x ++ added
@@ -39,7 +39,7 @@ after_more p (b ∷ x) e =
     let short = drop_next (position_or_len p x) b x in
     record { added = if p b then e else more.added; is = grind arith; few = grind arith }
 
--- more octets of an object bring no more of the text
+-- more octets of an object deliver at most as many octets of text
 text_more : (o e : List ℕ) → length (text_so_far (o ++ e)) ≤ length (text_so_far o) + length e
 text_more o e =
     let after = after_more (λ b. b == stx) o e in
@@ -51,7 +51,7 @@ delivered_few (b ∷ x) = let more = delivered_few x in let all = length-append 
 
 -- ---- the octets of the object
 
--- those of what is begun
+-- those of the dataset in progress
 abbrev begun_octets : Begun → List ℕ
 begun_octets (InTag held) = []
 begun_octets (InData h taken) = if nat_eq h.rec 8 then taken else []
@@ -77,14 +77,14 @@ stream_holds (d ∷ xs) f (first, rest, spelled, later, parts) =
 begun_holds : (b : Begun) (rest : List ℕ) → IsBegun count_octets b rest → length (begun_octets b) ≤ length rest
 begun_holds b rest is = grind (arith, length-append)
 
--- the first dataset of a stream, and all that follows it
+-- the first dataset of a stream, and all octets after it
 in_front : (tag octets first later rest f whole : List ℕ) → first ≡ tag ++ octets → f ≡ first ++ later
     → f ++ rest ≡ whole → tag ++ (octets ++ (later ++ rest)) ≡ whole
 in_front tag octets first later rest f whole one all is = simp append_assoc at (rw (all, one) at is)
 
 -- ---- after octets of a tag
 
--- a tag that comes is no shorter than what was held of it
+-- a complete tag is no shorter than its received octets
 held_fits : NoTagBeginsAnother → (h k : Head) (held r t tag x y : List ℕ) → SpellsTag count_octets h t → 0 < length r → held ++ r ≡ t
     → SpellsTag count_octets k tag → tag ++ x ≡ held ++ y
     → length held ≤ length tag
@@ -142,7 +142,8 @@ after_data one h tag t more s less (d ∷ xs) b f rest (first, later, spelled, s
 
 -- ---- after any octets
 
--- what octets of which a rest is begun come to with more: the datasets after those, and what is begun then
+-- the datasets after more octets, of which a partial one was in progress: those before, further
+-- ones, and what is in progress then
 further : DatasetLaws → (p rest more : List ℕ) (ds : List Dataset) (front : List ℕ) → SpellsStream count_octets ds front → p ≡ front ++ rest
     → (W : List Dataset) (b : Begun)
     → (w : Reads count_octets (p ++ more) W b) → Longer W ds w.rest (rest ++ more)
@@ -154,7 +155,7 @@ further laws p rest more ds front spelled parts W b w =
       | inr n ↦ absurd (begun_none laws.no_tag_begins_another b w.rest w.is_rest n.dataset n.p (n.q ++ (rest ++ more)) n.spelled n.agree)
     ]
 
--- More octets bring no more octets of the object.
+-- More octets add at most as many octets of the object.
 object_more : DatasetLaws → (p more : List ℕ) (ds : List Dataset) (c : Begun) → Reads count_octets p ds c → (W : List Dataset) (b : Begun)
     → Reads count_octets (p ++ more) W b → After (object_so_far ds c) (object_so_far W b) (length more)
 object_more laws p more ds (InTag held) r W b w =
@@ -177,7 +178,7 @@ object_more laws p more ds (InData h t) r W b w =
       few = after.few;
     }
 
--- And no more of the text.
+-- More octets add at most as many octets of the text.
 text_few : DatasetLaws → (p octets text added : List ℕ) → IsTextOf p text → IsTextOf (p ++ octets) (text ++ added) → length added ≤ length octets
 text_few laws p octets text added (ds, c, r, is) (W, b, w, are) =
     let after = object_more laws p octets ds c r W b w in

@@ -1,14 +1,14 @@
--- Where the datasets of a ticket stand.
+-- The slices of a ticket with the data of datasets.
 use Rattle.iim_c.proofs.Words.{◌≡◌, ℕ, ◌+◌, ◌≤◌, List, [], ◌∷◌, ◌++◌, length, ap, ◌∙◌, arith, append_assoc, length-append, flat_map, Dataset, Split, SplitsTicket, wide, four, ticket_name, phase_octets, number_octets, text_octets, StandAt}
 use Rattle.std.proofs.lemmas.Grind.{common_steps}
 use Rattle.iim_places.specs.Format.Tickets.{field_octets}
 
--- octets that stand after others
+-- octets that follow others
 pub stands_after : (ticket front octets rest : List ℕ) (n : ℕ) → ticket ≡ front ++ (octets ++ rest) → length front ≡ n
     → StandAt ticket (record { offset = n; count = length octets }) octets
 stands_after ticket front octets rest n is counts = grind (arith, common_steps)
 
--- From this offset on these datasets stand, and then something else.
+-- From this offset on the ticket has these datasets, and then other octets.
 pub record FieldsAt (ticket : List ℕ) (offset : ℕ) (ds : List Dataset) : Type 0 where
   pub front : List ℕ
   pub rest : List ℕ

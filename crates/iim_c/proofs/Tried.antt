@@ -1,4 +1,4 @@
--- Which octets can come next at the place of a ticket.
+-- The octets that may come next in the state of a ticket.
 use Rattle.iim_c.proofs.Words.{◌≡◌, ◌≢◌, ℕ, ◌+◌, ◌<◌, ◌≤◌, List, [], ◌∷◌, ◌++◌, inl, inr, take, refl, sym, ap, subst, ◌∙◌, arith, append-nil, Bool, true, false, if◌then◌else◌, cases_eq, Limits, StoryEvent, IsOpen, raised, Refusal, Message, Sink, Unpacking, Progresses, IsDoneWith, IsRefusedIn, limits_in, Progress, IsSet}
 use Rattle.iim_places.specs.{Format.Streams.IsEnvelopeWithin, Format.Streams.Kills, Laws.NothingContinuesFromRefusedOctets, Laws.OpenOctetsBeginWithNoEnvelope}
 use Rattle.iim_places.specs.declared.fault.TokenFault.{TokenFault}
@@ -30,7 +30,7 @@ pub goes_taken : (limits : Limits) (v : Unpacking) (p : List ℕ) (a octet : ℕ
 goes_taken limits v p a octet more More law opens same goes = inl (rw same at goes.0.is_open)
 goes_taken limits v p a octet more (Done used) law opens same goes = taken_by limits v p (raised a used) octet used law opens same goes.0 goes.1
 
--- nothing continues from an octet that is refused, so its bit tells the one or the other
+-- a rejected octet has no valid continuation, so its bit is either set or not
 not_both : NothingContinuesFromRefusedOctets → (limits : Limits) (p : List ℕ) (octet : ℕ) → IsTaken limits p octet
     → (fault : TokenFault) (k : Kills limits p octet fault) → ⊥
 not_both law limits p octet (inl opens) fault k = (law limits p [] octet fault k).0 opens
@@ -49,9 +49,9 @@ tells_refused law limits p octet dead = record {
   refused = (λ _. dead, λ _. refl);
 }
 
--- ---- what trying it comes to
+-- ---- the result of trying an octet
 
--- what is said of one octet where the envelope has not ended
+-- what holds of one octet if the envelope is incomplete
 abbrev pub SaidOf : Limits → List ℕ → ℕ → ℕ → Type 0
 SaidOf limits ticket next bit = IsSaid limits ticket 0 (λ p a. TellsNext limits p next bit) (λ p a. ⊥)
 
@@ -64,12 +64,12 @@ killed_by limits p a octet more e sinkless r =
 
 -- ---- all octets
 
--- The bits tell of the first octets, and no other bit is set.
+-- The bits of the first octets are right, and no other bit is set.
 pub record TellsFirst (limits : Limits) (ticket : List ℕ) (count : ℕ) (bits : List ℕ) : Type 0 where
   pub told : (next : ℕ) → next < count → SaidOf limits ticket next (bit_of bits next)
   pub rest : (next : ℕ) → count ≤ next → bit_of bits next ≡ 0
 
--- with one more, whose bit is set where it is taken
+-- one more octet, whose bit is set if it is accepted
 put : (old new : List ℕ) (octet : ℕ) (taken : Bool) → (taken ≡ true → IsSet old new octet 1) → (taken ≡ false → new ≡ old) → bit_of old octet ≡ 0
     → IsSet old new octet (if taken then 1 else 0)
 put old new octet taken set same none = grind arith
@@ -88,14 +88,14 @@ one_put limits ticket count old new taken before set same said_of =
       rest = λ next above. s.others next (λ is. omega (arith, above, is)) ∙ before.rest next (omega (arith, above));
     }
 
--- no bit is set in none
+-- the empty set has no bit set
 none_in : (n i : ℕ) → ◌≡◌ {A = ℕ} (get_or (replicate n 0) i 0) 0
 none_in n i = grind (arith, get_or-replicate, get_or_past, length-replicate)
 
 pub no_bit : (octet : ℕ) → bit_of no_octets octet ≡ 0
 no_bit octet = ap (λ (n : ℕ). bit_at n (octet % 8)) (none_in 32 (octet / 8)) ∙ bit_at-zero (octet % 8)
 
--- ---- no octets
+-- ---- without a state
 
 pub nowhere : (limits : Limits) (ticket : List ℕ) (told : IimAnswer) → IsNowhere limits ticket told → IsNext limits ticket no_octets told
 nowhere limits ticket told (inl (fault, some, why, is)) = inr (inr (inl (fault, some, why, refl, is)))

@@ -1,4 +1,4 @@
--- The names that several proofs bring in, passed on from one place.
+-- The names that several proofs import, re-exported from one module.
 pub use Rattle.iim_audit.specs.Format.{StandsOn}
 pub use Rattle.iim_audit.specs.declared.pieces.PieceAudit.{PieceAudit}
 pub use Rattle.iim_c.specs.Format.Answers.{refusal_answer, status_answer}

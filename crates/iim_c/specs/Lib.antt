@@ -1,5 +1,5 @@
--- What octets and rows are, and what is said of them.
+-- What octets and rows are, and the definitions that public contracts cite.
 pub mod Format
--- What only proofs and private clauses cite.
+-- Definitions that only proofs and private clauses cite.
 pub mod TextOutLaws
 pub mod Steps

@@ -1,4 +1,4 @@
--- What the steps of the calls come to: of saving a place, of feeding and auditing a piece, of looking at a place.
+-- The steps of the calls: saving a state, feeding and auditing a chunk, reading a ticket.
 use Rattle.std.specs.Prelude.{◌≡◌, ℕ, ◌<◌, ◌≤◌, ◌⊎◌, List, length, ◌≢◌, [], ◌∷◌, map, ◌+◌, ◌*◌, None, ℤ, ◌++◌, take, drop}
 use Rattle.iim_places.specs.Format.Tickets.{Phase, TagBegun, DataBegun, AllEnded, width}
 use Rattle.iim_places.specs.Format.Streams.{raised}
@@ -20,96 +20,101 @@ use Rattle.iim_audit.specs.{Format.Refuses, Format.StandsOn, declared.pieces.Pie
 use Rattle.iim_pack_script.specs.declared.packing.PackFault.{PackFault}
 use Rattle.iim_pack_script.specs.declared.packing.PackFault.TheVariants as faults
 
--- ---- What saving the place of an unpacker comes to.
+-- ---- The result of saving the state of an unpacker.
 
--- There is room for so many octets of text, or rows, and for so many octets of the ticket, and this is answered; or a buffer is too short.
+-- Both the text or rows and the ticket fit, and this is the answer; or one of the buffers is too
+-- short.
 abbrev pub TellsRoom : (written room ticket ticket_room : ℕ) → IimAnswer → IimAnswer → Type 0
 TellsRoom written room ticket ticket_room answer told =
     ((written ≤ room) × (ticket ≤ ticket_room) × (told ≡ answer)) ⊎ (((room < written) ⊎ (ticket_room < ticket)) × (told ≡ short_answer written ticket))
 
--- The ticket of the unpacker stands in the buffer, where that has room, and the progress is answered.
+-- The unpacker's ticket is in the buffer, if it fits, and the progress is the answer.
 abbrev pub IsSaved : Unpacking → ℕ × ℕ → ℕ → ℕ → List ℕ → IimAnswer → Type 0
 IsSaved u told written room out answer =
     (count : ℕ) × HasTicketIn u out count
     × TellsRoom written room count (length out) (record (status_answer told.0) { octet = u.octets; used = told.1; written = written; ticket = count }) answer
 
--- The unpacker at the place of a ticket stands on no octets, or is restored from the ticket.
+-- The unpacker for a ticket: in the initial state, or restored from the ticket.
 abbrev pub IsBegun : Limits → List ℕ → ℕ → Unpacking → Type 0
 IsBegun limits [] at u = Stands u [] 0 × (limits_in u ≡ limits)
 IsBegun limits (x ∷ xs) at u = IsRestored limits (x ∷ xs) at u
 
--- ---- The steps of a call that feeds a piece.
+-- ---- The steps of a call that feeds a chunk.
 
--- A piece was fed, and its text stands in the buffer that is left.
+-- A chunk was fed, and its text is in the buffer that remains.
 pub record HasFedText (u v : Unpacking) (piece out : List ℕ) (count : ℕ) (progress : Progress) : Type 0 where
   pub more : List StoryEvent
   pub taken : HasTaken out count (map octet_for more)
   pub goes : (p : List ℕ) (n : ℕ) → Stands u p n → Progresses v p n piece more progress
 
--- An octet of it was refused.
+-- An octet of the chunk was rejected.
 pub record HasRefusedText (u : Unpacking) (piece out : List ℕ) (count : ℕ) (e : Refusal) : Type 0 where
   pub more : List StoryEvent
   pub taken : HasTaken out count (map octet_for more)
   pub refuses : (p : List ℕ) (n : ℕ) → Stands u p n → IsRefusedIn (limits_in u) p n piece more e
   pub by_octets : e.cause ≢ Message Sink
 
--- the status for progress, and how many octets of the piece were used
+-- the status for progress, and the number of octets of the chunk that were consumed
 abbrev pub used_in : Progress → ℕ → ℕ × ℕ
 used_in More piece = (status.more, piece)
 used_in (Done used) piece = (status.done, used)
 
--- ---- The steps of the calls that look at a place.
+-- ---- The steps of the calls that read a state.
 
--- The bit of the octet is this, and no other is another one.
+-- The octet has this bit, and those of all other octets are unchanged.
 pub record IsSet (old new : List ℕ) (octet bit : ℕ) : Type 0 where
   pub set : bit_of new octet ≡ bit
   pub others : (other : ℕ) → other ≢ octet → bit_of new other ≡ bit_of old other
 
--- where those octets stand that the ticket keeps of what is begun
+-- the slice of the ticket with the stored octets of what is in progress
 abbrev pub span_of : ℕ → Phase → IimSpan
 span_of version (TagBegun held) = record { offset = 8; count = length held }
 span_of version (DataBegun set count left taken) = record { offset = 8 + 2 * width version; count = length taken }
 span_of version AllEnded = no_span
 
--- ---- The steps of the calls that tell of a ticket.
+-- ---- The steps of the calls that read a ticket.
 
--- what packing comes to, by what keeps an envelope from it
+-- the outcome of packing for an error
 abbrev pub outcome_of : PackFault → packing.PackOutcome
 outcome_of (faults.Refused line number name) = packing.Refused line number
 outcome_of (faults.Around fault) = packing.NoMemory
 
--- ---- The steps of a call that audits a piece.
+-- ---- The steps of a call that audits a chunk.
 
--- Where the audit stands in the end, after the envelope in hand and the rest of the piece; or an octet of that is refused.
+-- The state of the audit at the end, after the current envelope and the remaining octets of the
+-- chunk; or an octet of these is rejected.
 abbrev pub EndsBy : Limits → InHand → List ℕ → PieceAudit → Ending → Type 0
 EndsBy limits last rest audit Used = StandsOn audit (last.octets ++ rest) (raised last.count (length rest))
 EndsBy limits last rest audit Full = StandsOn audit last.octets last.count
 EndsBy limits last rest audit (Refused e) = Refuses limits last.octets last.count rest e
 
--- The first rows of the array are those of the envelopes that end with the used octets of the piece.
+-- The first rows of the array are those of the envelopes that end within the consumed octets of
+-- the chunk.
 pub record HasFound (limits : Limits) (now : ℤ) (hand : InHand) (piece : List ℕ) (array : List IimAuditRow) (audit : PieceAudit) (found : Found) (ending : Ending) : Type 0 where
   pub last : InHand
   pub rows_are : AreRows limits now hand (take found.used piece) (take found.rows array) last
   pub at_is : last.at ≡ found.at
   pub ends : EndsBy limits last (drop found.used piece) audit ending
 
--- No more is used than there is, and the other rows are what they were.
+-- No more is consumed than there is, and the other rows are unchanged.
 pub record IsWithin (piece : List ℕ) (old new : List IimAuditRow) (found : Found) : Type 0 where
   pub used : found.used ≤ length piece
   pub room : found.rows ≤ length old
   pub others : drop found.rows new ≡ drop found.rows old
 
--- There is room for another row, or none; and the audit continues under its limits, if nothing is refused.
+-- The array has the capacity for another row, or is full; and the audit continues under its
+-- limits, unless an octet is rejected.
 abbrev pub StopsBy : PieceAudit → PieceAudit → (rows room : ℕ) → Ending → Type 0
 StopsBy old new rows room Used = (rows < room) × (new.unpacker.refused ≡ None) × (limits_in new.unpacker ≡ limits_in old.unpacker)
 StopsBy old new rows room Full = (rows ≡ room) × (new.unpacker.refused ≡ None) × (limits_in new.unpacker ≡ limits_in old.unpacker)
 StopsBy old new rows room (Refused e) = rows < room
 
--- what is kept of an audit
+-- the state of an audit beside its ticket
 abbrev pub kept_of : PieceAudit → Found → IimSoFar
 kept_of audit found = record { at = found.at; octets = audit.unpacker.octets; words = audit.count.words; inside = audit.count.inside }
 
--- The ticket is saved, and this is kept; or it could not be, and what was kept stays.
+-- The ticket is saved, and the state beside it is written; or it does not fit, and the state is
+-- unchanged.
 pub record IsKept (audit : PieceAudit) (found : Found) (told : ℕ × ℕ) (room : ℕ) (old new : IimSoFar) (out : List ℕ) (answer : IimAnswer) : Type 0 where
   pub saved : IsSaved audit.unpacker told found.rows room out answer
   pub keeps : answer.status ≡ told.0 → new ≡ kept_of audit found

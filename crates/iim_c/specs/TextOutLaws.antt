@@ -1,4 +1,4 @@
--- The laws of a sink that writes into a buffer, handed in by its impl.
+-- The lemmas of a sink that writes into a buffer, which its impl passes on.
 use Rattle.std.proofs.Common.{ℕ, List, [], ◌++◌, map, refl, sym, ap, subst, ◌∙◌, append-nil, append_assoc}
 use Rattle.std.proofs.lemmas.List.{map-append}
 use Rattle.wire_story.specs.Format.Texts.{StoryEvent, octet_for}

@@ -1,4 +1,4 @@
-//! What a call answers.
+//! The result of a call.
 
 ghost use Rattle.std.specs.Prelude.{◌≡◌};
 ghost use Rattle.iim_c.specs.Format.Answers.{status_answer, refusal_answer, layer_number, ticket_answer};
@@ -6,31 +6,33 @@ ghost use Rattle.iim_c.specs.Format.Answers.{status_answer, refusal_answer, laye
 use crate::status::{BAD_TICKET, NO_MEMORY};
 use iim_unpack::{Layer, Refusal, TicketFault};
 
-/// What a call answers: a member that the call doesn't speak of is 0.
+/// The result of a call. Fields that the description of a call does not mention are 0.
 #[repr(C)]
 #[derive(Clone, Copy)]
 pub struct IimAnswer {
-    /// What the call came to: one of the numbers in `status`.
+    /// The status of the call: one of the numbers in `status`.
     pub status: u8,
-    /// The number of the layer that refuses, or 0.
+    /// The number of the layer that rejects the octet, or 0.
     pub layer: u8,
     /// The number of the cause, or 0.
     pub cause: u8,
-    /// The record of the dataset that is named, or 0.
+    /// The record of the dataset concerned, or 0.
     pub rec: u8,
-    /// Its number in that record, or 0.
+    /// The number of that dataset within its record, or 0.
     pub set: u8,
-    /// How many octets the envelope has so far; or the offset of the refused one, or the number of a script's line.
+    /// The length of the envelope so far in octets. For a refusal: the offset of the rejected
+    /// octet, or the line of a script.
     pub octet: u64,
-    /// How many octets of the piece were used.
+    /// The number of octets of the chunk that were consumed.
     pub used: usize,
-    /// How many octets of text or of a packed form there are.
+    /// The number of octets of text or of a packed form, of rows or of datasets that were written.
+    /// With `SHORT`: the number of those that there are.
     pub written: usize,
-    /// How many octets the ticket has.
+    /// The number of octets of a ticket that were written. With `SHORT`: its length.
     pub ticket: usize,
 }
 
-/// The answer that has a status alone.
+/// Returns an answer in which all fields except the status are 0.
 pub(crate) fn status_answer(status: u8) -> IimAnswer
     ensures { result ≡ status_answer status }
 {
@@ -47,7 +49,8 @@ pub(crate) fn status_answer(status: u8) -> IimAnswer
     }
 }
 
-/// The number of a layer: the first that looks at a token has 1.
+/// Returns the number of a layer. The layers are numbered from 1 in the order in which they check
+/// a token.
 fn layer_number(layer: Layer) -> u8
     ensures { result ≡ layer_number layer }
 {
@@ -62,7 +65,7 @@ fn layer_number(layer: Layer) -> u8
     }
 }
 
-/// The answer for a refusal.
+/// Returns the answer for a refusal.
 pub(crate) fn refusal_answer(status: u8, refusal: Refusal) -> IimAnswer
     ensures { result ≡ refusal_answer status refusal }
 {
@@ -79,7 +82,7 @@ pub(crate) fn refusal_answer(status: u8, refusal: Refusal) -> IimAnswer
     }
 }
 
-/// The answer for a ticket that is refused; refused memory has a status of its own.
+/// Returns the answer for a ticket that is rejected. A failed allocation has a separate status.
 pub(crate) fn ticket_answer(fault: TicketFault) -> IimAnswer
     ensures { result ≡ ticket_answer fault }
 {

@@ -1,4 +1,4 @@
-//! The audit of a piece.
+//! The audit of a chunk.
 
 ghost use Rattle.std.specs.Prelude.{◌≡◌, None};
 ghost use Rattle.iim_c.specs.Format.Checking.{limits_for};
@@ -23,8 +23,9 @@ use iim_unpack::laws::place_laws;
 use jiff::Timestamp;
 use std::alloc::Global;
 
-/// The answer for rows after which the audit continues: writes the ticket of the place that it has come to, and tells what is kept beside
-/// it. If the ticket has no room, what was kept stays. It takes no memory.
+/// Writes the ticket of the audit's state, and returns the answer for the rows that were found.
+/// `told` has the status and the number of octets consumed. Writes `so_far` only if the ticket and
+/// the rows fit. Allocates nothing.
 fn kept(
     audit: &PieceAudit,
     found: Found,
@@ -50,7 +51,7 @@ fn kept(
     answer
 }
 
-/// The answer for a refusal, after rows.
+/// Returns the answer for a refusal after the rows that were found.
 fn refused(found: Found, refusal: Refusal) -> IimAnswer
     ensures { result ≡ record (refusal_answer status.refused refusal) { used = found.used; written = found.rows } }
 {
@@ -61,7 +62,7 @@ fn refused(found: Found, refusal: Refusal) -> IimAnswer
     }
 }
 
-/// The answer for a piece that is audited from the place of a ticket on.
+/// Audits a chunk from the state of a ticket on, and returns the answer.
 fn audited(
     alloc: Global,
     limits: Limits,
@@ -97,11 +98,13 @@ fn audited(
     }
 }
 
-/// Tells a row for each envelope that ends in a piece of an input, at the instant `now`: from the place of a ticket on, or of a new
-/// envelope where there is none. It writes the ticket of the place that the piece leads to, and what is kept beside it for the next
-/// call. Where there is no room for another row it stops, and tells how many octets were used. Where an octet is refused, the rows of
-/// the envelopes before it are told. Where the buffer of the ticket is too short, what is kept stays, and the same call can be made
-/// again.
+/// Writes a row for each envelope that ends in a chunk of an input, at the instant `now`. The
+/// audit continues from the state of `ticket`, or begins a new envelope if that is empty.
+///
+/// Writes the next ticket, and the state beside it in `so_far`. Stops when `rows` is full, and
+/// returns how many octets were consumed. If an octet is rejected, the rows of the envelopes
+/// before it are written. If `ticket_out` is too short, `so_far` is unchanged, and the same call
+/// can be repeated.
 pub fn iim_audit(
     alloc: Global,
     limits: IimLimits,

@@ -1,4 +1,4 @@
-//! The unpacker that a ticket begins.
+//! The unpacker in the state of a ticket.
 
 ghost use Rattle.std.specs.Prelude.{IfOk, IfErr};
 ghost use Rattle.iim_c.specs.Format.Answers.{ticket_answer};
@@ -9,7 +9,8 @@ use iim_fields::Limits;
 use iim_unpack::{TicketFault, Unpacker};
 use std::alloc::Global;
 
-/// The unpacker at the place of a ticket, or of none: at the beginning of an envelope.
+/// Returns an unpacker in the state of a ticket, or at the beginning of an envelope if the ticket
+/// is empty. `at` is the number of octets of the envelope before that state.
 pub(crate) fn begin(
     alloc: Global,
     limits: Limits,

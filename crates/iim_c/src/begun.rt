@@ -1,4 +1,4 @@
-//! What is begun at the place of a ticket.
+//! What is in progress in the state of a ticket.
 
 ghost use Rattle.std.specs.Prelude.{◌≡◌, ℕ, ◌+◌, ◌*◌, List, [], length, get_or};
 ghost use Rattle.iim_places.specs.Format.TicketForm.{SplitsTicket};
@@ -17,51 +17,54 @@ use iim_tables::records::OBJECT;
 use iim_unpack::laws::place_laws;
 use iim_unpack::{TicketParts, TicketPhase, split_ticket};
 
-/// Nothing is begun: the place is between datasets.
+/// Nothing is in progress: the state is between two datasets.
 pub const NOTHING: u8 = 0;
 
-/// A tag is begun.
+/// A tag is in progress.
 pub const TAG: u8 = 1;
 
-/// The data of a dataset are begun.
+/// The data of a dataset are in progress.
 pub const DATA: u8 = 2;
 
-/// The last dataset has ended.
+/// The envelope is complete.
 pub const ENDED: u8 = 3;
 
-/// What is begun at a place, and the part of the message that the octets so far have led to. A member that is not spoken of is 0.
+/// What is in progress in a state, and the part of the message that the input has reached. Fields
+/// that are not mentioned are 0.
 #[repr(C)]
 #[derive(Clone, Copy)]
 pub struct IimBegun {
-    /// What is begun: 0 nothing, between datasets; 1 a tag; 2 data; 3 all has ended.
+    /// What is in progress: 0 nothing, between datasets; 1 a tag; 2 data; 3 the envelope is
+    /// complete.
     pub kind: u8,
-    /// The record of the last whole head, or 0 before the first.
+    /// The record of the last complete head, or 0 before the first.
     pub section: u8,
-    /// The record of the begun dataset, or 0 where it isn't read.
+    /// The record of the partial dataset, or 0 if it was not read yet.
     pub rec: u8,
-    /// Its number in that record, or 0 where it isn't read.
+    /// The number of that dataset within its record, or 0 if it was not read yet.
     pub set: u8,
-    /// The number of the message's part.
+    /// The number of the part of the message.
     pub part: u8,
-    /// The counter of the message.
+    /// The counter of the message: octets of filler or of the gap so far.
     pub counter: u8,
-    /// The flag of the message.
+    /// The flag of the message: in the gap 1 after an LF; in the text the number of pending CR.
     pub flag: u8,
-    /// How many octets the begun data have.
+    /// The length of the partial data in octets.
     pub count: u64,
-    /// How many octets of the begun tag or data have come.
+    /// The number of octets of the partial tag or data that were received.
     pub came: u64,
-    /// How many octets of the begun data are to come.
+    /// The number of octets of the partial data that are remaining.
     pub left: u64,
-    /// The offset of the first octet of the begun tag or data.
+    /// The offset within the envelope of the first octet of the partial tag or data.
     pub first: u64,
-    /// The offset of the first octet of the token that the next octet belongs to: a tag, a value, or in a subfile that octet alone.
+    /// The offset of the first octet of the token that the next octet belongs to: a tag, a value
+    /// or, in a subfile, that octet itself.
     pub token: u64,
-    /// Where the octets that have come of it stand in the ticket. Of a subfile none do.
+    /// The received octets of the tag or data, as a slice of the ticket. A subfile has none there.
     pub octets: IimSpan,
 }
 
-/// Nothing.
+/// The value in which all fields are 0.
 const NO_BEGUN: IimBegun = IimBegun {
     kind: 0,
     section: 0,
@@ -81,17 +84,18 @@ const NO_BEGUN: IimBegun = IimBegun {
     },
 };
 
-/// How many octets of a ticket stand before the held ones of a tag: name and version, the section, what is begun, and how many there are.
+/// The number of octets of a ticket before the received octets of a tag: name and version, the
+/// section, the kind of what is in progress, and the number of those octets.
 const BEFORE_HELD: usize = 8;
 
-/// The octet of a tag with this index, or 0 where it has not come.
+/// Returns the octet of a tag with this index, or 0 if it was not received.
 fn octet_or_0(held: &[u8], index: usize) -> u8
     ensures { result ≡ get_or held.now index 0 }
 {
     held.get(index).copied().unwrap_or(0)
 }
 
-/// What is begun with these octets of a tag.
+/// Returns what is in progress after these octets of a tag.
 fn tag_begun(at: u64, held: &[u8]) -> IimBegun
     ensures { result ≡ begun_by at 0 (TagBegun held.now) (record { offset = 8; count = length held.now }) }
 {
@@ -112,7 +116,8 @@ fn tag_begun(at: u64, held: &[u8]) -> IimBegun
     }
 }
 
-/// What is begun with these octets of a dataset's data.
+/// Returns what is in progress in the data of a dataset. `octets` is the slice of the ticket with
+/// the data received.
 fn data_begun(at: u64, section: u8, set: u8, count: u64, left: u64, octets: IimSpan) -> IimBegun
     ensures { result ≡ begun_by at section (DataBegun set count left []) octets }
 {
@@ -132,15 +137,16 @@ fn data_begun(at: u64, section: u8, set: u8, count: u64, left: u64, octets: IimS
     }
 }
 
-/// How many octets of a ticket stand before the data that have come: as of a tag, and then the dataset's number, which stands where
-/// the number of held octets does, its count, and how many octets are to come.
+/// Returns the number of octets of a ticket before the received data: those of [`BEFORE_HELD`],
+/// where the dataset's number takes the place of the number of octets, then its count, and the
+/// number of octets remaining.
 fn taken_offset(version: u8) -> usize
     ensures { result ≡ 8 + 2 * width version }
 {
     BEFORE_HELD + if version == FIRST_VERSION { 8 } else { 16 }
 }
 
-/// What is begun, without the message.
+/// Returns what is in progress, without the parts of the message.
 fn begun_by(at: u64, version: u8, section: u8, phase: &TicketPhase<'_>) -> IimBegun
     ensures { result ≡ begun_by at section (phase_told phase.now) (span_of version (phase_told phase.now)) }
 {
@@ -167,7 +173,7 @@ fn begun_by(at: u64, version: u8, section: u8, phase: &TicketPhase<'_>) -> IimBe
     }
 }
 
-/// What is begun in a ticket of these parts.
+/// Returns what is in progress in a ticket of these parts.
 fn begun_in(ticket: &[u8], at: u64, parts: &TicketParts<'_>) -> IimBegun
     requires { SplitsTicket ticket.now (split_told parts.now) }
     ensures { IsBegunOf ticket.now at (split_told parts.now) result }
@@ -181,7 +187,7 @@ fn begun_in(ticket: &[u8], at: u64, parts: &TicketParts<'_>) -> IimBegun
     }
 }
 
-/// What is begun, and the answer.
+/// Returns what is in progress in the state of a ticket, and the answer.
 fn place_told(ticket: &[u8], at: u64) -> (IimBegun, IimAnswer)
     ensures told { IsBegunTold ticket.now at result.0 result.1 }
     ensures octets { (p : List ℕ) (place : Place) → IsTicketAt ticket.now place → IsPlaceOf p place
@@ -198,12 +204,14 @@ fn place_told(ticket: &[u8], at: u64) -> (IimBegun, IimAnswer)
     }
 }
 
-/// Tells what is begun after the `at` octets that have led to a ticket, and the part of the message that they have led to.
+/// Returns what is in progress in the state of a ticket, and the part of the message that the
+/// input has reached. `at` is the number of octets of the envelope so far.
 pub fn iim_place(ticket: &[u8], at: u64, begun: &mut IimBegun, answer: &mut IimAnswer)
     ensures told { IsBegunTold ticket.now at begun.new answer.new }
     ensures octets { (p : List ℕ) (place : Place) → IsTicketAt ticket.now place → IsPlaceOf p place
         → TellsOctets p at begun.new }
-    // Whichever octet is refused next: the refused token begins at `token`, and ends with that octet.
+    // If the next octet is rejected, the rejected token begins at `token` and ends with that
+    // octet.
     ensures token { (p : List ℕ) (place : Place) → IsTicketAt ticket.now place → IsPlaceOf p place
         → TellsToken p at begun.new }
 {

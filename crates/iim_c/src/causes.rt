@@ -1,18 +1,18 @@
-//! The causes by their numbers: their names, and what they mean.
+//! The names and the meanings of causes, by their numbers.
 
 ghost use Rattle.std.specs.Prelude.{◌≡◌, Some, None, MatchOption};
 ghost use Rattle.iim_c.specs.Format.Tables.{cause_named, cause_text, cause_told, IsNamed, name_or_none};
 
 use crate::names::put_name;
 
-/// The name of a cause, and what it means.
+/// The name of a cause, and its meaning.
 #[derive(Clone, Copy)]
 struct CauseWords {
     name: &'static str,
     text: &'static str,
 }
 
-/// A match on a number, with each line as an arm: number, name and sentence.
+/// Expands to a match on a number, with each line as an arm: number, name and sentence.
 macro_rules! words_by {
     ($number:expr; $($of:literal $name:literal $text:literal)*) => {
         match $number {
@@ -22,11 +22,11 @@ macro_rules! words_by {
     };
 }
 
-/// The causes by their numbers, as the page on the causes has them.
+/// Matches the number of a cause with the table of `docs/CAUSES.md`.
 macro_rules! cause_in_table {
     ($number:expr) => {
         words_by! { $number;
-            // Causes of octets
+            // Causes in octets
             1 "Marker" "a tag doesn't begin with 1C"
             2 "CountForm" "octet 4 of a tag is above 80, or it is 80 and octet 5 is not 1 to 8"
             3 "Truncated" "the input ends inside an envelope; the octet is how many there were"
@@ -79,7 +79,7 @@ macro_rules! cause_in_table {
     };
 }
 
-/// The words of a cause by its number: those of octets, of memory and readers, of packing, of audits, of scripts and of tickets.
+/// Returns the name and the meaning of a cause, or `None` if no cause has this number.
 #[tactic(auto, unfolding(crate::specs::Format::Tables::cause_told, crate::specs::Format::Tables::causes_told))]
 fn cause_told(number: u8) -> Option<CauseWords>
     ensures { MatchOption result (cause_told number ≡ None) (λ words.
@@ -88,7 +88,7 @@ fn cause_told(number: u8) -> Option<CauseWords>
     cause_in_table!(number)
 }
 
-/// The name of a cause.
+/// Returns the name of a cause, or `None` if no cause has this number.
 fn cause_named(number: u8) -> Option<&'static str>
     ensures { MatchOption result (cause_named number ≡ None) (λ name. cause_named number ≡ Some name.now) }
 {
@@ -96,7 +96,7 @@ fn cause_named(number: u8) -> Option<&'static str>
     Some(words.name)
 }
 
-/// What a cause means.
+/// Returns the meaning of a cause, or `None` if no cause has this number.
 fn cause_text(number: u8) -> Option<&'static str>
     ensures { MatchOption result (cause_text number ≡ None) (λ text. cause_text number ≡ Some text.now) }
 {
@@ -104,14 +104,16 @@ fn cause_text(number: u8) -> Option<&'static str>
     Some(words.text)
 }
 
-/// Writes the name of a cause with a NUL after it, where there is room for both, and answers how many octets it has.
+/// Writes the name of a cause and a NUL into `out`, if they fit. Returns the number of octets of
+/// the name, or 0 if the cause is unknown.
 pub fn iim_cause_name(cause: u8, out: &mut [u8]) -> usize
     ensures { IsNamed (name_or_none (cause_named cause)) out.old out.new result }
 {
     put_name(cause_named(cause), out)
 }
 
-/// Writes what a cause means with a NUL after it, where there is room for both, and answers how many octets it has.
+/// Writes the meaning of a cause and a NUL into `out`, if they fit. Returns the number of octets
+/// of the sentence, or 0 if the cause is unknown.
 pub fn iim_cause_text(cause: u8, out: &mut [u8]) -> usize
     ensures { IsNamed (name_or_none (cause_text cause)) out.old out.new result }
 {

@@ -1,4 +1,4 @@
-//! An envelope that lies in memory.
+//! Envelopes in memory.
 
 ghost use Rattle.std.specs.Prelude.{◌≡◌};
 ghost use Rattle.iim_c.specs.Format.Answers.{status_answer};
@@ -14,7 +14,7 @@ use iim_unpack::{Progress, Unpacker};
 use std::alloc::Global;
 use wire_story::Discard;
 
-/// The answer for an envelope of so many octets.
+/// Returns the answer for a complete envelope of `used` octets.
 fn finished(used: usize) -> IimAnswer
     ensures { result ≡ record (status_answer status.done) { octet = used; used = used } }
 {
@@ -25,7 +25,7 @@ fn finished(used: usize) -> IimAnswer
     }
 }
 
-/// What the octets begin with.
+/// Checks the envelope at the beginning of `octets`, and returns the answer.
 fn checked(alloc: Global, limits: Limits, octets: &[u8]) -> IimAnswer
     ensures answer { IsChecked limits octets.now result }
     ensures only { IsOnly limits octets.now result }
@@ -44,7 +44,7 @@ fn checked(alloc: Global, limits: Limits, octets: &[u8]) -> IimAnswer
     }
 }
 
-/// Tells what the octets begin with: an envelope, or why there is none.
+/// Checks the envelope at the beginning of a buffer.
 pub fn iim_check(alloc: Global, limits: IimLimits, octets: &[u8], answer: &mut IimAnswer)
     ensures answer { IsChecked (limits_for limits) octets.now answer.new }
     ensures only { IsOnly (limits_for limits) octets.now answer.new }

@@ -5,7 +5,8 @@ ghost use Rattle.iim_c.specs.Format.Tables.{IsNamed, dataset_named, name_or_none
 
 use crate::names::put_name;
 
-/// A match on a dataset's record and number, with each line as an arm: dataset and name.
+/// Expands to a match on a dataset's record and number, with each line as an arm: dataset and
+/// name.
 macro_rules! name_by {
     ($dataset:expr; $($rec:literal:$set:literal $name:literal)*) => {
         match $dataset {
@@ -15,7 +16,7 @@ macro_rules! name_by {
     };
 }
 
-/// The datasets of the tables, in the order and by the names of the standard.
+/// Matches a dataset with the tables, in the order and with the names of the standard.
 macro_rules! name_in_table {
     ($dataset:expr) => {
         name_by! { $dataset;
@@ -78,7 +79,7 @@ macro_rules! name_in_table {
     };
 }
 
-/// The name of a dataset of the tables, as the standard has it.
+/// Returns the name that the standard gives a dataset, or `None` if the tables do not have it.
 #[tactic(auto, unfolding(crate::specs::Format::Tables::dataset_named, crate::specs::Format::Tables::dataset_names))]
 fn dataset_named(rec: u8, set: u8) -> Option<&'static str>
     ensures { MatchOption result (dataset_named rec set ≡ None) (λ name. dataset_named rec set ≡ Some name.now) }
@@ -86,7 +87,8 @@ fn dataset_named(rec: u8, set: u8) -> Option<&'static str>
     name_in_table!((rec, set))
 }
 
-/// Writes the name of a dataset of the tables with a NUL after it, where there is room for both, and answers how many octets it has.
+/// Writes the name of a dataset of the tables and a NUL into `out`, if they fit. Returns the
+/// number of octets of the name, or 0 if the dataset is unknown.
 pub fn iim_dataset_name(rec: u8, set: u8, out: &mut [u8]) -> usize
     ensures { IsNamed (name_or_none (dataset_named rec set)) out.old out.new result }
 {

@@ -1,4 +1,4 @@
-//! The end of the input, at the place of a ticket.
+//! The end of the input in the state of a ticket.
 
 ghost use Rattle.iim_c.specs.Format.Checking.{limits_for};
 ghost use Rattle.iim_c.specs.Format.Feeding.{IsEnd};
@@ -11,7 +11,7 @@ use iim_fields::Limits;
 use iim_unpack::laws::place_laws;
 use std::alloc::Global;
 
-/// What it means that the input ends here.
+/// Checks whether the input may end in the state of a ticket, and returns the answer.
 fn ended(alloc: Global, limits: Limits, ticket: &[u8], at: u64) -> IimAnswer
     ensures { IsEnd limits ticket.now at result }
 {
@@ -29,7 +29,8 @@ fn ended(alloc: Global, limits: Limits, ticket: &[u8], at: u64) -> IimAnswer
     }
 }
 
-/// Tells what it means that the input ends after the octets that have led to a ticket: the envelope has ended, or is truncated.
+/// Checks whether the input may end in the state of a ticket: the envelope is complete, or it is
+/// truncated.
 pub fn iim_end(alloc: Global, limits: IimLimits, ticket: &[u8], at: u64, answer: &mut IimAnswer)
     ensures { IsEnd (limits_for limits) ticket.now at answer.new }
 {

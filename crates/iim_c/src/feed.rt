@@ -1,4 +1,4 @@
-//! A piece of an envelope, from the place of a ticket on.
+//! Chunks of an envelope, from the state of a ticket on.
 
 ghost use Rattle.std.specs.Prelude.{◌≡◌, None, Ok, IfOk, IfErr, OnOk};
 ghost use Rattle.iim_c.specs.Format.Answers.{refusal_answer, short_answer};
@@ -19,12 +19,12 @@ use iim_unpack::laws::place_laws;
 use iim_unpack::{Progress, Refusal, Unpacker};
 use std::alloc::Global;
 
-/// The end of a loan: what it is used on stays as it is.
+/// Ends a mutable borrow. The slice is unchanged.
 fn give_back(lent: &mut [u8])
     ensures { lent.new ≡ lent.old }
 {}
 
-/// `feed` to a buffer of which nothing is used, whose reference stays what it is.
+/// Feeds a chunk, with an empty sink. The sink refers to the same buffer afterwards.
 fn feed_sink(
     unpacker: &mut Unpacker,
     piece: &[u8],
@@ -41,7 +41,8 @@ fn feed_sink(
     unpacker.feed(piece, sink)
 }
 
-/// Feeds a piece, and writes what is delivered of its text: answers also how many octets that has.
+/// Feeds a chunk, and writes the text in it into `out`. Returns also the number of octets of that
+/// text.
 fn feed_text(
     unpacker: &mut Unpacker,
     piece: &[u8],
@@ -60,7 +61,7 @@ fn feed_text(
     (answer, count)
 }
 
-/// The answer where a buffer is too short.
+/// Returns the answer if a buffer is too short: the lengths that are needed.
 fn short_answer(written: usize, ticket: usize) -> IimAnswer
     ensures { result ≡ short_answer written ticket }
 {
@@ -71,7 +72,8 @@ fn short_answer(written: usize, ticket: usize) -> IimAnswer
     }
 }
 
-/// The answer for a refusal, of whose piece so many octets of text are delivered.
+/// Returns the answer for a refusal, before which the chunk has `written` octets of text. `room`
+/// is the capacity for text.
 fn refused(refusal: Refusal, written: usize, room: usize) -> IimAnswer
     ensures { TellsRoom written room 0 0 (record (refusal_answer status.refused refusal) { written = written }) result }
 {
@@ -84,7 +86,7 @@ fn refused(refusal: Refusal, written: usize, room: usize) -> IimAnswer
     }
 }
 
-/// The status for progress, and how many octets of the piece were used.
+/// Returns the status for progress, and the number of octets of the chunk that were consumed.
 fn used_of(progress: Progress, piece: usize) -> (u8, usize)
     ensures { result ≡ used_in progress piece }
 {
@@ -94,9 +96,10 @@ fn used_of(progress: Progress, piece: usize) -> (u8, usize)
     }
 }
 
-/// The answer for progress, `told` as a status and how many octets of a piece were used: writes the ticket of the place that the
-/// unpacker has come to. Of what else is written it is said how much there is, and for how much there was room. Where either buffer is
-/// too short the answer has the lengths that are needed. It takes no memory.
+/// Writes the ticket of the unpacker's state, and returns the answer. `told` has the status and
+/// the number of octets consumed; `written` is the length of the other output, and `room` its
+/// capacity. If either does not fit, the answer has the lengths that are needed. Allocates
+/// nothing.
 pub(crate) fn saved(
     unpacker: &Unpacker,
     told: (u8, usize),
@@ -123,7 +126,7 @@ pub(crate) fn saved(
     }
 }
 
-/// The answer for a piece that is fed from the place of a ticket on.
+/// Feeds a chunk from the state of a ticket on, and returns the answer.
 fn fed(
     alloc: Global,
     limits: Limits,
@@ -152,9 +155,12 @@ fn fed(
     }
 }
 
-/// Takes the next octets of an envelope, from the place of a ticket on, or of a new one where there is none: writes what is delivered
-/// of the text among them and the ticket of the place that they lead to, and tells how many were used. A ticket of an ended envelope
-/// tells its fields. Where a buffer is too short the answer tells the lengths that are needed, and the same call can be made again.
+/// Reads the next chunk of an envelope, from the state of a ticket on, or of a new envelope if the
+/// ticket is empty.
+///
+/// Writes the text of the story in the chunk and the next ticket, and returns how many octets were
+/// consumed. The ticket of a complete envelope still has its fields. If a buffer is too short, the
+/// answer has the lengths that are needed, and the same call can be repeated.
 pub fn iim_feed(
     alloc: Global,
     limits: IimLimits,

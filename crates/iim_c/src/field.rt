@@ -1,4 +1,4 @@
-//! The datasets that a ticket tells.
+//! One of the datasets in a ticket.
 
 ghost use Rattle.std.specs.Prelude.{◌≡◌, ◌+◌, ◌^◌, ◌<◌, ◌≤◌, length, IfSome, IfNone};
 ghost use Rattle.iim_places.specs.Format.TicketForm.{SplitsTicket};
@@ -15,25 +15,25 @@ use iim_unpack::{TicketParts, TicketPhase, split_ticket};
 #[repr(C)]
 #[derive(Clone, Copy)]
 pub struct IimDataset {
-    /// Its record.
+    /// The record of the dataset.
     pub rec: u8,
-    /// Its number in that record.
+    /// The number of the dataset within its record.
     pub set: u8,
-    /// Where its data stand in the ticket.
+    /// The data, as a slice of the ticket.
     pub data: IimSpan,
 }
 
-/// No dataset.
+/// The value in which all fields are 0.
 const NO_DATASET: IimDataset = IimDataset {
     rec: 0,
     set: 0,
     data: NO_SPAN,
 };
 
-/// The octets of a dataset in a ticket that stand before its data: record, number and count.
+/// The number of octets of a dataset in a ticket before its data: record, number and count.
 pub(crate) const HEAD_OCTETS: usize = 6;
 
-/// How many octets tell what is begun.
+/// Returns the number of octets of a ticket that encode what is in progress.
 fn begun_octets(version: u8, phase: &TicketPhase<'_>) -> usize
     ensures count { result ≡ length (phase_octets version (phase_told phase.now)) }
     ensures few { result < 2 ^ 63 + 32 }
@@ -46,14 +46,15 @@ fn begun_octets(version: u8, phase: &TicketPhase<'_>) -> usize
     }
 }
 
-/// How many octets stand before the first dataset: name and version, the section, what is begun, and how many datasets there are.
+/// Returns the number of octets of a ticket before the first dataset: name and version, the
+/// section, what is in progress, and the number of datasets.
 pub(crate) fn fields_start(parts: &TicketParts<'_>) -> usize
     ensures { result ≡ 10 + length (phase_octets parts.now.version (phase_told parts.now.phase)) }
 {
     5 + 1 + begun_octets(parts.version, &parts.phase) + 4
 }
 
-/// The dataset with the index `n`; None where there are no more.
+/// Returns the dataset with the index `n`, or `None` if there are no more than `n`.
 fn field_in(ticket: &[u8], parts: TicketParts<'_>, n: usize) -> Option<IimDataset>
     requires { SplitsTicket ticket.now (split_told parts) }
     ensures some { IfSome result (IsFieldAt ticket.now (split_told parts.entry) n) }
@@ -78,7 +79,7 @@ fn field_in(ticket: &[u8], parts: TicketParts<'_>, n: usize) -> Option<IimDatase
     None
 }
 
-/// Tells the dataset with the index `n` of those of records 1 and 2 that a ticket tells.
+/// Returns the dataset with the index `n` of those of records 1 and 2 in a ticket.
 pub fn iim_field(ticket: &[u8], n: usize, dataset: &mut IimDataset, answer: &mut IimAnswer)
     ensures { IsField ticket.now n dataset.new answer.new }
 {

@@ -1,4 +1,4 @@
-//! The rows of the envelopes that end in a piece.
+//! The rows of the envelopes that end in a chunk.
 
 ghost use Rattle.std.specs.Prelude.{◌≡◌, ◌≤◌, ◌<◌, ℕ, List, length, drop, None, OnErr};
 ghost use Rattle.iim_audit.specs.Format.{StandsOn};
@@ -10,30 +10,30 @@ use iim_audit::PieceAudit;
 use iim_unpack::Refusal;
 use jiff::Timestamp;
 
-/// The rows that were found in a piece.
+/// The rows that were found in a chunk.
 #[derive(Clone, Copy)]
 pub(crate) struct Found {
-    /// How many there are.
+    /// The number of rows.
     pub(crate) rows: usize,
-    /// How many octets of the piece their envelopes used.
+    /// The number of octets of the chunk that were consumed by their envelopes.
     pub(crate) used: usize,
     /// The offset in the input at which the next envelope begins.
     pub(crate) at: u64,
 }
 
-/// Why no more rows were looked for.
+/// The reason why the search for rows ended.
 #[derive(Clone, Copy)]
 pub(crate) enum Ending {
-    /// All octets of the piece were used.
+    /// All octets of the chunk were consumed.
     Used,
-    /// There is no room for another row.
+    /// The array of rows is full.
     Full,
-    /// An octet is refused.
+    /// An octet was rejected.
     Refused(Refusal),
 }
 
-/// Writes a row for each envelope that ends in a piece, as long as there is room for it. The envelope in hand begins at an offset of
-/// the input.
+/// Writes a row for each envelope that ends in a chunk, until `rows` is full. `at` is the offset
+/// in the input at which the current envelope begins.
 pub(crate) fn find_rows(
     audit: &mut PieceAudit,
     at: u64,

@@ -1,4 +1,4 @@
-//! The header and the trailer that a ticket tells.
+//! The header and the trailer of a message in a ticket.
 
 ghost use Rattle.std.specs.Prelude.{◌≡◌, ◌-◌, length};
 ghost use Rattle.iim_places.specs.Format.TicketForm.{SplitsTicket};
@@ -10,11 +10,11 @@ use crate::span::{IimSpan, NO_SPAN};
 use crate::status::DONE;
 use iim_unpack::{TicketParts, split_ticket};
 
-/// The header and the trailer of a message, as far as they have come.
+/// The header and the trailer of a message, as far as they were received.
 #[repr(C)]
 #[derive(Clone, Copy)]
 pub struct IimMessage {
-    /// The number of the part that the octets so far have led to.
+    /// The number of the part that the input has reached.
     pub part: u8,
     /// The source.
     pub source: IimSpan,
@@ -32,7 +32,7 @@ pub struct IimMessage {
     pub trailer: IimSpan,
 }
 
-/// No message.
+/// The value in which all fields are 0.
 const NO_MESSAGE: IimMessage = IimMessage {
     part: 0,
     source: NO_SPAN,
@@ -44,7 +44,8 @@ const NO_MESSAGE: IimMessage = IimMessage {
     trailer: NO_SPAN,
 };
 
-/// Where a text stands that ends before the octet at `end`; from octet 0 on where there are too few before that.
+/// Returns the slice of a ticket for a text that ends just before offset `end`. The offset is 0 if
+/// there are too few octets.
 fn span_before(end: usize, text: &[u8]) -> IimSpan
     ensures { result ≡ record { offset = end - length text.now; count = length text.now } }
 {
@@ -54,14 +55,16 @@ fn span_before(end: usize, text: &[u8]) -> IimSpan
     }
 }
 
-/// Where a text stands that the length of the next one follows, in one octet.
+/// Returns the slice of a ticket for a text that is followed by the length of the next text, in
+/// one octet.
 fn text_before(next: IimSpan, text: &[u8]) -> IimSpan
     ensures { result ≡ record { offset = next.offset - 1 - length text.now; count = length text.now } }
 {
     span_before(next.offset.saturating_sub(1), text)
 }
 
-/// The header and the trailer in a ticket of these parts. They end it, and before each text stands its length in one octet.
+/// Returns the header and the trailer in a ticket of these parts. They are at its end, and before
+/// each text is its length in one octet.
 fn message_in(ticket: &[u8], parts: &TicketParts<'_>) -> IimMessage
     requires { SplitsTicket ticket.now (split_told parts.now) }
     ensures { IsMessageOf ticket.now (split_told parts.now) result }
@@ -86,7 +89,7 @@ fn message_in(ticket: &[u8], parts: &TicketParts<'_>) -> IimMessage
     }
 }
 
-/// Tells the header and the trailer of the message, as far as they have come.
+/// Returns the header and the trailer of the message, as far as they were received.
 pub fn iim_header(ticket: &[u8], message: &mut IimMessage, answer: &mut IimAnswer)
     ensures { IsHeader ticket.now message.new answer.new }
 {

@@ -7,26 +7,26 @@ ghost use Rattle.iim_c.specs.Format.Tables.{IsInstant, IsToldAs, TellsInstant, n
 
 use jiff::Timestamp;
 
-/// The nanoseconds of a second.
+/// The number of nanoseconds in a second.
 const SECOND: i128 = 1_000_000_000;
 
-/// An instant, from 1970-01-01T00:00:00Z on.
+/// An instant, relative to 1970-01-01T00:00:00Z.
 #[repr(C)]
 #[derive(Clone, Copy)]
 pub struct IimInstant {
-    /// The whole seconds, rounded down: below zero before then.
+    /// Whole seconds, rounded down: negative for earlier instants.
     pub second: i64,
     /// The nanoseconds after that second, below 1,000,000,000.
     pub nanosecond: u32,
 }
 
-/// No instant.
+/// The value in which both fields are 0.
 const NO_INSTANT: IimInstant = IimInstant {
     second: 0,
     nanosecond: 0,
 };
 
-/// The instant for C.
+/// Converts an instant for C.
 fn instant_of(instant: Timestamp) -> IimInstant
     ensures { (result.nanosecond < nanoseconds_in_second) × (nanoseconds_to result ≡ instant.nanosecond) }
 {
@@ -37,7 +37,7 @@ fn instant_of(instant: Timestamp) -> IimInstant
     }
 }
 
-/// Whether there is an instant, and which.
+/// Returns whether an instant is present, and the instant for C.
 pub(crate) fn told(instant: Option<Timestamp>) -> (bool, IimInstant)
     ensures { TellsInstant (option_map (λ t. t.nanosecond) instant) result.0 result.1 }
 {
@@ -48,8 +48,8 @@ pub(crate) fn told(instant: Option<Timestamp>) -> (bool, IimInstant)
 }
 
 impl IimInstant {
-    /// Returns the instant, or None if it has more nanoseconds than a second, or is earlier than -009999-01-02T01:59:59Z or later than
-    /// 9999-12-30T22:00:00.999999999Z.
+    /// Returns the instant, or `None` if it has more nanoseconds than a second, or is earlier than
+    /// -009999-01-02T01:59:59Z or later than 9999-12-30T22:00:00.999999999Z.
     pub(crate) fn told(self) -> Option<Timestamp>
         ensures some { IfSome result (λ t. IsToldAs self t.nanosecond) }
         ensures none { IfNone result (IsInstant self → ⊥) }

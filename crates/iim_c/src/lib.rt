@@ -1,13 +1,18 @@
-//! What C calls: answers, structs, and the library's calls over octets and buffers of the caller's.
+//! The implementation behind the C API: structs, results and functions over the caller's octets
+//! and buffers.
 //!
-//! Stands on the unpacker, the packer, scripts, audits and tables, and says of each call again what the library's call says. The state
-//! between two calls is a ticket, octets that the caller keeps: nothing lasts from one call to the next. `iim_exports` hands the calls to C.
+//! Depends on the unpacker, the packer, scripts, audits and tables. The contract of each function
+//! restates that of the library function which it calls. The state between two calls is a ticket:
+//! octets that the caller stores. Nothing persists from one call to the next. `iim_exports`
+//! exports the functions to C.
 //!
-//! [`IimAnswer`] is what a call answers. [`iim_check`] reads an envelope that lies in memory, [`iim_feed`] a piece of one, and [`iim_end`]
-//! tells what it means that the input ends. [`iim_fields`], [`iim_field`], [`iim_header`] and [`iim_sizes`] return what a ticket says of an
-//! envelope, and [`iim_place`] what of the dataset that is begun; [`iim_next`] tries each octet from its place. [`iim_audit`] says of its rows what
-//! [`iim_audit::PieceAudit`] says of its own, whatever the pieces. [`iim_pack`] packs a script, [`iim_row`] tells the tables, and
-//! [`iim_cause_text`] what a cause means.
+//! [`IimAnswer`] is the result of a call. [`iim_check`] checks an envelope in memory, [`iim_feed`]
+//! reads a chunk of one, and [`iim_end`] checks whether the input may end. [`iim_fields`],
+//! [`iim_field`], [`iim_header`] and [`iim_sizes`] return what a ticket has of an envelope, and
+//! [`iim_place`] returns what is in progress. [`iim_next`] tries each octet from the state of a
+//! ticket. [`iim_audit`] writes the rows that [`iim_audit::PieceAudit`] finds, for every split
+//! into chunks. [`iim_pack`] packs a script, [`iim_row`] looks up the tables, and
+//! [`iim_cause_text`] writes the meaning of a cause.
 #![tactic(auto)]
 
 mod answer;

@@ -1,21 +1,22 @@
-//! The limits under which octets are read.
+//! The limits under which an envelope is read.
 
 ghost use Rattle.std.specs.Prelude.{◌≡◌};
 ghost use Rattle.iim_c.specs.Format.Checking.{given_or, limits_for};
 
 use iim_fields::Limits;
 
-/// The most that records 1 and 2 of an envelope may have together. A member that is 0 stands for the limit of wire copy.
+/// The limits on records 1 and 2 of an envelope, together. A field that is 0 selects the limit of
+/// wire copy.
 #[repr(C)]
 #[derive(Clone, Copy)]
 pub struct IimLimits {
-    /// Octets of data.
+    /// The number of octets of data.
     pub octets: u32,
-    /// Datasets.
+    /// The number of datasets.
     pub fields: u32,
 }
 
-/// What is given, or else what stands for 0.
+/// Returns `given`, or `other` if that is 0.
 fn given_or(given: u32, other: u32) -> u32
     ensures { result ≡ given_or given other }
 {
@@ -23,7 +24,7 @@ fn given_or(given: u32, other: u32) -> u32
 }
 
 impl IimLimits {
-    /// The limits for these.
+    /// Returns the limits, with the default for each field that is 0.
     pub(crate) fn told(self) -> Limits
         ensures { result ≡ limits_for self }
     {

@@ -1,4 +1,4 @@
-//! The names of layers, and names as they are written.
+//! The names of layers, and how names are written into buffers.
 
 ghost use Rattle.std.specs.Prelude.{◌≡◌, ◌+◌, Some, None, MatchOption};
 ghost use Rattle.std.specs.Option.{option_map};
@@ -6,7 +6,7 @@ ghost use Rattle.iim_c.specs.Format.Tables.{IsNamed, layer_named, name_or_none};
 
 use crate::bytes::put_text;
 
-/// The name of a layer by its number.
+/// Returns the name of a layer, or `None` if no layer has this number.
 #[tactic(auto, unfolding(crate::specs::Format::Tables::layer_named, crate::specs::Format::Tables::layer_names))]
 fn layer_named(number: u8) -> Option<&'static str>
     ensures { MatchOption result (layer_named number ≡ None) (λ name. layer_named number ≡ Some name.now) }
@@ -23,7 +23,8 @@ fn layer_named(number: u8) -> Option<&'static str>
     }
 }
 
-/// Writes a name with a NUL after it, where there is room for both, and answers how many octets it has: 0 where there is none.
+/// Writes a name and a NUL into `out`, if they fit. Returns the number of octets of the name, or 0
+/// if there is no name.
 pub(crate) fn put_name(name: Option<&str>, out: &mut [u8]) -> usize
     ensures { IsNamed (name_or_none (option_map (λ n. n.now) name.entry)) out.old out.new result }
 {
@@ -34,7 +35,8 @@ pub(crate) fn put_name(name: Option<&str>, out: &mut [u8]) -> usize
     name.len()
 }
 
-/// Writes the name of a layer with a NUL after it, where there is room for both, and answers how many octets it has.
+/// Writes the name of a layer and a NUL into `out`, if they fit. Returns the number of octets of
+/// the name, or 0 if the layer is unknown.
 pub fn iim_layer_name(layer: u8, out: &mut [u8]) -> usize
     ensures { IsNamed (name_or_none (layer_named layer)) out.old out.new result }
 {

@@ -1,4 +1,4 @@
-//! The octets that can come next.
+//! The octets that may come next.
 
 ghost use Rattle.std.specs.Prelude.{◌≡◌, true, false, if◌then◌else◌, IfOk, IfErr, MatchOption};
 ghost use Rattle.iim_c.specs.Format.Answers.{ticket_answer};
@@ -21,11 +21,11 @@ use wire_story::Discard;
 #[repr(C)]
 #[derive(Clone, Copy)]
 pub struct IimOctetSet {
-    /// A bit for each octet: that of the octet `o` is bit `o % 8` of `bits[o / 8]`.
+    /// One bit for each octet: octet `o` has bit `o % 8` of `bits[o / 8]`.
     pub bits: [u8; 32],
 }
 
-/// The set that has no octet.
+/// The empty set.
 const NO_OCTETS: [u8; 32] = [0; 32];
 
 /// Sets the bit of an octet.
@@ -35,7 +35,7 @@ fn set_bit(bits: &mut [u8; 32], octet: u8)
     bits[usize::from(octet / 8)] |= 1 << (octet % 8);
 }
 
-/// Sets the bit of an octet that is taken.
+/// Sets the bit of an octet, if it is accepted.
 fn put_bit(bits: &mut [u8; 32], octet: u8, taken: bool)
     ensures set { taken ≡ true → IsSet bits.old bits.new octet 1 }
     ensures same { taken ≡ false → bits.new ≡ bits.old }
@@ -45,7 +45,8 @@ fn put_bit(bits: &mut [u8; 32], octet: u8, taken: bool)
     }
 }
 
-/// Whether every layer takes the octet next at the place of a ticket, or of none. None where an envelope has ended there.
+/// Checks whether every layer accepts `octet` next in the state of a ticket. Returns `None` if the
+/// envelope is complete in that state.
 fn takes(
     alloc: Global,
     limits: Limits,
@@ -67,7 +68,8 @@ fn takes(
     }
 }
 
-/// The bits of all octets that every layer takes next, each tried from the place. None where an envelope has ended there.
+/// Returns the bits of all octets that every layer accepts next, each tried from the state of a
+/// ticket. Returns `None` if the envelope is complete in that state.
 fn try_all(alloc: Global, limits: Limits, ticket: &[u8]) -> Result<Option<[u8; 32]>, TicketFault>
     ensures tried { IfOk result (λ tried. MatchOption tried (HasEndedThere limits ticket.now)
         (GoesOnBy limits ticket.now)) }
@@ -84,7 +86,7 @@ fn try_all(alloc: Global, limits: Limits, ticket: &[u8]) -> Result<Option<[u8; 3
     Ok(Some(bits))
 }
 
-/// The octets that come next, and the answer.
+/// Returns the octets that are accepted next, and the answer.
 fn next_of(alloc: Global, limits: Limits, ticket: &[u8]) -> ([u8; 32], IimAnswer)
     ensures { IsNext limits ticket.now result.0 result.1 }
 {
@@ -95,8 +97,9 @@ fn next_of(alloc: Global, limits: Limits, ticket: &[u8]) -> ([u8; 32], IimAnswer
     }
 }
 
-/// Tells which octets every layer takes next, after the octets that have led to a ticket, or of a new envelope where there is none. An
-/// octet is in the set exactly where the envelope could continue or would end with it.
+/// Returns the octets that every layer accepts next in the state of a ticket, or at the beginning
+/// of a new envelope if the ticket is empty. An octet is in the set if and only if the envelope
+/// could continue or end with it.
 pub fn iim_next(
     alloc: Global,
     limits: IimLimits,

@@ -1,4 +1,4 @@
-//! Scripts, packed.
+//! Scripts that are packed.
 
 ghost use Rattle.std.specs.Prelude.{◌≡◌, ◌<◌, ◌≤◌, ◌++◌, ◌⊎◌, [], length, drop, IfOk, IfErr};
 ghost use Rattle.iim_c.specs.Format.Answers.{status_answer};
@@ -14,7 +14,8 @@ use iim_dataset::FromWrite;
 use iim_pack_script::packing::{PackFault, pack_octets};
 use std::alloc::Global;
 
-/// The answer for what keeps an envelope from being packed. A write into memory fails for want of memory alone.
+/// Returns the answer for an error of packing. A write into memory fails only if an allocation
+/// fails.
 fn fault_answer(fault: PackFault) -> IimAnswer
     ensures { result ≡ pack_answer (outcome_of fault) }
 {
@@ -28,7 +29,8 @@ fn fault_answer(fault: PackFault) -> IimAnswer
     }
 }
 
-/// The packed form of what a script tells; or the answer why there is none.
+/// Returns the packed form of the envelope that a script specifies, or the answer that gives the
+/// reason why there is no such envelope.
 fn packed(alloc: Global, packing: IimPacking, script: &[u8]) -> Result<Vec<u8>, IimAnswer>
     ensures packed { IfOk result (λ form. IsPackOutcome packing script.now (Packed form.items)) }
     ensures unpacked { IfErr result (λ told. (o : PackOutcome) × IsPackOutcome packing script.now o × (form_of o ≡ [])
@@ -44,7 +46,7 @@ fn packed(alloc: Global, packing: IimPacking, script: &[u8]) -> Result<Vec<u8>, 
     }
 }
 
-/// The answer for a packed form of so many octets.
+/// Returns the answer for a packed form of `written` octets.
 fn sized(status: u8, written: usize) -> IimAnswer
     ensures { result ≡ record (status_answer status) { written = written } }
 {
@@ -54,7 +56,7 @@ fn sized(status: u8, written: usize) -> IimAnswer
     }
 }
 
-/// Writes a packed form into a buffer, where it has room for it.
+/// Writes a packed form into a buffer, if it fits, and returns the answer.
 fn put_form(form: &[u8], out: &mut [u8]) -> IimAnswer
     ensures { ((length form.now ≤ length out.old) × (out.new ≡ form.now ++ drop (length form.now) out.old)
         × (result ≡ pack_answer (Packed form.now)))
@@ -68,7 +70,7 @@ fn put_form(form: &[u8], out: &mut [u8]) -> IimAnswer
     sized(DONE, form.len())
 }
 
-/// Writes the packed form of what a script tells into a buffer, where it has room for it.
+/// Packs the envelope that a script specifies into a buffer, if it fits.
 pub fn iim_pack(
     alloc: Global,
     packing: IimPacking,
@@ -84,7 +86,7 @@ pub fn iim_pack(
     }
 }
 
-/// Tells how many octets the packed form of what a script tells has.
+/// Returns the number of octets that [`iim_pack`] would write.
 pub fn iim_pack_size(alloc: Global, packing: IimPacking, script: &[u8], answer: &mut IimAnswer)
     ensures { IsSized packing script.now answer.new }
 {

@@ -1,4 +1,4 @@
-//! How an envelope is packed.
+//! The options for packing an envelope.
 
 ghost use Rattle.std.specs.Prelude.{◌≡◌, IfSome, IfNone};
 ghost use Rattle.iim_pack_script.specs.Format.{asked};
@@ -8,21 +8,22 @@ use iim_object::{Plan, Size};
 use iim_pack_script::packing::PackRequest;
 use iim_request::request::DEFAULT_SUBFILE;
 
-/// How an envelope is packed. A subfile of 0 octets stands for one of 1,024.
+/// How to pack an envelope. `subfile = 0` selects the default, 1,024.
 #[repr(C)]
 #[derive(Clone, Copy)]
 pub struct IimPacking {
-    /// The octets of a full subfile, or 0.
+    /// The number of octets of a full subfile, or 0.
     pub subfile: u64,
-    /// Whether the size of the object is left unknown.
+    /// Whether the envelope leaves the size of the object unknown.
     pub unknown: bool,
-    /// Whether a maximum is told of it.
+    /// Whether the envelope states a maximum size.
     pub has_max: bool,
-    /// The maximum.
+    /// The maximum size.
     pub max: u64,
 }
 
-/// The request for these. None where a maximum is told of a known size, or where a number is above the greatest size.
+/// Returns the request for these options, or `None` if a known size has a maximum, or if a number
+/// is above the greatest size.
 pub(crate) fn request_for(packing: IimPacking) -> Option<PackRequest>
     ensures request { IfSome result (λ request. (asked request.subfile request.unknown request.max ≡ asked_for packing)
         × AsksSomething packing) }

@@ -11,55 +11,55 @@ use iim_audit::{CopyState, PieceRow};
 /// The copy may be used.
 pub const FREE: u8 = 0;
 
-/// The release of the copy is still to come.
+/// The release of the copy is later than the instant of the audit.
 pub const HELD: u8 = 1;
 
-/// The expiration of the copy has passed.
+/// The expiration of the copy is earlier than the instant of the audit.
 pub const EXPIRED: u8 = 2;
 
-/// What is told of one envelope. A member that is not spoken of is 0.
+/// The columns of the audit report for one envelope. Fields that are not mentioned are 0.
 #[repr(C)]
 #[derive(Clone, Copy)]
 pub struct IimAuditRow {
-    /// The offset in the input at which it begins.
+    /// The offset in the input of its first octet.
     pub at: u64,
-    /// How many octets it has.
+    /// Its length in octets.
     pub octets: u64,
-    /// The octets of its object.
+    /// The number of octets of its object.
     pub size: u64,
-    /// The subfiles of its object.
+    /// The number of subfiles of its object.
     pub subfiles: u64,
-    /// The words that its message announces.
+    /// The number of words that its message announces.
     pub announced: u64,
-    /// The words of its story.
+    /// The number of words of its story.
     pub counted: u64,
-    /// How many whole seconds ago it was sent, rounded down: below zero for the future.
+    /// The whole seconds since it was sent, rounded down, negative for the future.
     pub age: i64,
-    /// The instant from which on its copy may be used.
+    /// The first instant at which its copy may be used.
     pub release: IimInstant,
     /// The last instant at which its copy may be used.
     pub expires: IimInstant,
-    /// Whether it names the instant at which it was sent.
+    /// Whether it states the instant at which it was sent.
     pub has_age: bool,
-    /// Whether it names a release.
+    /// Whether it states a release.
     pub has_release: bool,
-    /// Whether it names an expiration.
+    /// Whether it states an expiration.
     pub has_expires: bool,
-    /// Whether the copy may be used: the number of free, held or expired.
+    /// Whether the copy may be used: [`FREE`], [`HELD`] or [`EXPIRED`].
     pub copy: u8,
-    /// The digit of 1:60, as an octet, or 0.
+    /// The digit of 1:60 as an ASCII octet, or 0 if it was not sent.
     pub priority: u8,
-    /// How many octets 1:30 has.
+    /// The length of 1:30 in octets.
     pub service_octets: u8,
-    /// 1:30, and zeros after it.
+    /// 1:30 Service Identifier, and zeros after it.
     pub service: [u8; 10],
-    /// 1:40, eight digits.
+    /// 1:40 Envelope Number, eight digits.
     pub number: [u8; 8],
-    /// 1:70, eight digits.
+    /// 1:70 Date Sent, eight digits.
     pub date_sent: [u8; 8],
 }
 
-/// The octets, and zeros after them.
+/// Returns the octets, followed by zeros.
 fn padded<const ROOM: usize>(octets: &[u8]) -> [u8; ROOM]
     requires { length octets.now ≤ ROOM }
     ensures { result ≡ padded ROOM octets.now }
@@ -69,7 +69,7 @@ fn padded<const ROOM: usize>(octets: &[u8]) -> [u8; ROOM]
     padded
 }
 
-/// The number of a state.
+/// Returns the number of a copy state.
 fn copy_number(copy: CopyState) -> u8
     ensures { result ≡ copy_number copy }
 {
@@ -80,7 +80,7 @@ fn copy_number(copy: CopyState) -> u8
     }
 }
 
-/// The row for C of an envelope that begins at an offset of the input.
+/// Returns the row for C of an envelope that begins at the offset `at` of the input.
 pub(crate) fn row_for(at: u64, found: &PieceRow) -> IimAuditRow
     requires { IsShort found.now.row.id }
     ensures { TellsRow at found.now.octets found.now.row (option_map (λ t. t.nanosecond) found.now.release)

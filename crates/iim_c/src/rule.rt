@@ -1,4 +1,4 @@
-//! What the tables say of a dataset.
+//! The rows of the tables.
 
 ghost use Rattle.std.specs.Prelude.{◌≡◌, ◌↔◌, IsTrue, is_some};
 ghost use Rattle.iim_tables.specs.Format.Rows.{Meets, row_of};
@@ -14,15 +14,15 @@ pub struct IimRule {
     pub min: u64,
     /// The greatest number of octets.
     pub max: u64,
-    /// The number of the kind that the octets are of.
+    /// The number of the kind of the data.
     pub kind: u8,
-    /// The number of the duty.
+    /// The number of the duty: whether the record must have the dataset.
     pub duty: u8,
     /// Whether the dataset may occur more than once.
     pub repeats: bool,
 }
 
-/// No row.
+/// The value in which all fields are 0.
 const NO_RULE: IimRule = IimRule {
     min: 0,
     max: 0,
@@ -31,7 +31,7 @@ const NO_RULE: IimRule = IimRule {
     repeats: false,
 };
 
-/// The number of a kind.
+/// Returns the number of a kind.
 fn kind_number(kind: Kind) -> u8
     ensures { result ≡ kind_number kind }
 {
@@ -52,7 +52,7 @@ fn kind_number(kind: Kind) -> u8
     }
 }
 
-/// The number of a duty.
+/// Returns the number of a duty.
 fn duty_number(duty: Duty) -> u8
     ensures { result ≡ duty_number duty }
 {
@@ -63,7 +63,7 @@ fn duty_number(duty: Duty) -> u8
     }
 }
 
-/// A row as C sees it.
+/// Converts a row for C.
 fn rule_of(row: Row) -> IimRule
     ensures { result ≡ rule_of row }
 {
@@ -76,7 +76,7 @@ fn rule_of(row: Row) -> IimRule
     }
 }
 
-/// Tells the row of a dataset: true where it has one.
+/// Looks up the row of the dataset `rec`:`set`. Returns whether it has one.
 pub fn iim_row(rec: u8, set: u8, rule: &mut IimRule) -> bool
     ensures has { result ≡ is_some (row_of rec set) }
     ensures rule { rule.new ≡ rule_for (row_of rec set) }
@@ -93,7 +93,8 @@ pub fn iim_row(rec: u8, set: u8, rule: &mut IimRule) -> bool
     }
 }
 
-/// Whether the octets may be those of a dataset: it has a row, and they are as that says.
+/// Checks whether octets are a valid value of the dataset `rec`:`set`: it has a row, and the
+/// octets are as that requires.
 pub fn iim_admits(rec: u8, set: u8, octets: &[u8]) -> bool
     ensures { IsTrue result ↔ Meets rec set octets.now }
 {

@@ -1,4 +1,4 @@
-//! The sizes of an object that a ticket tells.
+//! The sizes of an object in a ticket.
 
 ghost use Rattle.iim_places.specs.States.Restored.{split_told};
 ghost use Rattle.iim_c.specs.Format.Tickets.{IsObjectOf, AreSizes};
@@ -7,33 +7,33 @@ use crate::answer::{IimAnswer, status_answer, ticket_answer};
 use crate::status::DONE;
 use iim_unpack::{TicketParts, split_ticket};
 
-/// The sizes of an object, as far as they have come. A number that has not come is 0.
+/// The sizes of an object, as far as they were received. A number that was not received is 0.
 #[repr(C)]
 #[derive(Clone, Copy)]
 pub struct IimObject {
-    /// Whether 7:10 has come.
+    /// Whether 7:10 was received.
     pub has_mode: bool,
-    /// Whether 7:20 has come.
+    /// Whether 7:20 was received.
     pub has_subfile: bool,
-    /// Whether 7:90 has come.
+    /// Whether 7:90 was received.
     pub has_announced: bool,
-    /// Whether 7:95 has come.
+    /// Whether 7:95 was received.
     pub has_maximum: bool,
-    /// 7:10: 1 where the size is known at the start, else 0.
+    /// 7:10: 1 if the size is known at the start, otherwise 0.
     pub mode: u64,
     /// 7:20: the largest size of a subfile.
     pub subfile: u64,
-    /// 7:90: the size that is announced.
+    /// 7:90: the announced size.
     pub announced: u64,
-    /// 7:95: the greatest size that is allowed.
+    /// 7:95: the largest size that is allowed.
     pub maximum: u64,
-    /// How many subfiles have begun.
+    /// The number of subfiles, a partial one included.
     pub subfiles: u64,
-    /// How many octets of the object have come.
+    /// The number of octets of the object that were received.
     pub octets: u64,
 }
 
-/// No sizes.
+/// The value in which all fields are 0 or false.
 const NO_OBJECT: IimObject = IimObject {
     has_mode: false,
     has_subfile: false,
@@ -47,7 +47,7 @@ const NO_OBJECT: IimObject = IimObject {
     octets: 0,
 };
 
-/// The sizes in a ticket of these parts.
+/// Returns the sizes in a ticket of these parts.
 fn object_in(parts: &TicketParts<'_>) -> IimObject
     ensures { IsObjectOf (split_told parts.now) result }
 {
@@ -66,7 +66,7 @@ fn object_in(parts: &TicketParts<'_>) -> IimObject
     }
 }
 
-/// Tells the sizes of the object, as far as they have come.
+/// Returns the sizes of the object, as far as they were received.
 pub fn iim_sizes(ticket: &[u8], object: &mut IimObject, answer: &mut IimAnswer)
     ensures { AreSizes ticket.now object.new answer.new }
 {

@@ -1,24 +1,24 @@
-//! What is kept beside a ticket.
+//! The state of an audit beside a ticket.
 
 ghost use Rattle.std.specs.Prelude.{◌≡◌};
 ghost use Rattle.iim_c.specs.Format.Tickets.{begins_at, words_so_far};
 
-/// What is kept beside a ticket, of the envelope in hand.
+/// The state of an audit beside a ticket, for the envelope in progress.
 #[repr(C)]
 #[derive(Clone, Copy)]
 pub struct IimSoFar {
-    /// The offset in the input at which it begins.
+    /// The offset in the input of the first octet of the envelope.
     pub at: u64,
-    /// How many octets of it have come: 0 where none is begun.
+    /// The number of octets of it that were received: 0 if none is in progress.
     pub octets: u64,
-    /// How many words were counted in them.
+    /// The number of words counted in them.
     pub words: u64,
     /// Whether they end inside a word.
     pub inside: bool,
 }
 
 impl IimSoFar {
-    /// What is kept where an envelope begins.
+    /// Returns the state at the beginning of an envelope.
     pub(crate) fn begins(at: u64) -> IimSoFar
         ensures { result ≡ begins_at at }
     {
@@ -30,7 +30,8 @@ impl IimSoFar {
         }
     }
 
-    /// The words so far, of the envelope of a ticket: none where there is no ticket.
+    /// Returns the number of words so far and whether they end inside a word. Without a ticket
+    /// these are 0 and false.
     pub(crate) fn words(&self, ticket: &[u8]) -> (u64, bool)
         ensures { record { words = result.0; inside = result.1 } ≡ words_so_far ticket.now self.now }
     {

@@ -1,16 +1,16 @@
-//! Where octets stand in a ticket.
+//! Slices of a ticket.
 
-/// So many octets of a ticket, from this offset on.
+/// A slice of a ticket: `count` octets from `offset` on.
 #[repr(C)]
 #[derive(Clone, Copy)]
 pub struct IimSpan {
-    /// The offset of the first.
+    /// The offset of the first octet.
     pub offset: usize,
-    /// How many there are.
+    /// The number of octets.
     pub count: usize,
 }
 
-/// No octets.
+/// The empty slice at offset 0.
 pub const NO_SPAN: IimSpan = IimSpan {
     offset: 0,
     count: 0,

@@ -1,31 +1,31 @@
-//! The statuses that the calls answer.
+//! The statuses of calls.
 
-/// All is done: an envelope has ended, or what was asked for is there.
+/// Complete: an envelope has ended, or the requested value was written.
 pub const DONE: u8 = 0;
 
-/// All octets were used, and the envelope can continue.
+/// All octets were consumed, and the envelope can continue.
 pub const MORE: u8 = 1;
 
-/// An octet is refused, or a line of a script.
+/// An octet, or a line of a script, is rejected.
 pub const REFUSED: u8 = 2;
 
-/// The octets end inside an envelope.
+/// The input ends inside an envelope.
 pub const TRUNCATED: u8 = 3;
 
-/// There is none: no dataset of that number.
+/// There is no dataset with this index.
 pub const NONE: u8 = 4;
 
-/// A buffer is too short.
+/// A buffer is too short: the answer has the lengths that are needed.
 pub const SHORT: u8 = 5;
 
-/// Memory was refused.
+/// An allocation failed.
 pub const NO_MEMORY: u8 = 6;
 
-/// The octets are no ticket from which the call can continue.
+/// The octets are not a ticket from which the call can continue.
 pub const BAD_TICKET: u8 = 7;
 
-/// What is asked of a packer can't be.
+/// The options for packing are invalid.
 pub const BAD_PACKING: u8 = 8;
 
-/// What is given as an instant is none.
+/// The instant is invalid.
 pub const BAD_INSTANT: u8 = 9;

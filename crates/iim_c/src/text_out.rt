@@ -1,4 +1,4 @@
-//! Where the text of a piece goes: a buffer of the caller's.
+//! A sink that writes into a buffer of the caller.
 
 ghost use Rattle.std.specs.Prelude.{[], ◌∷◌};
 
@@ -6,18 +6,19 @@ use iim_dataset::Stop;
 use iim_dataset::octets::LF;
 use wire_story::StorySink;
 
-/// A sink that writes lines joined by LF into a buffer, as long as they have room, and counts all octets of them. It never stops.
+/// A sink that writes lines joined by LF into a buffer, as many octets as fit, and counts all of
+/// them. It never stops the unpacker.
 pub struct TextOut<'t> {
     /// The buffer.
     pub out: &'t mut [u8],
-    /// How many octets came; the greatest number of 64 bits stands for more.
+    /// The number of octets received, capped at the greatest number of 64 bits.
     pub count: usize,
 }
 
 impl<'t> TextOut<'t> {
     ghost use Rattle.iim_c.specs.Format.Answers.{WritesOctets};
 
-    /// Takes an octet.
+    /// Consumes an octet.
     #[inline(always)]
     fn put_octet(&mut self, octet: u8)
         ensures { WritesOctets self.old (octet ∷ []) self.new }
@@ -31,7 +32,7 @@ impl<'t> TextOut<'t> {
         self.count = from.saturating_add(1);
     }
 
-    /// Takes a run of octets.
+    /// Consumes a slice of octets.
     #[inline(never)]
     fn put_run(&mut self, octets: &[u8])
         ensures { WritesOctets self.old octets.now self.new }
@@ -43,7 +44,8 @@ impl<'t> TextOut<'t> {
         }
     }
 
-    /// Takes octets. A single one is written where it stands: a call that copies it would take longer.
+    /// Consumes octets. A single octet is stored directly, which is faster than a call that copies
+    /// a slice.
     #[inline(always)]
     fn put(&mut self, octets: &[u8])
         ensures { WritesOctets self.old octets.now self.new }

@@ -1,4 +1,4 @@
--- What a call answers, and a buffer that octets are written into.
+-- The answer of a call, and a buffer that octets are written into.
 use Rattle.std.specs.Prelude.{ℕ, ◌≡◌, ◌≤◌, List, ◌++◌, length, take, map}
 use Rattle.iim_places.specs.{Format.Causes.cause_number, Format.Streams.raised, declared.refusal.Refusal.Refusal}
 use Rattle.iim_places.specs.{declared.refusal.Layer.Layer, declared.ticket.fault.TicketFault.TicketFault}
@@ -10,7 +10,7 @@ use Rattle.wire_story.specs.Format.Texts.{StoryEvent, octet_for}
 pub use Rattle.iim_c.specs.declared.answer.IimAnswer.{IimAnswer}
 use Rattle.iim_c.specs.declared.text_out.TextOut.{TextOut}
 
--- the answer that has a status alone
+-- the answer in which all fields except the status are 0
 abbrev pub status_answer : ℕ → IimAnswer
 status_answer status = record {
   status = status;
@@ -24,11 +24,12 @@ status_answer status = record {
   ticket = 0;
 }
 
--- the answer where a buffer is too short: how many octets of text, or how many rows, there are, and how many octets the ticket has
+-- the answer if a buffer is too short: the number of octets of text, or of rows, and the length of
+-- the ticket
 abbrev pub short_answer : ℕ → ℕ → IimAnswer
 short_answer written ticket = record (status_answer status.short) { written = written; ticket = ticket }
 
--- the layers by their numbers
+-- the numbers of the layers
 abbrev pub layer_number : Layer → ℕ
 layer_number Dataset = 1
 layer_number Record = 2
@@ -48,29 +49,30 @@ refusal_answer status e = record (status_answer status) {
   octet = e.octet;
 }
 
--- the answer for a ticket that is refused; refused memory has a status of its own
+-- the answer for a ticket that is rejected; a failed allocation has a separate status
 abbrev pub ticket_answer : TicketFault → IimAnswer
 ticket_answer OutOfMemory = status_answer status.no_memory
 ticket_answer fault = record (status_answer status.bad_ticket) { cause = ticket_number fault }
 
--- a count of octets as it is told: it stays at the greatest number of 64 bits
+-- a number of octets as it is counted: capped at the greatest number of 64 bits
 abbrev pub counted : List ℕ → ℕ
 counted octets = raised 0 (length octets)
 
--- The buffer has room for the octets, and they stand at its front.
+-- The octets fit into the buffer, and are at its front.
 abbrev pub HoldsFirst : List ℕ → List ℕ → Type 0
 HoldsFirst out octets = (length octets ≤ length out) × (take (length octets) out ≡ octets)
 
--- So many octets came, and stand at the front of the buffer, where it has room for them.
+-- This number of octets was received, and they are at the front of the buffer, if they fit.
 abbrev pub HasTaken : List ℕ → ℕ → List ℕ → Type 0
 HasTaken out count octets = (count ≡ counted octets) × (length octets ≤ length out → take (length octets) out ≡ octets)
 
--- From one value to another these octets came after those before, into one buffer.
+-- Between the two values of a sink these octets were received, after earlier ones and in the same
+-- buffer.
 pub record WritesOctets (old : TextOut) (octets : List ℕ) (new : TextOut) : Type 0 where
   pub same : new.out.ghost_name ≡ old.out.ghost_name
   pub room : length new.out.now ≡ length old.out.now
   pub taken : (before : List ℕ) → HasTaken old.out.now old.count before → HasTaken new.out.now new.count (before ++ octets)
 
--- From one value to another a sink was told these events.
+-- Between the two values of a sink these events were passed to it.
 abbrev pub WritesLines : TextOut → List StoryEvent → TextOut → Type 0
 WritesLines old events new = WritesOctets old (map octet_for events) new

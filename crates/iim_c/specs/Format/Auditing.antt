@@ -1,4 +1,4 @@
--- What a piece of an input comes to that is audited from the place of a ticket on, and the rows of an audit.
+-- The result of auditing a chunk from the state of a ticket on, and the rows of an audit.
 use Rattle.std.specs.Prelude.{◌≡◌, ℕ, ◌-◌, ℤ, pos, List, ◌++◌, length, replicate, Option, is_some, ◌<◌, ◌≤◌, ◌⊎◌, [], ◌∷◌, take, drop, None, ⊤}
 use Rattle.std.specs.Option.{unwrap_or}
 use Rattle.iim_c.specs.Format.Tables.{TellsInstant, IsInstant, IsToldAs}
@@ -15,18 +15,18 @@ use Rattle.iim_c.specs.Format.Statuses as status
 use Rattle.iim_fields.specs.declared.limits.Limits.{Limits}
 pub use Rattle.iim_c.specs.declared.{row.IimAuditRow.IimAuditRow, so_far.IimSoFar.IimSoFar}
 
--- octets, and zeros after them up to a number of octets
+-- octets, followed by zeros up to a number of octets
 abbrev pub padded : ℕ → List ℕ → List ℕ
 padded room octets = octets ++ replicate (room - length octets) 0
 
--- the states of copy by their numbers
+-- the numbers of the copy states
 abbrev pub copy_number : CopyState → ℕ
 copy_number Free = 0
 copy_number Held = 1
 copy_number Expired = 2
 
--- The row of an envelope of so many octets, which begins at this offset of the input: what an audit's row tells of it but which earlier
--- one it repeats, and the instants of its copy.
+-- The row of an envelope of this length, which begins at this offset of the input. It has what the
+-- row of an audit has, except the earlier envelope that it repeats, and the instants of its copy.
 pub record TellsRow (at octets : ℕ) (told : AuditRow) (release expires : Option ℤ) (row : IimAuditRow) : Type 0 where
   pub at_is : row.at ≡ at
   pub octets_are : row.octets ≡ octets
@@ -47,36 +47,39 @@ pub record TellsRow (at octets : ℕ) (told : AuditRow) (release expires : Optio
 
 -- ---- rows
 
--- the envelope in hand: the offset in the input at which it begins, its octets so far, and how many of them are counted
+-- the current envelope: the offset in the input at which it begins, its octets so far, and their
+-- count
 pub record InHand : Type 0 where
   pub at : ℕ
   pub octets : List ℕ
   pub count : ℕ
 
--- with more octets
+-- the same envelope after more octets
 abbrev pub with_more : InHand → List ℕ → InHand
 with_more hand more = record { at = hand.at; octets = hand.octets ++ more; count = raised hand.count (length more) }
 
--- and the next one, where it has ended
+-- the next envelope, if this one is complete
 abbrev pub after : InHand → InHand
 after hand = record { at = raised hand.at hand.count; octets = []; count = 0 }
 
--- The octets in hand are an envelope, and the row tells it.
+-- The current octets are an envelope, and this is its row.
 pub record IsRow (limits : Limits) (now : ℤ) (hand : InHand) (row : IimAuditRow) : Type 0 where
   pub value : Value
   pub envelope : IsEnvelopeWithin limits hand.octets value
   pub tells : TellsRow hand.at hand.count (row_with now value None) (instant_of_release value.fields) (instant_of_expiration value.fields) row
 
--- Octets of the input end the envelope in hand and further ones, with a row for each in their order; then that one is in hand.
+-- Octets of the input complete the current envelope and further ones, with a row for each in this
+-- order; `next` is the current envelope afterwards.
 abbrev pub AreRows : Limits → ℤ → InHand → List ℕ → List IimAuditRow → InHand → Type 0
 AreRows limits now hand octets [] next = (octets ≡ []) × (next ≡ hand)
 AreRows limits now hand octets (row ∷ rows) next =
     (ended : List ℕ) × (others : List ℕ) × (octets ≡ ended ++ others) × IsRow limits now (with_more hand ended) row
     × AreRows limits now (after (with_more hand ended)) others rows next
 
--- ---- what comes after them
+-- ---- the state after the rows
 
--- Every layer can continue with the envelope in hand, the ticket is that of its octets, and this is kept of it.
+-- The current envelope is a viable prefix, the ticket is that of its octets, and this is the state
+-- beside it.
 pub record GoesOn (limits : Limits) (hand : InHand) (next : List ℕ) (kept : IimSoFar) : Type 0 where
   pub is_open : IsOpen limits hand.octets
   pub ticket : IsTicketOf hand.octets next
@@ -84,34 +87,37 @@ pub record GoesOn (limits : Limits) (hand : InHand) (next : List ℕ) (kept : Ii
   pub octets : kept.octets ≡ hand.count
   pub words : HaveWords hand.octets (record { words = kept.words; inside = kept.inside })
 
--- what is told of a piece: the rows, the ticket after it and what is kept beside that, and the answer where the ticket has room
+-- the result for a chunk: the rows, the next ticket, the state beside it, and the answer if the
+-- ticket fits
 pub record Outcome : Type 0 where
   pub rows : List IimAuditRow
   pub next : List ℕ
   pub kept : IimSoFar
   pub answer : IimAnswer
 
--- The octets end the envelopes of the rows, and this is said of the one that is in hand then.
+-- The octets complete the envelopes of the rows, and `said` holds of the current envelope
+-- afterwards.
 abbrev pub EndRows : Limits → ℤ → List ℕ → List IimAuditRow → (InHand → Type 0) → InHand → Type 0
 EndRows limits now octets rows said hand = (last : InHand) × AreRows limits now hand octets rows last × said last
 
--- The piece ends the envelopes of the rows, and its rest is of one more.
+-- The chunk completes the envelopes of the rows, and its remaining octets begin one more.
 abbrev pub UsesAll : Limits → ℤ → List ℕ → Outcome → InHand → Type 0
 UsesAll limits now piece o hand = (used : ℕ) × (used ≤ length piece)
     × EndRows limits now (take used piece) o.rows (λ last. GoesOn limits (with_more last (drop used piece)) o.next o.kept) hand
 
--- Its first octets end just those.
+-- The first `used` octets complete exactly these envelopes.
 abbrev pub UsesSome : Limits → ℤ → List ℕ → ℕ → Outcome → InHand → Type 0
 UsesSome limits now piece used o = EndRows limits now (take used piece) o.rows (λ last. GoesOn limits last o.next o.kept)
 
--- An octet after them is refused.
+-- An octet after these envelopes is rejected.
 abbrev pub RefusesOne : Limits → ℤ → List ℕ → ℕ → Refusal → Outcome → InHand → Type 0
 RefusesOne limits now piece used e o =
     EndRows limits now (take used piece) o.rows (λ last. Refuses limits last.octets last.count (drop used piece) e × (o.kept ≡ begins_at last.at))
 
--- ---- what a piece comes to
+-- ---- the result for a chunk
 
--- Some octets have led to the ticket, and every layer can continue from them; of all those whose words are kept this is said.
+-- Some octets have reached the ticket's state, and they are a viable prefix. `said` holds of all
+-- such octets whose words are as counted in `so_far`.
 abbrev pub IsSaidOf : Limits → List ℕ → IimSoFar → (InHand → Type 0) → Type 0
 IsSaidOf limits ticket so_far said =
     IsSaid limits ticket so_far.octets
@@ -121,8 +127,8 @@ IsSaidOf limits ticket so_far said =
 abbrev pub answer_with : (state used : ℕ) → Outcome → IimAnswer
 answer_with state used o = record (status_answer state) { octet = o.kept.octets; used = used; written = length o.rows; ticket = length o.next }
 
--- It comes to this of the piece, where there is room for so many rows: all of it was used, or as much as there is room for rows, or one
--- of its octets is refused.
+-- The result for a chunk, with an array of the capacity `room`: the whole chunk was consumed; or
+-- as much of it as gives `room` rows; or one of its octets is rejected.
 abbrev pub IsOutcome : Limits → ℤ → List ℕ → IimSoFar → List ℕ → ℕ → Outcome → Type 0
 IsOutcome limits now ticket so_far piece room o =
     (IsSaidOf limits ticket so_far (UsesAll limits now piece o) × (length o.rows < room) × (o.answer ≡ answer_with status.more (length piece) o))
@@ -133,16 +139,18 @@ IsOutcome limits now ticket so_far piece room o =
 
 -- ---- the answer
 
--- The rows stand at the front of the array, and the others are what they were. The ticket has room and stands in its buffer, and this is
--- kept; or it has none, and what was kept stays.
+-- The rows are at the front of the array, and its other entries are unchanged. Either the ticket
+-- fits and is in its buffer, and the state is written; or it does not fit, and the state is
+-- unchanged.
 abbrev pub IsAnswered : Outcome → List IimAuditRow → List IimAuditRow → List ℕ → IimSoFar → IimSoFar → IimAnswer → Type 0
 IsAnswered o array array_new ticket_out old new told = (array_new ≡ o.rows ++ drop (length o.rows) array)
     × ((HoldsFirst ticket_out o.next × (new ≡ o.kept) × (told ≡ o.answer))
     ⊎ ((length ticket_out < length o.next) × (new ≡ old) × (told ≡ short_answer (length o.rows) (length o.next))))
 
--- The piece is audited at an instant, from the place of the ticket on, and what it comes to is answered. So a buffer of the length that
--- the limits allow is never too short. Or there is no such place: an envelope has ended there, or the ticket is refused, or memory. Then
--- no row is written.
+-- The chunk is audited at an instant, from the state of the ticket on, and its result is the
+-- answer. A buffer of the length that the limits allow is never too short. Or the call cannot
+-- continue: the envelope of the ticket is complete, or the ticket is rejected, or the allocation
+-- fails. Then no row is written.
 abbrev pub IsAuditedAt : Limits → List ℕ → IimSoFar → List ℕ → ℤ → List IimAuditRow → List IimAuditRow → List ℕ → IimSoFar → IimAnswer → Type 0
 IsAuditedAt limits ticket old piece now array array_new ticket_out new told =
     ((o : Outcome) × IsOutcome limits now ticket old piece (length array) o × (length o.next ≤ most_of_ticket limits)
@@ -150,14 +158,14 @@ IsAuditedAt limits ticket old piece now array array_new ticket_out new told =
     ⊎ (IsSaid limits ticket old.octets (λ p a. ⊥) (λ p a. ⊤) × (array_new ≡ array) × (new ≡ old) × (told ≡ status_answer status.bad_ticket))
     ⊎ (IsNowhere limits ticket told × (array_new ≡ array) × (new ≡ old))
 
--- What is given as an instant is none, and all stays as it was.
+-- The instant is invalid, and nothing is changed.
 pub record IsNoInstant (now : IimInstant) (array array_new : List IimAuditRow) (old new : IimSoFar) (told : IimAnswer) : Type 0 where
   pub none : IsInstant now → ⊥
   pub array_is : array_new ≡ array
   pub keeps : new ≡ old
   pub answer : told ≡ status_answer status.bad_instant
 
--- The piece is audited at the instant that is given, or that is none.
+-- The chunk is audited at the given instant, or that is invalid.
 abbrev pub IsAudited : Limits → List ℕ → IimSoFar → List ℕ → IimInstant → List IimAuditRow → List IimAuditRow → List ℕ → IimSoFar → IimAnswer → Type 0
 IsAudited limits ticket old piece now array array_new ticket_out new told =
     ((nanosecond : ℤ) × IsToldAs now nanosecond × IsAuditedAt limits ticket old piece nanosecond array array_new ticket_out new told)

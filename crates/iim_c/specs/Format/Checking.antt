@@ -1,4 +1,4 @@
--- What octets in memory are answered.
+-- The result of checking octets in memory.
 use Rattle.std.specs.Prelude.{◌≡◌, ℕ, ◌==◌, ◌⊎◌, if◌then◌else◌, List}
 use Rattle.iim_fields.specs.{Format.Records.wire_limits, declared.limits.Limits.Limits}
 use Rattle.iim_places.specs.Format.Streams.{Answer, Finished, Refused, Truncated, Answers}
@@ -6,24 +6,24 @@ use Rattle.iim_c.specs.declared.limits.IimLimits.{IimLimits}
 use Rattle.iim_c.specs.Format.Answers.{status_answer, refusal_answer, IimAnswer}
 use Rattle.iim_c.specs.Format.Statuses as status
 
--- what is given, or else what stands for 0
+-- `given`, or `other` if that is 0
 abbrev pub given_or : ℕ → ℕ → ℕ
 given_or given other = if given == 0 then other else given
 
--- the limits for those that are given: those of wire copy stand for 0
+-- the limits, with those of wire copy for each that is 0
 abbrev pub limits_for : IimLimits → Limits
 limits_for limits = record { octets = given_or limits.octets wire_limits.octets; fields = given_or limits.fields wire_limits.fields }
 
--- the answer for the one of a stream
+-- the answer of a call for that of a stream
 abbrev pub answer_for : Answer → IimAnswer
 answer_for (Finished used value) = record (status_answer status.done) { octet = used; used = used }
 answer_for (Refused e) = refusal_answer status.refused e
 answer_for (Truncated e) = refusal_answer status.truncated e
 
--- The octets have the answer of a stream; or memory was refused.
+-- The answer is that of the stream; or an allocation failed.
 abbrev pub IsChecked : Limits → List ℕ → IimAnswer → Type 0
 IsChecked limits octets told = ((answer : Answer) × Answers limits octets answer × (told ≡ answer_for answer)) ⊎ (told ≡ status_answer status.no_memory)
 
--- They have no other answer.
+-- The octets have no other answer.
 abbrev pub IsOnly : Limits → List ℕ → IimAnswer → Type 0
 IsOnly limits octets told = (answer : Answer) → Answers limits octets answer → (told ≡ answer_for answer) ⊎ (told ≡ status_answer status.no_memory)

@@ -1,4 +1,4 @@
--- What a script and the way of packing are answered.
+-- The result of packing a script.
 use Rattle.std.specs.Prelude.{◌≡◌, ℕ, ◌<◌, ◌≤◌, ◌⊎◌, true, false, IsTrue, if◌then◌else◌, List, [], ◌++◌, length, drop, Some, None}
 use Rattle.iim_object.specs.{Format.Objects.is_plan, declared.size.Size.TheVariants.Unknown}
 use Rattle.iim_pack_script.specs.Format.{Asked, asked, IsFormOf, IsScriptRefusal, IsScriptOf, ScriptContent, refusal_line}
@@ -7,34 +7,36 @@ use Rattle.iim_c.specs.{declared.packing.IimPacking.IimPacking, Format.Checking.
 use Rattle.iim_c.specs.Format.Answers.{status_answer, IimAnswer}
 use Rattle.iim_c.specs.Format.Statuses as status
 
--- what is asked for, as the command has it: 1,024 octets of a full subfile stand for 0
+-- the options as the command has them: `subfile = 0` selects 1,024
 abbrev pub asked_for : IimPacking → Asked
 asked_for p = asked (given_or p.subfile default_subfile) p.unknown (if p.has_max then Some p.max else None)
 
--- Nothing that can be is asked for: a maximum is told of a known size, or no plan can have these numbers.
+-- The options are invalid: a known size has a maximum, or no plan can have these numbers.
 abbrev pub AsksNothing : IimPacking → Type 0
 AsksNothing p = ((p.has_max ≡ true) × (p.unknown ≡ false)) ⊎ (IsTrue (is_plan (asked_for p).subfile (Unknown (asked_for p).max)) → ⊥)
 
--- Something that can be is.
+-- The options are valid.
 abbrev pub AsksSomething : IimPacking → Type 0
 AsksSomething p = AsksNothing p → ⊥
 
--- the packed form; or a line that is wrong, and the cause; or nothing was asked for, or memory was refused
+-- the packed form; or an invalid line and the cause; or the options are invalid; or an allocation
+-- failed
 pub data PackOutcome : Type 0 where
   Packed : (form : List ℕ) → PackOutcome
   Refused : (line cause : ℕ) → PackOutcome
   BadPacking : PackOutcome
   NoMemory : PackOutcome
 
--- The octets are a script, and this is the form that is asked for of what it tells; or the command refuses them by this line and this
--- cause, which it prints with a name. Where nothing that can be is asked for, it comes to that alone, whatever the script is.
+-- The octets are a script, and this is the packed form that the options select; or the command
+-- rejects them with this line and this cause, which it prints with a name. If the options are
+-- invalid, that is the only outcome, whatever the script is.
 abbrev pub IsPackOutcome : IimPacking → List ℕ → PackOutcome → Type 0
 IsPackOutcome p octets (Packed form) = AsksSomething p × ((t : ScriptContent) × IsScriptOf octets t × IsFormOf (asked_for p) t form)
 IsPackOutcome p octets (Refused line cause) = AsksSomething p × ((name : List ℕ) × IsScriptRefusal (asked_for p) octets (refusal_line line cause name))
 IsPackOutcome p octets BadPacking = AsksNothing p
 IsPackOutcome p octets NoMemory = AsksSomething p
 
--- the answer that tells it
+-- the answer for an outcome
 abbrev pub pack_answer : PackOutcome → IimAnswer
 pack_answer (Packed form) = record (status_answer status.done) { written = length form }
 pack_answer (Refused line cause) = record (status_answer status.refused) { octet = line; cause = cause }
@@ -46,11 +48,12 @@ abbrev pub form_of : PackOutcome → List ℕ
 form_of (Packed form) = form
 form_of _ = []
 
--- The answer tells how many octets the form has, or why there is none.
+-- The answer has the length of the packed form, or the reason why there is no packed form.
 abbrev pub IsSized : IimPacking → List ℕ → IimAnswer → Type 0
 IsSized p octets told = (o : PackOutcome) × IsPackOutcome p octets o × (told ≡ pack_answer o)
 
--- The form stands at the front of the buffer, and the rest is as it was; or it has no room, and the buffer is as it was.
+-- The packed form is at the front of the buffer, and the rest is unchanged; or it does not fit,
+-- and the whole buffer is unchanged.
 abbrev pub IsPacked : IimPacking → List ℕ → List ℕ → List ℕ → IimAnswer → Type 0
 IsPacked p octets old new told = (o : PackOutcome) × IsPackOutcome p octets o
     × (((length (form_of o) ≤ length old) × (new ≡ form_of o ++ drop (length (form_of o)) old) × (told ≡ pack_answer o))

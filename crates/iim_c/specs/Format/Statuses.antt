@@ -1,23 +1,23 @@
--- The statuses that the calls answer.
+-- The statuses of calls.
 use Rattle.std.specs.Prelude.{ℕ}
 
--- all is done: an envelope has ended, or what was asked for is there
+-- complete: an envelope has ended, or the requested value was written
 abbrev pub done : ℕ
 done = 0
 
--- all octets were used, and the envelope can continue
+-- all octets were consumed, and the envelope can continue
 abbrev pub more : ℕ
 more = 1
 
--- an octet is refused, or a line of a script
+-- an octet, or a line of a script, is rejected
 abbrev pub refused : ℕ
 refused = 2
 
--- the octets end inside an envelope
+-- the input ends inside an envelope
 abbrev pub truncated : ℕ
 truncated = 3
 
--- there is none: no dataset of that number
+-- there is no dataset with this index
 abbrev pub none : ℕ
 none = 4
 
@@ -25,18 +25,18 @@ none = 4
 abbrev pub short : ℕ
 short = 5
 
--- memory was refused
+-- an allocation failed
 abbrev pub no_memory : ℕ
 no_memory = 6
 
--- the octets are no ticket from which the call can continue
+-- the octets are not a ticket from which the call can continue
 abbrev pub bad_ticket : ℕ
 bad_ticket = 7
 
--- what is asked of a packer can't be
+-- the options for packing are invalid
 abbrev pub bad_packing : ℕ
 bad_packing = 8
 
--- what is given as an instant is none
+-- the instant is invalid
 abbrev pub bad_instant : ℕ
 bad_instant = 9

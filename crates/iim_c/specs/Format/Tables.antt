@@ -23,7 +23,7 @@ use Rattle.iim_script.specs.declared.fault.ScriptCause.{ScriptCause}
 use Rattle.iim_script.specs.declared.fault.ScriptCause.TheVariants as script
 use Rattle.iim_places.specs.declared.refusal.Layer.TheVariants as layers
 
--- the kinds by their numbers
+-- the numbers of the kinds
 abbrev pub kind_number : Kind → ℕ
 kind_number Graphic = 1
 kind_number Spaced = 2
@@ -39,24 +39,24 @@ kind_number Mode = 11
 kind_number Size = 12
 kind_number SizeFromOne = 13
 
--- the duties by their numbers
+-- the numbers of the duties
 abbrev pub duty_number : Duty → ℕ
 duty_number Mandatory = 1
 duty_number Optional = 2
 duty_number ByMode = 3
 
--- a row
+-- a row for C
 abbrev pub rule_of : Row → IimRule
 rule_of row = record { min = row.min; max = row.max; kind = kind_number row.kind; duty = duty_number row.duty; repeats = row.repeats }
 
--- the row of a dataset, or zeros where it has none
+-- the row of a dataset, or zeros if it has no row
 abbrev pub rule_for : Option Row → IimRule
 rule_for (Some row) = rule_of row
 rule_for None = record { min = 0; max = 0; kind = 0; duty = 0; repeats = false }
 
--- ---- The causes by their numbers: their names, and what they mean, in a sentence each.
+-- ---- The names and the meanings of causes, by their numbers.
 
--- a cause: its number, its name, and what it means
+-- a cause: its number, its name and its meaning
 pub record CauseTold : Type 0 where
   pub number : ℕ
   pub name : List ℕ
@@ -65,14 +65,14 @@ pub record CauseTold : Type 0 where
 abbrev pub told : ℕ → List ℕ → List ℕ → CauseTold
 told number name text = record { number = number; name = name; text = text }
 
--- a cause of octets, of a script
+-- a cause in octets, and one in a script
 abbrev pub of_octets : Cause → List ℕ → CauseTold
 of_octets cause text = told (cause_number cause) (cause_name cause) text
 
 abbrev pub of_script : ScriptCause → List ℕ → CauseTold
 of_script cause text = told (script_words.cause_number cause) (script_words.cause_name cause) text
 
--- the causes of octets, of memory and readers, of packing, of audits, of scripts and of tickets
+-- the causes in octets, in memory and readers, in packing, in audits, in scripts and in tickets
 unfoldable pub causes_told : List CauseTold
 causes_told =
     of_octets octets.Marker (codes "a tag doesn't begin with 1C")
@@ -117,20 +117,20 @@ causes_told =
     ∷ told (ticket_number tickets.Impossible) (ticket_name tickets.Impossible) (codes "no envelope can be at the place that the ticket tells; of version 1, none by the sizes of that version")
     ∷ []
 
--- the first one with that number
+-- the first cause with this number
 unfoldable pub cause_told : ℕ → Option CauseTold
 cause_told number = find (λ cause. cause.number == number) causes_told
 
--- its name, and what it means
+-- its name, and its meaning
 abbrev pub cause_named : ℕ → Option (List ℕ)
 cause_named number = option_map (λ cause. cause.name) (cause_told number)
 
 abbrev pub cause_text : ℕ → Option (List ℕ)
 cause_text number = option_map (λ cause. cause.text) (cause_told number)
 
--- ---- The names that are told by numbers: of layers and of datasets.
+-- ---- The names of layers and of datasets, by their numbers.
 
--- the name of the first layer with that number
+-- the name of the first layer with this number
 abbrev pub name_in : List Layer → ℕ → Option (List ℕ)
 name_in names number = option_map layer_name (find (λ layer. layer_number layer == number) names)
 
@@ -150,11 +150,11 @@ pub record NamedDataset : Type 0 where
 abbrev pub entry : ℕ → ℕ → List ℕ → NamedDataset
 entry rec set name = record { rec = rec; set = set; name = name }
 
--- the entry is that of the record and number
+-- the entry has this record and number
 abbrev pub is_for : ℕ → ℕ → NamedDataset → Bool
 is_for rec set e = (e.rec == rec) && (e.set == set)
 
--- the datasets of the tables by the names of the standard
+-- the datasets of the tables, with the names of the standard
 unfoldable pub dataset_names : List NamedDataset
 dataset_names =
     entry 1 0 (codes "Model Version")
@@ -213,8 +213,8 @@ abbrev pub name_or_none : Option (List ℕ) → List ℕ
 name_or_none (Some name) = name
 name_or_none None = []
 
--- The name with a NUL after it stands at the front of the buffer, where that has room for both, and the rest is as it was; the number
--- is that of its octets.
+-- The name and a NUL are at the front of the buffer, and the rest is unchanged; or they do not
+-- fit, and the whole buffer is unchanged. The count is the length of the name.
 abbrev pub IsNamed : List ℕ → List ℕ → List ℕ → ℕ → Type 0
 IsNamed name old new count = (count ≡ length name)
     × (((length name < length old) × (new ≡ (name ++ 0 ∷ []) ++ drop (length name + 1) old)) ⊎ ((length old ≤ length name) × (new ≡ old)))
@@ -223,15 +223,15 @@ IsNamed name old new count = (count ≡ length name)
 abbrev pub nanoseconds_to : IimInstant → ℤ
 nanoseconds_to instant = (instant.second *ℤ pos nanoseconds_in_second) +ℤ pos instant.nanosecond
 
--- Of the nanoseconds there are fewer than a second has, and `jiff` has such an instant.
+-- There are fewer nanoseconds than a second has, and the instant is in the range of `jiff`.
 abbrev pub IsInstant : IimInstant → Type 0
 IsInstant instant = (instant.nanosecond < nanoseconds_in_second) × IsTimestampNanos (nanoseconds_to instant)
 
--- It is an instant, so many nanoseconds from there.
+-- The instant is valid, and is this many nanoseconds after 1970-01-01T00:00:00Z.
 abbrev pub IsToldAs : IimInstant → ℤ → Type 0
 IsToldAs instant nanosecond = IsInstant instant × (nanosecond ≡ nanoseconds_to instant)
 
--- The instant is this, its seconds rounded down; or there is none, and its numbers are 0.
+-- The instant is present, with its seconds rounded down; or it is absent, and its numbers are 0.
 abbrev pub TellsInstant : Option ℤ → Bool → IimInstant → Type 0
 TellsInstant (Some nanosecond) has instant = (has ≡ true) × (instant.nanosecond < nanoseconds_in_second) × (nanoseconds_to instant ≡ nanosecond)
 TellsInstant None has instant = (has ≡ false) × (instant ≡ record { second = pos 0; nanosecond = 0 })

@@ -1,4 +1,5 @@
--- What a ticket tells: its parts and where they stand, what is begun at its place, and which octets can come next.
+-- What a ticket encodes: its parts and their offsets, what is in progress, and which octets may
+-- come next.
 use Rattle.std.specs.Prelude.{◌≡◌, ℕ, ◌+◌, ◌≤◌, ◌⊎◌, Bool, false, List, [], ◌∷◌, length, get_or, take, drop, None, is_some, ◌≢◌, ◌-◌, ◌==◌, if◌then◌else◌, ◌++◌, ◌<◌, ◌/◌, ◌%◌, ◌↔◌, replicate, ⊤, nat_le}
 use Rattle.std.specs.{Option.unwrap_or, Int.bit_at}
 use Rattle.iim_dataset.specs.Format.Datasets.{Dataset, SpellsTag, count_octets, head_of, Begun, InTag, InData, Reads}
@@ -17,9 +18,9 @@ use Rattle.wire_story.specs.Format.Texts.{WordsSoFar}
 use Rattle.iim_audit.specs.Format.{no_words}
 pub use Rattle.iim_c.specs.declared.span.IimSpan.{IimSpan}
 
--- ---- places in a ticket
+-- ---- slices of a ticket
 
--- The octets stand there.
+-- The slice of the ticket has these octets.
 pub record StandAt (ticket : List ℕ) (span : IimSpan) (octets : List ℕ) : Type 0 where
   pub within : span.offset + span.count ≤ length ticket
   pub octets_are : take span.count (drop span.offset ticket) ≡ octets
@@ -27,13 +28,13 @@ pub record StandAt (ticket : List ℕ) (span : IimSpan) (octets : List ℕ) : Ty
 abbrev pub no_span : IimSpan
 no_span = record { offset = 0; count = 0 }
 
--- The octets are no ticket, and the answer tells why.
+-- The octets are not a ticket, and the answer has the reason.
 abbrev pub IsNoTicket : List ℕ → IimAnswer → Type 0
 IsNoTicket ticket told = (fault : TicketFault) × IsFaultOf ticket fault × (told ≡ ticket_answer fault)
 
 -- ---- datasets
 
--- The dataset that comes after the first n, and where its data stand.
+-- The dataset after the first n, and the slice of the ticket with its data.
 pub record IsFieldAt (ticket : List ℕ) (s : Split) (n : ℕ) (found : IimDataset) : Type 0 where
   pub field : Dataset
   pub after : List Dataset
@@ -45,24 +46,26 @@ pub record IsFieldAt (ticket : List ℕ) (s : Split) (n : ℕ) (found : IimDatas
 abbrev pub no_dataset : IimDataset
 no_dataset = record { rec = 0; set = 0; «data» = no_span }
 
--- The ticket tells more than n datasets, and this is the next one; or it tells no more; or it is none.
+-- The ticket has more than n datasets, and this is the next one; or it has no more; or it is not a
+-- ticket.
 abbrev pub IsField : List ℕ → ℕ → IimDataset → IimAnswer → Type 0
 IsField ticket n found told =
     ((s : Split) × SplitsTicket ticket s × IsFieldAt ticket s n found × (told ≡ status_answer status.done))
     ⊎ ((s : Split) × SplitsTicket ticket s × (length s.fields ≤ n) × (found ≡ no_dataset) × (told ≡ status_answer status.none))
     ⊎ (IsNoTicket ticket told × (found ≡ no_dataset))
 
--- The array has the first `count` datasets after the first `from`, as far as it has room for them; its other entries are as they were.
+-- The array begins with the first `count` datasets after the first `from`, as many as fit; its
+-- other entries are unchanged.
 pub record ArrayHasFields (ticket : List ℕ) (s : Split) (from count : ℕ) (old new : List IimDataset) : Type 0 where
   pub each : (k : ℕ) → k < count → k < length old → IsFieldAt ticket s (from + k) (get_or new k no_dataset)
   pub others : drop count new ≡ drop count old
 
--- the answer for so many datasets, of which the array has room for so many
+-- the answer for `count` datasets and an array of the capacity `room`
 abbrev pub fields_answer : (count room : ℕ) → IimAnswer
 fields_answer count room = record (status_answer (if nat_le count room then status.done else status.short)) { written = count }
 
--- The array has the datasets after the first `from`, and the answer counts all of those; or the octets are no ticket, and the array is as
--- it was.
+-- The array has the datasets after the first `from`, and the answer counts all of those; or the
+-- octets are not a ticket, and the array is unchanged.
 abbrev pub ReturnsFields : List ℕ → ℕ → List IimDataset → List IimDataset → IimAnswer → Type 0
 ReturnsFields ticket from old new told =
     ((s : Split) × SplitsTicket ticket s × ArrayHasFields ticket s from (length s.fields - from) old new
@@ -71,11 +74,11 @@ ReturnsFields ticket from old new told =
 
 -- ---- header and trailer
 
--- The text with this index stands there.
+-- The slice has the text with this index.
 abbrev pub TextStands : List ℕ → Split → ℕ → IimSpan → Type 0
 TextStands ticket s n span = StandAt ticket span (get_or s.texts n [])
 
--- The part is this, and the texts stand where the message says.
+-- The part is this, and the slices of the message have its texts.
 abbrev pub IsMessageOf : List ℕ → Split → IimMessage → Type 0
 IsMessageOf ticket s m =
     (m.part ≡ s.part) × TextStands ticket s 0 m.source × TextStands ticket s 1 m.number × TextStands ticket s 2 m.priority
@@ -93,14 +96,14 @@ no_message = record {
   trailer = no_span;
 }
 
--- The ticket tells this of the message; or it is none.
+-- The ticket has this header and trailer; or it is not a ticket.
 abbrev pub IsHeader : List ℕ → IimMessage → IimAnswer → Type 0
 IsHeader ticket m told =
     ((s : Split) × SplitsTicket ticket s × IsMessageOf ticket s m × (told ≡ status_answer status.done)) ⊎ (IsNoTicket ticket told × (m ≡ no_message))
 
 -- ---- sizes
 
--- The number with this index is this, or has not come and is 0.
+-- The number with this index is this; or it was not received, and is 0.
 abbrev pub IsNumber : Split → ℕ → Bool → ℕ → Type 0
 IsNumber s n has number = (has ≡ is_some (get_or s.numbers n None)) × (number ≡ unwrap_or (get_or s.numbers n None) 0)
 
@@ -123,14 +126,14 @@ no_object = record {
   octets = 0;
 }
 
--- The ticket tells these sizes; or it is none.
+-- The ticket has these sizes; or it is not a ticket.
 abbrev pub AreSizes : List ℕ → IimObject → IimAnswer → Type 0
 AreSizes ticket o told =
     ((s : Split) × SplitsTicket ticket s × IsObjectOf s o × (told ≡ status_answer status.done)) ⊎ (IsNoTicket ticket told × (o ≡ no_object))
 
--- ---- what is begun, by its number
+-- ---- the number of what is in progress
 
--- nothing, between datasets; or a tag, of which some octets have come
+-- nothing, between datasets; or a tag, of which some octets were received
 abbrev pub kind_of_tag : List ℕ → ℕ
 kind_of_tag [] = 0
 kind_of_tag (x ∷ held) = 1
@@ -139,13 +142,13 @@ kind_of_tag (x ∷ held) = 1
 abbrev pub in_data : ℕ
 in_data = 2
 
--- nothing any more: the last dataset has ended
+-- nothing: the envelope is complete
 abbrev pub ended : ℕ
 ended = 3
 
--- ---- what a ticket tells of it
+-- ---- what a ticket encodes of it
 
--- the octets of it that the ticket keeps
+-- the received octets of it that the ticket stores
 abbrev pub kept_of : Phase → List ℕ
 kept_of (TagBegun held) = held
 kept_of (DataBegun set count left taken) = taken
@@ -168,9 +171,10 @@ no_begun = record {
   octets = no_span;
 }
 
--- What is begun in the record `section` after `at` octets, where those that the ticket keeps of it stand in this span. The first
--- octet of a tag or of data lies as many octets back as have come of it. What the next octet belongs to begins there, too, but in a
--- subfile, where each octet is looked at alone.
+-- What is in progress in the record `section` after `at` octets, with its stored octets in this
+-- slice of the ticket. The first octet of a tag or of data is as many octets before `at` as were
+-- received of it. The token of the next octet begins there, too, except in a subfile, where each
+-- octet is checked as a token.
 abbrev pub begun_by : (at section : ℕ) → Phase → IimSpan → IimBegun
 begun_by at section (TagBegun held) span =
     record no_begun {
@@ -196,7 +200,8 @@ begun_by at section (DataBegun set count left taken) span =
     }
 begun_by at section AllEnded span = record no_begun { kind = ended; first = at; token = at; octets = span }
 
--- the same with the record of the last head, and with the part of the message that has come, its counter and its flag
+-- the same with the record of the last head, and with the part of the message, its counter and its
+-- flag
 abbrev pub begun_of : ℕ → Split → IimSpan → IimBegun
 begun_of at s span = record (begun_by at s.section s.phase span) { section = s.section; part = s.part; counter = s.counter; flag = s.flag }
 
@@ -204,15 +209,16 @@ pub record IsBegunOf (ticket : List ℕ) (at : ℕ) (s : Split) (found : IimBegu
   pub stand : StandAt ticket found.octets (kept_of s.phase)
   pub is : found ≡ begun_of at s found.octets
 
--- The ticket tells this of what is begun; or it is none.
+-- The ticket encodes this; or it is not a ticket.
 abbrev pub IsBegunTold : List ℕ → ℕ → IimBegun → IimAnswer → Type 0
 IsBegunTold ticket at found told =
     ((s : Split) × SplitsTicket ticket s × IsBegunOf ticket at s found × (told ≡ status_answer status.done)) ⊎ (IsNoTicket ticket told × (found ≡ no_begun))
 
--- ---- what octets have begun that have led there
+-- ---- what is in progress after octets that have reached the state
 
--- What has come of it, what is to come, and where it began, after `at` octets: of a tag it isn't known what is to come. The token that
--- the next octet belongs to is a tag, a value, or of the object each octet by itself.
+-- How much of it was received, how much is remaining, and where it began, after `at` octets. The
+-- length of a partial tag is unknown, so the number of remaining octets is 0. The token of the
+-- next octet is a tag, a value or, in the object, that octet itself.
 abbrev pub TellsBegun : ℕ → Begun → IimBegun → Type 0
 TellsBegun at (InTag held) found =
     (found.rec ≡ begun_record (InTag held)) × (found.set ≡ begun_number (InTag held)) × (found.came ≡ length held) × (found.left ≡ 0)
@@ -221,60 +227,65 @@ TellsBegun at (InData h taken) found =
     (found.rec ≡ h.rec) × (found.set ≡ h.set) × (found.came ≡ length taken) × (found.left ≡ h.count - length taken)
     × (found.first ≡ at - length taken) × (found.token ≡ (if h.rec == 8 then at else at - length taken))
 
--- The last dataset has ended: it is of record 9, and no other is begun.
+-- The last dataset is complete: it has record 9, and no other is in progress.
 abbrev pub HaveEnded : List Dataset → Begun → Type 0
 HaveEnded whole (InTag held) = section_after whole ≡ 9
 HaveEnded whole (InData h taken) = ⊥
 
--- The octets so far have begun this, or have ended.
+-- After the octets so far this is in progress, or the envelope is complete.
 pub record TellsOctets (p : List ℕ) (at : ℕ) (found : IimBegun) : Type 0 where
   pub whole : List Dataset
   pub begun : Begun
   pub reads : Reads count_octets p whole begun
   pub tells : ((found.kind ≡ ended) × HaveEnded whole begun) ⊎ TellsBegun at begun found
 
--- ---- the refused token
+-- ---- the rejected token
 
--- The octets of a token: of a tag that no octet continues those up to that octet; of a head its tag; of an octet of the object that
--- octet; of a value its data, or where it has none the tag that says so.
+-- The octets of a token. If no octet can continue a partial tag: its octets up to the rejected
+-- one. For a head: its tag. For an octet of the object: that octet. For a value: its data or, if
+-- that is empty, its tag.
 abbrev pub AreOctetsOf : Token → List ℕ → Type 0
 AreOctetsOf (AtOctet (InTag held) octet) xs = xs ≡ held ++ octet ∷ []
 AreOctetsOf (AtOctet (InData h taken) octet) xs = xs ≡ octet ∷ []
 AreOctetsOf (AtHead h) xs = SpellsTag count_octets h xs
 AreOctetsOf (AtValue d) xs = ((d.octets ≢ []) × (xs ≡ d.octets)) ⊎ ((d.octets ≡ []) × SpellsTag count_octets (head_of d) xs)
 
--- Whichever octet is refused after those, of whichever layer: from `token` on, up to the refused one, they are the octets of the
--- refused token.
+-- Whichever octet is rejected next, by whichever layer: the octets from `token` up to it are those
+-- of the rejected token.
 abbrev pub TellsToken : List ℕ → ℕ → IimBegun → Type 0
 TellsToken p at found = (limits : Limits) (next : ℕ) (fault : TokenFault) → (refused : RefusesNext limits p next fault) → at ≡ length p
     → AreOctetsOf refused.token (drop found.token (p ++ next ∷ []))
 
--- the bit of an octet in the 32 octets of a set: eight octets have their bits in each, the first of them the lowest
+-- the bit of an octet in the 32 octets of a set: each has the bits of eight octets, the first of
+-- them lowest
 abbrev pub bit_of : List ℕ → ℕ → ℕ
 bit_of bits octet = bit_at (get_or bits (octet / 8) 0) (octet % 8)
 
--- the set that has none
+-- the empty set
 abbrev pub no_octets : List ℕ
 no_octets = replicate 32 0
 
--- With the octet after those every layer can continue, or they are an envelope.
+-- With this next octet the envelope can continue or is complete.
 abbrev pub IsTaken : Limits → List ℕ → ℕ → Type 0
 IsTaken limits p next = IsOpen limits (p ++ next ∷ []) ⊎ ((value : Value) × IsEnvelopeWithin limits (p ++ next ∷ []) value)
 
--- Its bit is set exactly where it is taken, and is not set exactly where a layer is dead with it.
+-- Its bit is set if and only if it is accepted, and is not set if and only if some layer rejects
+-- it.
 pub record TellsNext (limits : Limits) (p : List ℕ) (next bit : ℕ) : Type 0 where
   pub taken : (bit ≡ 1) ↔ IsTaken limits p next
   pub refused : (bit ≡ 0) ↔ ((fault : TokenFault) × Kills limits p next fault)
 
--- Of all octets that have led to the ticket every layer can continue, and the bits tell by which next octet.
+-- All octets that have reached the ticket's state are a viable prefix, and the bits are those of
+-- the next octets.
 abbrev pub GoesOnBy : Limits → List ℕ → List ℕ → Type 0
 GoesOnBy limits ticket bits = IsSaid limits ticket 0 (λ p a. (next : ℕ) → next < 256 → TellsNext limits p next (bit_of bits next)) (λ p a. ⊥)
 
--- All of them are an envelope.
+-- All octets that have reached the ticket's state are an envelope.
 abbrev pub HasEndedThere : Limits → List ℕ → Type 0
 HasEndedThere limits ticket = IsSaid limits ticket 0 (λ p a. ⊥) (λ p a. ⊤)
 
--- what is answered: which octets come next; or that an envelope has ended, and none does; or the ticket is refused, or memory
+-- the result: the octets that may come next; or the envelope is complete, and none may; or the
+-- ticket is rejected; or an allocation failed
 abbrev pub IsNext : Limits → List ℕ → List ℕ → IimAnswer → Type 0
 IsNext limits ticket bits told =
     (GoesOnBy limits ticket bits × (told ≡ status_answer status.more))
@@ -282,11 +293,11 @@ IsNext limits ticket bits told =
     ⊎ ((fault : TicketFault) × (ticket ≢ []) × IsRestoreFault limits ticket fault × (bits ≡ no_octets) × (told ≡ ticket_answer fault))
     ⊎ ((bits ≡ no_octets) × (told ≡ status_answer status.no_memory))
 
--- the count of words that is kept: none where there is no ticket
+-- the stored count of words: zero without a ticket
 abbrev pub words_so_far : List ℕ → IimSoFar → WordsSoFar
 words_so_far [] so_far = no_words
 words_so_far (x ∷ xs) so_far = record { words = so_far.words; inside = so_far.inside }
 
--- what is kept where an envelope begins
+-- the state at the beginning of an envelope
 abbrev pub begins_at : ℕ → IimSoFar
 begins_at at = record { at = at; octets = 0; words = 0; inside = false }

@@ -1,4 +1,4 @@
--- What a piece comes to that is audited from the place of a ticket on.
+-- The result of auditing a chunk from the state of a ticket on.
 use Rattle.iim_c.proofs.Words.{arith, sym, subst, ◌∙◌, inl, inr, refl, ◌≡◌, ◌≢◌, ℕ, ℤ, List, ◌⊎◌, [], length, take, drop, ap, length-take-le, Limits, IsTicketOf, Refusal, Unpacking, Stands, IsDone, IsDoneWith, StandsOn, PieceAudit, status_answer, refusal_answer, limits_in, ◌++◌, with_more, HasFound, PlaceLaws, InHand, Found, IimAuditRow}
 use Rattle.iim_c.specs.{Format.Feeding.IsNowhere, Format.Answers.IimAnswer, Format.Tickets.words_so_far, Format.Tickets.begins_at}
 use Rattle.iim_c.specs.Steps.{IsBegun, IsSaved, IsWithin, StopsBy, IsKept, kept_of}
@@ -12,8 +12,8 @@ use Rattle.iim_c.specs.Format.Statuses as status
 use Rattle.iim_c.specs.declared.finding.Ending.TheVariants as ending
 use Rattle.iim_c.proofs.audit.audited.Goals as goal
 
--- What a call has found in a piece, with its rows first in the array. It resumed an audit from an unpacker that was begun, with which no
--- envelope has ended, and from the words so far.
+-- What a call has found in a chunk, with its rows first in the array. It resumed an audit from a
+-- restored unpacker that is inside an envelope, and from the words so far.
 record Came (limits : Limits) (ticket : List ℕ) (old : IimSoFar) (piece : List ℕ) (now : ℤ) (array array_new : List IimAuditRow) (audit : PieceAudit)
     (found : Found) (end : Ending) : Type 0 where
   first : PieceAudit
@@ -52,13 +52,13 @@ module _
     (limits : Limits) (ticket : List ℕ) (old new : IimSoFar) (piece : List ℕ) (now : ℤ) (array array_new : List IimAuditRow) (out : List ℕ)
     (told : IimAnswer) (audit : PieceAudit) (found : Found)
   where
-    -- what was found after all octets that it began with is said of the ticket
+    -- what was found after all octets that it began with holds of the ticket
     said_of : {end : Ending} → Came limits ticket old piece now array array_new audit found end → (tells : InHand → Type 0)
         → ((hand : InHand) → HasFound limits now hand piece array_new audit found end → tells hand) → IsSaidOf limits ticket old tells
     said_of c tells of_found = said c.begun _ _
         (λ p a stands have. of_found _ (c.finds p a (record { unpacker = stands; words = rw c.words have }))) (λ p a done. c.going (is_done done))
 
-    -- the rows stand first in the array
+    -- the rows are at the front of the array
     stand : {end : Ending} → Came limits ticket old piece now array array_new audit found end
         → array_new ≡ take found.rows array_new ++ drop (length (take found.rows array_new)) array
     stand c = sym (take-append-drop found.rows array_new) ∙ rw (c.of_rows, c.within.others)
@@ -81,7 +81,7 @@ module _
       answer = record (status_answer state) { octet = audit.unpacker.octets; used = used; written = length (take found.rows array_new); ticket = length next };
     }
 
-    -- the ticket is saved, and has room or not
+    -- the ticket is saved, and fits or not
     went_on : {end : Ending} (state used : ℕ) → Came limits ticket old piece now array array_new audit found end
         → IsKept audit found (state, used) (length array) old new out told
         → state ≢ status.short → limits_in audit.unpacker ≡ limits

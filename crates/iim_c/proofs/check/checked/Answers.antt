@@ -1,4 +1,4 @@
--- What octets in memory are answered.
+-- The result of checking octets in memory.
 use Rattle.iim_c.proofs.Words.{[], length, ◌∙◌, arith, raised, ◌≡◌, ℕ, ◌<◌, List, inl, sym, ap, subst, Limits, IsTruncatedAt, Refusal, refusal_answer}
 use Rattle.iim_places.specs.{Format.Causes.refusal_at, Laws.StreamsHaveOneAnswer}
 use Rattle.iim_places.specs.Format.Streams.{Answer, Answers, Finished, Refused, Truncated}

@@ -1,4 +1,4 @@
--- What a piece comes to that is fed from the place of a ticket.
+-- The result of feeding a chunk from the state of a ticket on.
 use Rattle.iim_c.proofs.Words.{length, arith, sym, subst, ◌∙◌, ◌≡◌, ℕ, ◌<◌, ◌≤◌, ◌^◌, List, [], ◌⊎◌, inl, inr, take, map, None, refl, ap, Limits, StoryEvent, text_so_far, IsTextOf, object_so_far, IsTicketOf, Unpacking, Stands, Progresses, IsDone, IsDoneWith, IsRefusedIn, limits_in, Progress, Refusal, HasFedText, HasRefusedText, status_answer, refusal_answer, DatasetLaws, length-take}
 use Rattle.iim_c.proofs.Places.{begun, begun_alive, Begun, is_done, said, at_place}
 use Rattle.iim_c.proofs.TextLengths.{delivers_few, events_few}
@@ -11,12 +11,12 @@ use Rattle.iim_unpack.specs.declared.unpacker.Progress.TheVariants as progress
 use Rattle.iim_c.specs.Format.Statuses as status
 use Rattle.iim_c.proofs.feed.fed.Goals as goal
 
--- ---- what it comes to
+-- ---- the result of feeding
 
 no_text : (text : List ℕ) → counted text ≡ 0 → text ≡ []
 no_text text h = grind (arith, nil_from_length)
 
--- the outcome of a piece that was fed
+-- the outcome of a chunk that was fed
 abbrev fed_outcome : Unpacking → ℕ × ℕ → (text next : List ℕ) → Outcome
 fed_outcome v told text next = record {
   text = text;
@@ -70,9 +70,9 @@ is_outcome (progress.Done used) {v = v} next b fed same again is_ticket =
       refl,
     ))
 
--- ---- how much of the text it brings
+-- ---- the length of the text that is delivered
 
--- octets that the unpacker stands on have a text
+-- octets that the unpacker has consumed have a text
 text_there : (u : Unpacking) (p : List ℕ) (a : ℕ) → (s : Stands u p a) → IsTextOf p (text_so_far (object_so_far s.is_open.whole s.is_open.begun))
 text_there u p a s = (s.is_open.whole, s.is_open.begun, s.is_open.reads, refl)
 
@@ -87,7 +87,7 @@ refuses_few : DatasetLaws → (limits : Limits) (u : Unpacking) (p piece : List 
 refuses_few laws limits u p piece a more e s r =
     omega (arith, events_few laws p (take r.k piece) _ r.added more (text_there u p a s) (r.adds _ (text_there u p a s)) r.delivers, length-take r.k piece)
 
--- ---- how it is answered
+-- ---- the answer for the result
 
 told_for : (o : Outcome) (text_out ticket_out : List ℕ) (count room ticket ticket_room : ℕ) (answer told : IimAnswer)
     → HasTaken text_out count o.text → room ≡ length text_out → room < 2 ^ 63 → ticket ≡ length o.next

@@ -1,4 +1,4 @@
--- Rows, one after the other.
+-- Rows that follow one another.
 use Rattle.iim_c.proofs.Words.{◌+◌, ◌<◌, ◌≤◌, length, drop, arith, length-drop, drop-drop, sym, ap, ◌∙◌, limits_in, ◌≡◌, ℕ, ℤ, List, [], ◌∷◌, ◌++◌, take, set, Some, refl, subst, append-nil, append_assoc, length-take-le, Limits, raised, StandsOn, PieceAudit, InHand, with_more, HasFound, Found, IimAuditRow}
 use Rattle.std.proofs.lemmas.List.{take_rest, length-set, drop-set-lt, take_more_set}
 use Rattle.std.proofs.Common.{take-add}
@@ -9,7 +9,7 @@ use Rattle.iim_c.specs.Format.Auditing.{AreRows, IsRow, after, TellsRow}
 use Rattle.iim_c.specs.declared.finding.Ending.TheVariants.{Full}
 use Rattle.iim_c.proofs.finding.find_rows.Goals as goal
 
--- The row tells what an audit of pieces tells of an envelope.
+-- The row has what an audit of chunks returns for an envelope.
 abbrev TellsFound : ℕ → PieceRow → IimAuditRow → Type 0
 TellsFound at found row =
     TellsRow at found.octets found.row (option_map (λ t. t.nanosecond) found.release) (option_map (λ t. t.nanosecond) found.expires) row
@@ -23,14 +23,14 @@ more_rows limits now hand octets [] last are ended row is =
 more_rows limits now hand octets (first ∷ rows) last (e, others, are, told, more) ended row is =
     (e, others ++ ended, rw are (append_assoc e others ended), told, more_rows limits now (after (with_more hand e)) others rows last more ended row is)
 
--- what an audit of pieces tells is a row of its envelope
+-- what an audit of chunks returns is a row of its envelope
 is_row : (limits : Limits) (now : ℤ) (hand : InHand) (found : PieceRow) (row : IimAuditRow) → IsRowOf limits now hand.octets found → found.octets ≡ hand.count
     → TellsFound hand.at found row
     → IsRow limits now hand row
 is_row limits now hand found row is counts tells =
     record { value = is.value; envelope = is.envelope; tells = rw (← is.row, ← is.release, ← is.expires, ← counts) tells }
 
--- and then one row after the other
+-- and the rows after it
 one_found : (limits : Limits) (now : ℤ) (hand : InHand) (piece : List ℕ) (array : List IimAuditRow) (old new : PieceAudit)
     → (found : Found) (next : PieceRow) (row : IimAuditRow) (at : ℕ)
     → HasFound limits now hand piece array old found Full → found.rows < length array

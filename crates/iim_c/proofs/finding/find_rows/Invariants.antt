@@ -2,7 +2,7 @@ use Rattle.iim_c.proofs.Words.{◌≡◌, ◌-◌, ◌≤◌, ℕ, List, length,
 use Rattle.iim_c.specs.declared.finding.Ending.TheVariants.{Full}
 use Rattle.iim_c.proofs.finding.find_rows.Given as goal
 
--- the rows so far, and where the audit stands after their envelopes
+-- the rows so far, and the state of the audit after their envelopes
 abbrev pub invariant-envelopes : goal.invariant-envelopes
 invariant-envelopes l = record {
   found : (p : List ℕ) (a : ℕ) → StandsOn l.initial.audit p a

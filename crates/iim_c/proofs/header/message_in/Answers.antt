@@ -1,4 +1,4 @@
--- Where the texts of a ticket stand.
+-- The slices of a ticket with its texts.
 use Rattle.std.proofs.Common.{◌-◌, length, ap, arith, refl, Bor}
 use Rattle.iim_c.specs.declared.span.IimSpan.{IimSpan}
 use Rattle.iim_c.proofs.Words.{◌≡◌, ℕ, ◌+◌, List, [], ◌∷◌, ◌++◌, ◌-◌, length, map, get_or, refl, ap, sym, ◌∙◌, arith, append_assoc, length-append, length-map, flat_map, Split, SplitsTicket, split_told, four, wide, ticket_name, phase_octets, fields_octets, number_octets, text_octets, StandAt}
@@ -8,7 +8,7 @@ use Rattle.iim_c.specs.Format.Tickets.{IimSpan}
 use Rattle.iim_c.proofs.TicketFields.{stands_after}
 use Rattle.iim_c.proofs.header.message_in.Goals as goal
 
--- From this offset on these texts stand, each after its length, to the end of the ticket.
+-- From this offset on the ticket has these texts to its end, each after its length.
 record TextsFrom (ticket : List ℕ) (offset : ℕ) (texts : List (List ℕ)) : Type 0 where
   front : List ℕ
   is : ticket ≡ front ++ flat_map text_octets texts
@@ -33,7 +33,7 @@ before_texts s =
     ticket_name s.version ++ (s.section ∷ []) ++ phase_octets s.version s.phase ++ fields_octets s.fields ++ flat_map (number_octets s.version) s.numbers
     ++ wide s.version s.taken ++ four s.heads
 
--- the text with this index, where no other stands for one that is not there
+-- the text with this index, or the empty text if there is no such index
 abbrev text : TicketParts → ℕ → List ℕ
 text parts i = (get_or parts.texts i (record { ref_ptr = (0, 0); now = [] })).now
 
@@ -58,7 +58,7 @@ texts_from ticket parts h =
       },
     )
 
--- the same, with the offset told from the end
+-- the same, with the offset counted from the end
 backwards : (ticket text : List ℕ) (offset end : ℕ) (span : IimSpan) → StandAt ticket (record { offset = offset; count = length text }) text
     → span ≡ record { offset = end - length text; count = length text } → end ≡ offset + length text → StandAt ticket span text
 backwards ticket text offset end span h is from = let same : end - length text ≡ offset = omega (arith, from) in rw (is, same) h

@@ -16,7 +16,7 @@ other_bit bits octet other within apart =
     let small : octet % 8 < 8 = omega arith in
     grind (arith, get_or-set_same, get_or-set_other, bit_at_set_other w8 (get_or bits (octet / 8) 0) (octet % 8) small (other % 8))
 
--- the same at the place that the code has
+-- the same at the index that the code uses
 is_set : (bits : List ℕ) (place octet : ℕ) → place ≡ octet / 8 → place < length bits
     → IsSet bits (slice_set bits place (bit_or (slice_index_or bits place 0) (1 * 2 ^ (octet % 8) % 256))) octet 1
 is_set bits place octet is within =
