@@ -1,7 +1,8 @@
 //! The interface for C: a static library, whose header is `bindings/c/iim.h`.
 //!
-//! Each export is the call of `iim_c` of the same name, and says again what that says. The toolchain exports the functions of a static
-//! library alone, and nothing can stand on one: so what the calls do stands in `iim_c`, which is proved once and kept.
+//! Each export calls the function of `iim_c` with the same name, and has the same contract. The
+//! toolchain exports only the functions of a static library, and no crate can depend on one. So
+//! the implementation is in `iim_c`, an ordinary library.
 #![tactic(auto)]
 
 ghost use Rattle.std.specs.Prelude.{◌≡◌, ◌↔◌, ℕ, List, IsTrue, is_some};
@@ -21,7 +22,7 @@ use iim_c::{
 };
 use std::alloc::Global;
 
-/// Tells what the octets begin with: an envelope, or why there is none.
+/// Checks the envelope at the beginning of a buffer.
 #[unsafe(no_mangle)]
 pub extern "C" fn iim_check(alloc: Global, limits: IimLimits, octets: &[u8], answer: &mut IimAnswer)
     ensures answer { IsChecked (limits_for limits) octets.now answer.new }
@@ -30,9 +31,12 @@ pub extern "C" fn iim_check(alloc: Global, limits: IimLimits, octets: &[u8], ans
     iim_c::iim_check(alloc, limits, octets, answer);
 }
 
-/// Takes the next octets of an envelope, from the place of a ticket on, or of a new one where there is none: writes what is delivered
-/// of the text among them and the ticket of the place that they lead to, and tells how many were used. A ticket of an ended envelope
-/// tells its fields. Where a buffer is too short the answer tells the lengths that are needed, and the same call can be made again.
+/// Reads the next chunk of an envelope, from the state of a ticket on, or of a new envelope if the
+/// ticket is empty.
+///
+/// Writes the text of the story in the chunk and the next ticket, and returns how many octets were
+/// consumed. The ticket of a complete envelope still has its fields. If a buffer is too short, the
+/// answer has the lengths that are needed, and the same call can be repeated.
 #[unsafe(no_mangle)]
 pub extern "C" fn iim_feed(
     alloc: Global,
@@ -51,7 +55,8 @@ pub extern "C" fn iim_feed(
     );
 }
 
-/// Tells what it means that the input ends after the octets that have led to a ticket: the envelope has ended, or is truncated.
+/// Checks whether the input may end in the state of a ticket: the envelope is complete, or it is
+/// truncated.
 #[unsafe(no_mangle)]
 pub extern "C" fn iim_end(
     alloc: Global,
@@ -65,7 +70,7 @@ pub extern "C" fn iim_end(
     iim_c::iim_end(alloc, limits, ticket, at, answer);
 }
 
-/// Tells the dataset with the index `n` of those of records 1 and 2 that a ticket tells.
+/// Returns the dataset with the index `n` of those of records 1 and 2 in a ticket.
 #[unsafe(no_mangle)]
 pub extern "C" fn iim_field(
     ticket: &[u8],
@@ -78,7 +83,8 @@ pub extern "C" fn iim_field(
     iim_c::iim_field(ticket, n, dataset, answer);
 }
 
-/// Writes the datasets of records 1 and 2 of a ticket into an array, from the one with the index `from` on, in one pass over the ticket.
+/// Writes the complete datasets of records 1 and 2 into an array, from the index `from` on. Reads
+/// the ticket once.
 #[unsafe(no_mangle)]
 pub extern "C" fn iim_fields(
     ticket: &[u8],
@@ -91,7 +97,7 @@ pub extern "C" fn iim_fields(
     iim_c::iim_fields(ticket, from, datasets, answer);
 }
 
-/// Tells the header and the trailer of the message, as far as they have come.
+/// Returns the header and the trailer of the message, as far as they were received.
 #[unsafe(no_mangle)]
 pub extern "C" fn iim_header(ticket: &[u8], message: &mut IimMessage, answer: &mut IimAnswer)
     ensures { IsHeader ticket.now message.new answer.new }
@@ -99,7 +105,7 @@ pub extern "C" fn iim_header(ticket: &[u8], message: &mut IimMessage, answer: &m
     iim_c::iim_header(ticket, message, answer);
 }
 
-/// Tells the sizes of the object, as far as they have come.
+/// Returns the sizes of the object, as far as they were received.
 #[unsafe(no_mangle)]
 pub extern "C" fn iim_sizes(ticket: &[u8], object: &mut IimObject, answer: &mut IimAnswer)
     ensures { AreSizes ticket.now object.new answer.new }
@@ -107,7 +113,8 @@ pub extern "C" fn iim_sizes(ticket: &[u8], object: &mut IimObject, answer: &mut 
     iim_c::iim_sizes(ticket, object, answer);
 }
 
-/// Tells which octets every layer takes next, after the octets that have led to a ticket, or of a new envelope where there is none.
+/// Returns the octets that every layer accepts next in the state of a ticket, or at the beginning
+/// of a new envelope if the ticket is empty.
 #[unsafe(no_mangle)]
 pub extern "C" fn iim_next(
     alloc: Global,
@@ -121,7 +128,8 @@ pub extern "C" fn iim_next(
     iim_c::iim_next(alloc, limits, ticket, next, answer);
 }
 
-/// Tells what is begun after the `at` octets that have led to a ticket, and the part of the message that they have led to.
+/// Returns what is in progress in the state of a ticket, and the part of the message that the
+/// input has reached. `at` is the number of octets of the envelope so far.
 #[unsafe(no_mangle)]
 pub extern "C" fn iim_place(ticket: &[u8], at: u64, begun: &mut IimBegun, answer: &mut IimAnswer)
     ensures told { IsBegunTold ticket.now at begun.new answer.new }
@@ -133,11 +141,13 @@ pub extern "C" fn iim_place(ticket: &[u8], at: u64, begun: &mut IimBegun, answer
     iim_c::iim_place(ticket, at, begun, answer);
 }
 
-/// Tells a row for each envelope that ends in a piece of an input, at the instant `now`: from the place of a ticket on, or of a new
-/// envelope where there is none. It writes the ticket of the place that the piece leads to, and what is kept beside it for the next
-/// call. Where there is no room for another row it stops, and tells how many octets were used. Where an octet is refused, the rows of
-/// the envelopes before it are told. Where the buffer of the ticket is too short, what is kept stays, and the same call can be made
-/// again.
+/// Writes a row for each envelope that ends in a chunk of an input, at the instant `now`. The
+/// audit continues from the state of `ticket`, or begins a new envelope if that is empty.
+///
+/// Writes the next ticket, and the state beside it in `so_far`. Stops when `rows` is full, and
+/// returns how many octets were consumed. If an octet is rejected, the rows of the envelopes
+/// before it are written. If `ticket_out` is too short, `so_far` is unchanged, and the same call
+/// can be repeated.
 #[unsafe(no_mangle)]
 pub extern "C" fn iim_audit(
     alloc: Global,
@@ -158,7 +168,7 @@ pub extern "C" fn iim_audit(
     );
 }
 
-/// Writes the packed form of what a script tells into a buffer, where it has room for it.
+/// Packs the envelope that a script specifies into a buffer, if it fits.
 #[unsafe(no_mangle)]
 pub extern "C" fn iim_pack(
     alloc: Global,
@@ -172,7 +182,7 @@ pub extern "C" fn iim_pack(
     iim_c::iim_pack(alloc, packing, script, out, answer);
 }
 
-/// Tells how many octets the packed form of what a script tells has.
+/// Returns the number of octets that [`iim_pack`] would write.
 #[unsafe(no_mangle)]
 pub extern "C" fn iim_pack_size(
     alloc: Global,
@@ -185,7 +195,7 @@ pub extern "C" fn iim_pack_size(
     iim_c::iim_pack_size(alloc, packing, script, answer);
 }
 
-/// Tells the row of a dataset: true where it has one.
+/// Looks up the row of the dataset `rec`:`set`. Returns whether it has one.
 #[unsafe(no_mangle)]
 pub extern "C" fn iim_row(rec: u8, set: u8, rule: &mut IimRule) -> bool
     ensures has { result ≡ is_some (row_of rec set) }
@@ -194,7 +204,8 @@ pub extern "C" fn iim_row(rec: u8, set: u8, rule: &mut IimRule) -> bool
     iim_c::iim_row(rec, set, rule)
 }
 
-/// Whether the octets may be those of a dataset: it has a row, and they are as that says.
+/// Checks whether octets are a valid value of the dataset `rec`:`set`: it has a row, and the
+/// octets are as that requires.
 #[unsafe(no_mangle)]
 pub extern "C" fn iim_admits(rec: u8, set: u8, octets: &[u8]) -> bool
     ensures { IsTrue result ↔ Meets rec set octets.now }
@@ -202,7 +213,8 @@ pub extern "C" fn iim_admits(rec: u8, set: u8, octets: &[u8]) -> bool
     iim_c::iim_admits(rec, set, octets)
 }
 
-/// Writes the name of a cause with a NUL after it, where there is room for both, and answers how many octets it has.
+/// Writes the name of a cause and a NUL into `out`, if they fit. Returns the number of octets of
+/// the name, or 0 if the cause is unknown.
 #[unsafe(no_mangle)]
 pub extern "C" fn iim_cause_name(cause: u8, out: &mut [u8]) -> usize
     ensures { IsNamed (name_or_none (cause_named cause)) out.old out.new result }
@@ -210,7 +222,8 @@ pub extern "C" fn iim_cause_name(cause: u8, out: &mut [u8]) -> usize
     iim_c::iim_cause_name(cause, out)
 }
 
-/// Writes what a cause means with a NUL after it, where there is room for both, and answers how many octets it has.
+/// Writes the meaning of a cause and a NUL into `out`, if they fit. Returns the number of octets
+/// of the sentence, or 0 if the cause is unknown.
 #[unsafe(no_mangle)]
 pub extern "C" fn iim_cause_text(cause: u8, out: &mut [u8]) -> usize
     ensures { IsNamed (name_or_none (cause_text cause)) out.old out.new result }
@@ -218,7 +231,8 @@ pub extern "C" fn iim_cause_text(cause: u8, out: &mut [u8]) -> usize
     iim_c::iim_cause_text(cause, out)
 }
 
-/// Writes the name of a layer with a NUL after it, where there is room for both, and answers how many octets it has.
+/// Writes the name of a layer and a NUL into `out`, if they fit. Returns the number of octets of
+/// the name, or 0 if the layer is unknown.
 #[unsafe(no_mangle)]
 pub extern "C" fn iim_layer_name(layer: u8, out: &mut [u8]) -> usize
     ensures { IsNamed (name_or_none (layer_named layer)) out.old out.new result }
@@ -226,7 +240,8 @@ pub extern "C" fn iim_layer_name(layer: u8, out: &mut [u8]) -> usize
     iim_c::iim_layer_name(layer, out)
 }
 
-/// Writes the name of a dataset of the tables with a NUL after it, where there is room for both, and answers how many octets it has.
+/// Writes the name of a dataset of the tables and a NUL into `out`, if they fit. Returns the
+/// number of octets of the name, or 0 if the dataset is unknown.
 #[unsafe(no_mangle)]
 pub extern "C" fn iim_dataset_name(rec: u8, set: u8, out: &mut [u8]) -> usize
     ensures { IsNamed (name_or_none (dataset_named rec set)) out.old out.new result }
@@ -234,7 +249,7 @@ pub extern "C" fn iim_dataset_name(rec: u8, set: u8, out: &mut [u8]) -> usize
     iim_c::iim_dataset_name(rec, set, out)
 }
 
-/// The version of the interface that the library has.
+/// Returns the version of the interface that the library implements.
 #[unsafe(no_mangle)]
 pub extern "C" fn iim_version() -> u32
     ensures { result ≡ VERSION }
