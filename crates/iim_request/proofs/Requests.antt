@@ -1,4 +1,4 @@
--- What the program's command line comes to, by the rules of clap.
+-- What the program's command line means, by the rules of clap.
 use Rattle.std.proofs.Common.{◌≡◌, ◌⊎◌, inl, inr, Bool, true, false, not, ◌&&◌, List, [], ◌∷◌, Option, Some, None, refl, ap, sym, ◌∙◌, codes, option_map, is_some, ℕ, ℤ, Ok, Err, Result, IfOk, IfErr, subst}
 use Rattle.std.specs.Prelude.{find, option_and_then, cond}
 use Rattle.std.specs.Box.{box_value}
@@ -32,14 +32,14 @@ program_free : is_simple_and_free program ≡ true
 unfolding clap_on_literals
 program_free = refl
 
--- ---- words without a fault name the command
+-- ---- valid arguments name the command
 
--- no kind comes of two steps only where none comes of the second
+-- two steps give no kind only if the second gives no kind
 second_none : (x y : Kinds) → or_else x y ≡ [] → y ≡ []
 second_none [] y e = e
 second_none (k ∷ ks) y e = cc
 
--- where no kind comes of the last checks, a subcommand that is wanted is there
+-- if the last checks give no kind, a required subcommand is present
 wanted_there : (help there argument : Bool) → check_kinds help (not there && true) argument ≡ [] → there ≡ true
 wanted_there true there argument e = cc
 wanted_there false true argument e = refl
@@ -63,12 +63,12 @@ command_named words e =
     (second_none defaults checks (second_none settles (or_else defaults checks) (second_none below (or_else settles (or_else defaults checks))
     (second_none walks (or_else below (or_else settles (or_else defaults checks))) e))))
 
--- It is the name of one of these.
+-- It is one of these names.
 abbrev NamedIn : List Shape → Text → Type 0
 NamedIn [] name = ⊥
 NamedIn (s ∷ subs) name = (name ≡ s.name) ⊎ NamedIn subs name
 
--- the first that answers is this one, or one of the others
+-- the first one that matches is this one, or one of the others
 first_or_other : (s : Shape) (subs : List Shape) (b : Bool) (words : List Text) (rest : Option Shape) (found : Text × List Row)
     → (option_map (λ t. rows_at t words) rest ≡ Some found → NamedIn subs found.0)
     → option_map (λ t. rows_at t words) (cond b (Some s) rest) ≡ Some found → NamedIn (s ∷ subs) found.0
@@ -77,7 +77,7 @@ first_or_other s subs true words rest found others e =
     inl (ap (λ (r : Text × List Row). r.0) (sym same))
 first_or_other s subs false words rest found others e = inr (others e)
 
--- the subcommand that is entered is one of them
+-- the subcommand that is named is one of them
 found_in : (subs : List Shape) (word : Text) (words : List Text) (found : Text × List Row)
     → option_map (λ t. rows_at t words) (find (λ t. answers_to word (label_of t)) subs) ≡ Some found → NamedIn subs found.0
 found_in [] word words found e = cc
@@ -120,7 +120,7 @@ name_in_rows m = elim (out-ArgMatches m).subcommand as (λ o. option_map (λ b. 
       | Some b ↦ refl
     ]
 
--- a parse of words without a fault found the command of a verb, and its rows
+-- a parse of valid arguments found the command of a verb, and its rows
 found_verb : (words : List Text) (m : ArgMatches) → fault_of program words ≡ [] → subcommand_rows_of m ≡ subcommand_of program words
     → FoundVerb (subcommand_of program words)
 found_verb words m none same = met words (subcommand_of program words) refl (command_named words none)
@@ -131,13 +131,13 @@ names_verb words m none same =
     let found = found_verb words m none same in
     (found.0, name_in_rows m ∙ ap (option_map (λ p. p.0)) (same ∙ found.2))
 
--- so there is one
+-- so a command was found
 pub names_one : (words : List Text) (m : ArgMatches) → IsFoundOf words m → None ≡ subcommand_name_of m → ⊥
 names_one words m found none =
     let e : None ≡ Some (verb_name (names_verb words m found.faultless found.command).0) = none ∙ (names_verb words m found.faultless found.command).1 in
     cc
 
--- the words name the command that was found, with its rows
+-- the arguments name the command that was found, with its rows
 pub names : (words : List Text) (m : ArgMatches) (f : Found) (name : Text) → fault_of program words ≡ []
     → subcommand_rows_of m ≡ subcommand_of program words → option_map (λ p. p.1) (subcommand_rows_of m) ≡ Some (rows_of f)
     → subcommand_name_of m ≡ Some name → NamesCommand words name (rows_of f)
@@ -152,13 +152,13 @@ names words m f name none same rows named =
       named = rw (← same_name, ← same_rows) found.2;
     }
 
--- what clap made of the words by a command that is the program is what they name
+-- if the command is the program, what clap found is what the arguments name
 pub were_found : (words : List Text) (a : App) (m : ArgMatches) → a ≡ program → (is_simple_and_free a ≡ true → fault_of a words ≡ [])
     → (is_simple a ≡ true → subcommand_rows_of m ≡ subcommand_of a words) → IsFoundOf words m
 were_found words a m is none rows =
     record { faultless = rw is at (none (rw is program_free)); command = rw is at (rows (rw is program_simple)) }
 
--- ---- what a command's options tell
+-- ---- the values of a command's options
 
 pub none_of : (f : Found) (given : Option (Bor Text)) → given ≡ None → option_map (λ s. s.now) given ≡ first_value f (codes "now")
     → (now : ℤ) → IsInstant (first_of (codes "now") (rows_of f)) now → ⊥
@@ -189,7 +189,7 @@ tells_packing f a b subfile unknown max of_a of_b subfile_is none value other ma
   max_is = rw (of_b, first_value-rows f (codes "max")) at max_is;
 }
 
--- the fault of a command's values is one of the words
+-- an error of a command's values is an error of the arguments
 pub fault_of_job : (words : List Text) (verb : Verb) (name : Text) (rows : List Row) (fault : UsageFault) → NamesCommand words name rows → name ≡ verb_name verb
     → IsJobFault (verb_name verb) rows fault → IsFilesFaultOf words fault
 fault_of_job words verb name rows (usage.Words error) names is h = absurd h
@@ -197,7 +197,7 @@ fault_of_job words verb name rows usage.MaxNeedsUnknown names is h = (name, rows
 fault_of_job words verb name rows usage.BadNow names is h = (name, rows, names, (is ∙ h.0, h.1))
 fault_of_job words verb name rows usage.OutOfMemory names is h = absurd h
 
--- the fault of a command's files is one of the words
+-- an error of a command's files is an error of the arguments
 pub fault_of_files : (words : List Text) (name : Text) (rows : List Row) (fault : UsageFault) → NamesCommand words name rows
     → IsFilesFault rows fault → IsFilesFaultOf words fault
 fault_of_files words name rows (usage.Words error) names is = inr (name, rows, names, is.0, is.1)
@@ -205,7 +205,7 @@ fault_of_files words name rows usage.MaxNeedsUnknown names is = absurd is.1
 fault_of_files words name rows usage.BadNow names is = absurd is.1
 fault_of_files words name rows usage.OutOfMemory names is = tt
 
--- what is given of a list, and of names, by the rows
+-- the list and the names that are given, by the rows
 pub given_list : (f : Found) (given : Option (Bor Text)) → option_map (λ s. s.now) given ≡ first_value f (codes "files-from")
     → first_of (codes "files-from") (rows_of f) ≡ option_map (λ s. s.now) given
 given_list f given is = sym (is ∙ first_value-rows f (codes "files-from"))
@@ -214,7 +214,7 @@ pub given_names : (f : Found) (given : Option (List Text)) → given ≡ option_
     → all_of (codes "FILE") (rows_of f) ≡ given
 given_names f given is = sym (is ∙ raw_values-rows f (codes "FILE"))
 
--- files that are named as arguments are those that are asked for
+-- files that are named as arguments are those that are requested
 pub named_asked : (rows : List Row) (names : List Text) (r : Result Files UsageFault) → first_of (codes "files-from") rows ≡ None
     → all_of (codes "FILE") rows ≡ Some names → IfOk r (AreNamed names) → IfOk r (AsksFiles rows)
 named_asked rows names (Ok (files.One None)) none given is = (none, rw given is)

@@ -1,4 +1,4 @@
--- What the words of a command line ask for, by the rules of clap.
+-- What the arguments of a command line request, by the rules of clap.
 use Rattle.std.specs.Prelude.{◌≡◌, ℕ, ℤ, ⊤, List, [], Option, None, Some, IsSome, Bool, true, false, Ok, codes, option_map, ◌==◌, ◌&&◌, ◌||◌, nat_le, if◌then◌else◌, slice_index, ◌∷◌, ◌++◌, ◌⊎◌, ◌≤◌, length, map}
 use Rattle.std.specs.{Borrow.Bor, Option.unwrap_or, Char.is_ascii_control}
 use Rattle.std.specs.Str.Parse.{digits_value, without_leading_plus}
@@ -15,13 +15,13 @@ use Rattle.iim_request.specs.declared.request.Job.TheVariants.{Check, Show, Stor
 pub use Rattle.iim_request.specs.declared.request.UsageFault.{UsageFault}
 pub use Rattle.iim_request.specs.declared.request.UsageFault.TheVariants.{Words, MaxNeedsUnknown, BadNow, OutOfMemory}
 
--- ---- the program's commands, as clap is told of them
+-- ---- the program's commands, as they are declared to clap
 
--- a command that may be given a FILE
+-- a command that takes an optional FILE
 abbrev pub file_command : Text → App
 file_command name = with_rule (new_app name) (new_rule (codes "FILE"))
 
--- the files of a command that may be given any number of them
+-- the argument FILE of a command that takes any number of files
 abbrev pub files_rule : Rule
 files_rule = record (new_rule (codes "FILE")) { action = Some Append }
 
@@ -29,19 +29,19 @@ files_rule = record (new_rule (codes "FILE")) { action = Some Append }
 abbrev pub list_rule : Rule
 list_rule = record (new_rule (codes "files-from")) { long = Some (codes "files-from"); value_names = 1 }
 
--- a command that may be given any number of files, or a list of them
+-- a command that takes any number of files, or a list of them
 abbrev pub files_command : Text → App
 files_command name = with_rule (with_rule (new_app name) files_rule) list_rule
 
--- an option of this name, which takes a number from the least one to the greatest size
+-- an option of this name, which takes a number from `least` to the greatest size
 abbrev pub number_rule : Text → ℕ → Rule
 number_rule name least = record (new_rule name) { long = Some name; value_names = 1; parser = Some (Unsigned least greatest_size) }
 
--- an option that leaves the size of the object unknown
+-- the option that leaves the size of the object unknown
 abbrev pub unknown_rule : Rule
 unknown_rule = record (new_rule (codes "unknown")) { long = Some (codes "unknown"); action = Some SetTrue }
 
--- the option that tells the present instant, and has to be given
+-- the option that sets the present instant, which is required
 abbrev pub now_rule : Rule
 now_rule = record (new_rule (codes "now")) { long = Some (codes "now"); value_names = 1; required = true }
 
@@ -53,37 +53,37 @@ pack_command = with_rule (with_rule (with_rule (file_command (codes "pack")) (nu
 abbrev pub audit_command : App
 audit_command = with_rule (file_command (codes "audit")) now_rule
 
--- a command that wants to be given one of its own, has none for help, and tells its release
+-- a command that requires a subcommand, has no subcommand for help, and prints its version
 abbrev pub wanting : App → App
 wanting a = record a { top = record a.top { has_version = true; subcommand_required = true; disable_help_subcommand = true } }
 
--- the program, which wants to be given one of its commands
+-- the program, which requires one of its commands
 abbrev pub program : App
 program = with_subcommand (with_subcommand (with_subcommand (with_subcommand (with_subcommand (wanting (new_app (codes "iimwire")))
     (files_command (codes "check")).top) (files_command (codes "show")).top) (files_command (codes "story")).top) pack_command.top) audit_command.top
 
--- ---- what an option tells
+-- ---- the values of options
 
--- the text of an argument, where it was given
+-- the text of an argument, if it was given
 abbrev pub text_given : Option (Bor Text) → Option Text
 text_given given = option_map (λ text. text.now) given
 
--- The option was given this number, from the least one to the greatest size. (Of any other text clap tells a fault.)
+-- The option has this number, from `least` to the greatest size. (clap rejects any other text.)
 abbrev pub GivesNumber : ℕ → Option Text → Option ℕ → Type 0
 GivesNumber least None number = number ≡ None
 GivesNumber least (Some text) (Some n) = IsUnsignedIn least greatest_size text × (n ≡ digits_value 10 (without_leading_plus text))
 GivesNumber least (Some text) None = IsUnsignedIn least greatest_size text → ⊥
 
--- The option was given. (What clap notes of one that takes no value.)
+-- The option was given. (What clap stores for an option without a value.)
 abbrev pub IsFlag : Option Text → Bool → Type 0
 IsFlag None flag = flag ≡ false
 IsFlag (Some text) flag = (text ≡ codes "true" → flag ≡ true) × (text ≡ codes "false" → flag ≡ false)
 
--- the most octets of a subfile where no number is given
+-- the largest number of octets of a subfile, if no number is given
 abbrev pub default_subfile : ℕ
 default_subfile = 1024
 
--- The octets of a subfile: the number that was given, or 1,024.
+-- The number of octets of a subfile: the number that was given, or 1,024.
 abbrev pub IsSubfile : Option Text → ℕ → Type 0
 IsSubfile given subfile = (number : Option ℕ) × GivesNumber 1 given number × (subfile ≡ unwrap_or number default_subfile)
 
@@ -92,15 +92,16 @@ abbrev pub IsInstant : Option Text → ℤ → Type 0
 IsInstant None now = ⊥
 IsInstant (Some text) now = parse_timestamp text ≡ Ok now
 
--- ---- what the words ask for
+-- ---- what the arguments request
 
--- what --subfile, --unknown and --max come to
+-- the values of --subfile, --unknown and --max
 pub record TellsPacking (rows : List Row) (subfile : ℕ) (unknown : Bool) (max : Option ℕ) : Type 0 where
   pub subfile_is : IsSubfile (first_of (codes "subfile") rows) subfile
   pub unknown_is : IsFlag (one_of (codes "unknown") rows) unknown
   pub max_is : GivesNumber 0 (first_of (codes "max") rows) max
 
--- The command with this name, and the values of its arguments, ask for the job. A maximum is given of an unknown size alone.
+-- The command with this name, with these values of its arguments, requests the job. A maximum is
+-- given only for an unknown size.
 abbrev pub AsksJob : Text → List Row → Job → Type 0
 AsksJob name rows Check = name ≡ codes "check"
 AsksJob name rows Show = name ≡ codes "show"
@@ -109,7 +110,7 @@ AsksJob name rows (Pack request) = (name ≡ codes "pack") × TellsPacking rows 
     × (IsSome request.max → request.unknown ≡ true)
 AsksJob name rows (Audit now) = (name ≡ codes "audit") × IsInstant (first_of (codes "now") rows) now.nanosecond
 
--- The words have no fault, and name a command, with these values of its arguments.
+-- The arguments are valid, and name a command with these values of its arguments.
 pub record NamesCommand (words : List Text) (name : Text) (rows : List Row) : Type 0 where
   pub faultless : fault_of program words ≡ []
   pub named : subcommand_of program words ≡ Some (name, rows)
@@ -118,49 +119,51 @@ pub record NamesCommand (words : List Text) (name : Text) (rows : List Row) : Ty
 abbrev pub names_given : List Row → List Text
 names_given rows = unwrap_or (all_of (codes "FILE") rows) []
 
--- These names, given as arguments, are those of the files: one or none, or two and more.
+-- The files have these names, given as arguments: none or one, or two and more.
 abbrev pub AreNamed : List Text → Files → Type 0
 AreNamed names (One None) = names ≡ []
 AreNamed names (One (Some file)) = names ≡ file.now ∷ []
 AreNamed names (Many files) = (names ≡ map (λ file. file.now) files.items) × (2 ≤ length names)
 AreNamed names (Listed list) = ⊥
 
--- The values of a command's arguments name these files: by themselves, or by a list.
+-- The values of a command's arguments name these files: directly, or by a list.
 abbrev pub AsksFiles : List Row → Files → Type 0
 AsksFiles rows (Listed list) = (first_of (codes "files-from") rows ≡ Some list.now) × (all_of (codes "FILE") rows ≡ None)
 AsksFiles rows files = (first_of (codes "files-from") rows ≡ None) × AreNamed (names_given rows) files
 
--- The words ask for the job, and name the files.
+-- The arguments request the job, and name the files.
 abbrev pub AsksForFiles : List Text → FilesRequest → Type 0
 AsksForFiles words request = (name : Text) × (rows : List Row) × NamesCommand words name rows × AsksJob name rows request.job
     × AsksFiles rows request.files
 
--- The words ask for the job, and name the file, or none.
+-- The arguments request the job, and name the file, or no file.
 abbrev pub AsksFor : List Text → Request → Type 0
 AsksFor words request = AsksForFiles words (record { files = One request.file; job = request.job })
 
--- The command with this name, and the values of its arguments, have the fault: a maximum of a known size, or no instant.
+-- The command with this name, with these values of its arguments, has the error: a maximum for a
+-- known size, or an invalid instant.
 abbrev pub IsJobFault : Text → List Row → UsageFault → Type 0
 IsJobFault name rows MaxNeedsUnknown = (name ≡ codes "pack") × ((subfile : ℕ) × (max : Option ℕ) × TellsPacking rows subfile false max × IsSome max)
 IsJobFault name rows BadNow = (name ≡ codes "audit") × ((now : ℤ) → IsInstant (first_of (codes "now") rows) now → ⊥)
 IsJobFault name rows _ = ⊥
 
--- The fault is an error of this kind. Memory may always be short.
+-- The error is of this kind. An allocation may always fail.
 abbrev pub IsMade : ErrorKind → UsageFault → Type 0
 IsMade kind (Words error) = kind_of error ≡ kind
 IsMade kind OutOfMemory = ⊤
 IsMade kind _ = ⊥
 
--- The values of a command's arguments name a list of files and a file.
+-- The values of a command's arguments name both a list of files and a file.
 abbrev pub NamesBoth : List Row → Type 0
 NamesBoth rows = IsSome (first_of (codes "files-from") rows) × IsSome (all_of (codes "FILE") rows)
 
--- The fault is that a list of files and a file are named.
+-- The error is that both a list of files and a file are named.
 abbrev pub IsFilesFault : List Row → UsageFault → Type 0
 IsFilesFault rows OutOfMemory = ⊤
 IsFilesFault rows fault = NamesBoth rows × IsMade ArgumentConflict fault
 
--- The fault is one of those that clap finds in the words, or that their command has. Memory may always be short.
+-- The error is one that clap finds in the arguments, or one of their command. An allocation may
+-- always fail.
 abbrev pub IsFilesFaultOf : List Text → UsageFault → Type 0
 IsFilesFaultOf words (Words error) = IsAmong (kind_of error) (fault_of program words)
     ⊎ ((name : Text) × (rows : List Row) × NamesCommand words name rows × NamesBoth rows × (kind_of error ≡ ArgumentConflict))
@@ -175,26 +178,28 @@ AreMore files = ⊤
 abbrev pub IsForMore : FilesRequest → Type 0
 IsForMore request = AreMore request.files
 
--- The fault is one of these; or the words ask for more than one file, or for a list of files.
+-- The error is one of these; or the arguments request more than one file, or a list of files.
 abbrev pub IsFaultOf : List Text → UsageFault → Type 0
 IsFaultOf words fault = IsFilesFaultOf words fault
     ⊎ ((request : FilesRequest) × AsksForFiles words request × IsForMore request × IsMade TooManyValues fault)
 
--- ---- Names, and words of a command line, as text that can be printed.
+-- ---- Names and arguments, escaped as printable text.
 
 -- the two octets of a control character from U+0080 to U+009F
 abbrev pub spell_control : ℕ → ℕ → Bool
 spell_control first second = first == 0xc2 && (nat_le 0x80 second && nat_le second 0x9f)
 
--- An octet between others that is not printed as it is: a control character, an octet of one, or a backslash.
+-- An octet that is escaped, between two others: a control character, an octet of one, or a
+-- backslash.
 abbrev pub is_hidden : ℕ → ℕ → ℕ → Bool
 is_hidden before octet next = is_ascii_control octet || (octet == backslash || (spell_control before octet || spell_control octet next))
 
--- octets after this one: those that are hidden as \x and two digits, any other one as it is. After the last one stands 0.
+-- the octets after this one: those that are hidden as \x and two digits, all others as they are; 0
+-- follows the last one
 abbrev pub shown_after : ℕ → List ℕ → List ℕ
 shown_after before [] = []
 shown_after before (octet ∷ octets) = (if is_hidden before octet (slice_index octets 0) then escape octet else octet ∷ []) ++ shown_after octet octets
 
--- a name without its control characters and backslashes
+-- a name, with its control characters and backslashes escaped
 abbrev pub shown_name : List ℕ → List ℕ
 shown_name name = shown_after 0 name

@@ -1,4 +1,4 @@
--- What octets are, and what is said of them.
+-- What octets are, and the definitions that public contracts cite.
 pub mod Format
--- What only proofs and private clauses cite.
+-- Definitions that only proofs and private clauses cite.
 pub mod Verbs

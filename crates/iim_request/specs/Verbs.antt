@@ -12,13 +12,14 @@ use Rattle.iim_request.specs.declared.request.Files.TheVariants.{One}
 use Rattle.iim_request.specs.declared.request.Verb.{Verb}
 use Rattle.iim_request.specs.declared.request.Verb.TheVariants as verbs
 
--- An error of refused memory is that, and any other is a fault of the words.
+-- An allocation failure of clap is one of the usage error, and any other error is one in the
+-- arguments.
 abbrev pub IsUsageOf : Error → UsageFault → Type 0
 IsUsageOf error (Words same) = (same ≡ error) × (kind_of error ≡ kind.OutOfMemory → ⊥)
 IsUsageOf error OutOfMemory = kind_of error ≡ kind.OutOfMemory
 IsUsageOf error _ = ⊥
 
--- Where there was memory for it, the command is this one, and no argument of it is global.
+-- Unless an allocation failed, the command is this one, and no argument of it is global.
 abbrev pub IsCommand : {E : Type 0} → App → Result Command E → Type 0
 IsCommand app command = IfOk command (λ c. (app_of c ≡ app) × ((fields_of c).has_globals ≡ false))
 
@@ -29,7 +30,7 @@ verb_name verbs.Story = codes "story"
 verb_name verbs.Pack = codes "pack"
 verb_name verbs.Audit = codes "audit"
 
--- The words have no fault, and clap found their command.
+-- The arguments are valid, and clap found their command.
 pub record IsFoundOf (words : List Text) (matches : ArgMatches) : Type 0 where
   pub faultless : fault_of program words ≡ []
   pub command : subcommand_rows_of matches ≡ subcommand_of program words
@@ -38,6 +39,6 @@ pub record IsFoundOf (words : List Text) (matches : ArgMatches) : Type 0 where
 abbrev pub IsForOne : FilesRequest → Request → Type 0
 IsForOne files request = files ≡ record { files = One request.file; job = request.job }
 
--- The request is for other files, and the fault says so.
+-- The request is for other files, and this is the error.
 abbrev pub IsForOthers : FilesRequest → UsageFault → Type 0
 IsForOthers files fault = IsForMore files × IsMade TooManyValues fault

@@ -1,4 +1,4 @@
-//! The commands of the program, as `clap` is told of them.
+//! The commands of the program, as they are declared to `clap`.
 
 ghost use Rattle.std.specs.Prelude.{◌≡◌, codes, false, IfOk};
 ghost use Rattle.clap.specs.Words.{App, Rule, app_of, new_app, rule_of, with_rule, with_subcommand};
@@ -10,22 +10,22 @@ use clap::{Arg, ArgAction, Command};
 use iim_dataset::GREATEST_SIZE;
 use std::alloc::{AllocError, Global};
 
-/// What `--version` tells: the release has the number of the tickets that it writes.
+/// The version that `--version` prints: the version of the tickets that this release writes.
 const RELEASE: &str = "2";
 
-/// What help says of the file.
+/// The help text of the argument FILE.
 const FILE_HELP: &str =
     "The file to read, or else standard input, which is /dev/stdin, too; - is a file of that name";
 
-/// What help says of the files.
+/// The help text of the arguments FILE.
 const FILES_HELP: &str =
     "The files to read, or else standard input, which is /dev/stdin, too; - is a file of that name";
 
-/// What help says of the list of files.
+/// The help text of `--files-from`.
 const LIST_HELP: &str =
     "Read the files that LIST names, one a line or each ended by NUL; - is standard input";
 
-/// What help says at the end of `check`.
+/// The end of the help text of `check`.
 const CHECK_HELP: &str = "\
 Example:
   iimwire check samples/smallest.iim
@@ -35,7 +35,7 @@ Status: 0 all accepted, 1 refused, 2 a mistake in the words, 3 a file, output or
 The causes of a refusal stand in the manual page, iimwire(1), and in docs/CAUSES.md.
 An input of no octets is accepted, and prints nothing.";
 
-/// What help says at the end of `show`.
+/// The end of the help text of `show`.
 const SHOW_HELP: &str = "\
 Example:
   iimwire show samples/smallest.iim
@@ -45,7 +45,7 @@ Octets other than 20 to 7E, and the backslash, are shown as \\x and two digits.
 Status: 0 all accepted, 1 refused, 2 a mistake in the words, 3 a file, output or memory fault.
 The causes of a refusal stand in the manual page, iimwire(1), and in docs/CAUSES.md.";
 
-/// What help says at the end of `story`.
+/// The end of the help text of `story`.
 const STORY_HELP: &str = "\
 Example:
   iimwire story samples/story.iim 2>/dev/null
@@ -55,7 +55,7 @@ The octets of a line are those of the copy: on a terminal read them through cat 
 Status: 0 all accepted, 1 refused, 2 a mistake in the words, 3 a file, output or memory fault.
 The causes of a refusal stand in the manual page, iimwire(1), and in docs/CAUSES.md.";
 
-/// What help says at the end of `pack`.
+/// The end of the help text of `pack`.
 const PACK_HELP: &str = "\
 FILE is a script: what show prints between its first and its last line, then a line text, and the story.
   1:00 \\x00\\x04
@@ -77,7 +77,7 @@ Example:
 Status: 0 packed, 1 the script is refused, 2 a mistake in the words, 3 a file, output or memory fault.
 The causes of a refusal stand in the manual page, iimwire(1), and in docs/CAUSES.md.";
 
-/// What help says at the end of `audit`.
+/// The end of the help text of `audit`.
 const AUDIT_HELP: &str = "\
 INSTANT is a date, T, a time, and Z or an offset: 2024-03-01T12:00:00Z, 2024-03-01T13:00:00.5+01:00.
 One with no Z or offset is none. The present instant is that of date -u:
@@ -87,7 +87,7 @@ prints a row for each envelope, and a last line: 3 envelopes, 1 repeated, 0 held
 Status: 0 all accepted, 1 refused, 2 a mistake in the words, 3 a file, output or memory fault.
 The causes of a refusal stand in the manual page, iimwire(1), and in docs/CAUSES.md.";
 
-/// What help says at the end of the program.
+/// The end of the help text of the program.
 const PROGRAM_HELP: &str = "\
 Example:
   iimwire check samples/smallest.iim
@@ -97,7 +97,8 @@ Status: 0 all accepted, 1 refused, 2 a mistake in the words, 3 a file, output or
 The causes of a refusal stand in the manual page, iimwire(1), and in docs/CAUSES.md.
 iimwire COMMAND --help has an example of each command.";
 
-/// A command that takes a FILE, with what help says at its top and at its end.
+/// Returns a command that takes a FILE. `about` and `after` are the beginning and the end of its
+/// help text.
 fn with_file<'a>(
     alloc: Global,
     name: &'a str,
@@ -112,7 +113,7 @@ fn with_file<'a>(
         .arg(Arg::new(alloc, "FILE").help(FILE_HELP))
 }
 
-/// The files of a command that takes any number of them.
+/// Returns the argument FILE of a command that takes any number of files.
 fn files_arg<'a>(alloc: Global) -> Arg<'a>
     ensures rule { rule_of result ≡ files_rule }
     ensures local { result.global ≡ false }
@@ -122,7 +123,7 @@ fn files_arg<'a>(alloc: Global) -> Arg<'a>
         .help(FILES_HELP)
 }
 
-/// The option that names a list of files.
+/// Returns the option `--files-from`, which names a list of files.
 fn list_arg<'a>(alloc: Global) -> Arg<'a>
     ensures rule { rule_of result ≡ list_rule }
     ensures local { result.global ≡ false }
@@ -133,7 +134,8 @@ fn list_arg<'a>(alloc: Global) -> Arg<'a>
         .help(LIST_HELP)
 }
 
-/// A command that takes any number of files as arguments, with what help says at its top and at its end.
+/// Returns a command that takes any number of files as arguments. `about` and `after` are the
+/// beginning and the end of its help text.
 fn with_names<'a>(
     alloc: Global,
     name: &'a str,
@@ -148,7 +150,7 @@ fn with_names<'a>(
         .arg(files_arg(alloc))
 }
 
-/// A command that takes any number of files as arguments, or a list of them.
+/// Returns a command that takes any number of files as arguments, or a list of them.
 fn with_files<'a>(
     alloc: Global,
     name: &'a str,
@@ -160,7 +162,7 @@ fn with_files<'a>(
     with_arg(with_names(alloc, name, about, after), list_arg(alloc))
 }
 
-/// An option that takes a number, from the least one to the greatest size.
+/// Returns an option that takes a number, from `least` to the greatest size.
 fn number_arg<'a>(
     alloc: Global,
     name: &'a str,
@@ -178,7 +180,7 @@ fn number_arg<'a>(
         .help(help)
 }
 
-/// The option that leaves the size of the object unknown.
+/// Returns the option `--unknown`, which leaves the size of the object unknown.
 fn unknown_arg<'a>(alloc: Global) -> Arg<'a>
     ensures rule { rule_of result ≡ unknown_rule }
     ensures local { result.global ≡ false }
@@ -191,7 +193,7 @@ fn unknown_arg<'a>(alloc: Global) -> Arg<'a>
         )
 }
 
-/// The option that tells the present instant.
+/// Returns the option `--now`, which sets the present instant.
 fn now_arg<'a>(alloc: Global) -> Arg<'a>
     ensures rule { rule_of result ≡ now_rule }
     ensures local { result.global ≡ false }
@@ -203,7 +205,7 @@ fn now_arg<'a>(alloc: Global) -> Arg<'a>
         .help("The present instant, as 2024-03-01T12:00:00Z")
 }
 
-/// A command with one more argument, where there was memory for both.
+/// Adds an argument to a command. Returns an error if an allocation fails or failed before.
 fn with_arg<'a>(
     command: Result<Command<'a>, AllocError>,
     arg: Arg<'a>,
@@ -214,7 +216,7 @@ fn with_arg<'a>(
     command?.arg(arg)
 }
 
-/// A program with one more command, where there was memory for both.
+/// Adds a command to a program. Returns an error if an allocation fails or failed before.
 fn with_command<'a>(
     program: Result<Command<'a>, AllocError>,
     command: Result<Command<'a>, AllocError>,
@@ -228,7 +230,7 @@ fn with_command<'a>(
     }
 }
 
-/// The command that packs.
+/// Returns the command `pack`.
 fn pack<'a>(alloc: Global) -> Result<Command<'a>, AllocError>
     ensures { IsCommand pack_command result }
 {
@@ -255,7 +257,7 @@ fn pack<'a>(alloc: Global) -> Result<Command<'a>, AllocError>
     with_arg(with_arg(with_arg(pack, subfile), unknown_arg(alloc)), max)
 }
 
-/// The command that audits.
+/// Returns the command `audit`.
 fn audit<'a>(alloc: Global) -> Result<Command<'a>, AllocError>
     ensures { IsCommand audit_command result }
 {
@@ -268,7 +270,7 @@ fn audit<'a>(alloc: Global) -> Result<Command<'a>, AllocError>
     with_arg(audit, now_arg(alloc))
 }
 
-/// The program, as yet without commands.
+/// Returns the program without its commands.
 fn bare<'a>(alloc: Global) -> Command<'a>
     ensures { app_of result ≡ wanting (new_app (codes "iimwire")) }
 {
@@ -280,7 +282,7 @@ fn bare<'a>(alloc: Global) -> Command<'a>
         .disable_help_subcommand(true)
 }
 
-/// The program's commands.
+/// Returns the program with all its commands. Returns an error if an allocation fails.
 pub fn command<'a>(alloc: Global) -> Result<Command<'a>, AllocError>
     ensures { IfOk result (λ command. app_of command ≡ program) }
 {

@@ -1,13 +1,15 @@
 //! Instants.
 //!
-//! No public item here names a type of `jiff`: the crates above then read little of it when they are built.
+//! No public item here has a type of `jiff`. So the crates above build faster, because they read
+//! little of `jiff`.
 
 ghost use Rattle.std.specs.Prelude.{◌≡◌, IfSome, IfNone};
 ghost use Rattle.jiff.specs.Words.{IsTimestampNanos};
 
 use jiff::Timestamp;
 
-/// An instant that `jiff` has, as its nanoseconds from 1970-01-01T00:00:00Z: in a form that requests can hold.
+/// An instant in the range of `jiff`, as its nanoseconds from 1970-01-01T00:00:00Z. Requests can
+/// store this form.
 #[derive(Clone, Copy, Debug, PartialEq, Eq)]
 pub struct Instant {
     nanosecond: i128,
@@ -15,7 +17,8 @@ pub struct Instant {
 }
 
 impl Instant {
-    /// The instant so many nanoseconds after 1970-01-01T00:00:00Z. None where `jiff` has no such instant.
+    /// Returns the instant `nanosecond` nanoseconds after 1970-01-01T00:00:00Z, or `None` if it is
+    /// outside the range of `jiff`.
     pub fn new(nanosecond: i128) -> Option<Instant>
         ensures some { IfSome result (λ instant. instant.nanosecond ≡ nanosecond) }
         ensures none { IfNone result (IsTimestampNanos nanosecond → ⊥) }
@@ -26,7 +29,7 @@ impl Instant {
         }
     }
 
-    /// Its nanoseconds from 1970-01-01T00:00:00Z: `jiff` has an instant of so many.
+    /// Returns the nanoseconds from 1970-01-01T00:00:00Z. They are in the range of `jiff`.
     pub fn nanosecond(self) -> i128
         ensures value { result ≡ self.nanosecond }
         ensures in_range { IsTimestampNanos result }
@@ -35,7 +38,7 @@ impl Instant {
     }
 }
 
-/// The instant that `jiff` tells.
+/// Converts an instant of `jiff`.
 pub(crate) fn instant_of(timestamp: Timestamp) -> Instant
     ensures { result.nanosecond ≡ timestamp.nanosecond }
 {

@@ -1,10 +1,11 @@
-//! What the words of a command line ask for.
+//! Parses the arguments of a command line.
 //!
-//! [`request::parse`] makes a request of the words: a file, and what is to be done with it. [`commands::command`] is what `clap` reads
-//! them by, and [`shown::push_name`] tells a word of them as text that can be printed. Nothing is read or written here.
+//! [`request::parse`] returns a request: a file, and the job to do with it. [`commands::command`]
+//! declares the command line to `clap`, and [`shown::push_name`] escapes an argument for printing.
+//! Nothing is read or written here.
 //!
-//! Stands on `iim_dataset` and `iim_object`, for the sizes that may be asked for, and on `clap` and `jiff`. `iim_commands` stands on it,
-//! which carries requests out.
+//! Depends on `iim_dataset` and `iim_object`, for the sizes that an option may have, and on `clap`
+//! and `jiff`. `iim_commands` runs the requests.
 #![tactic(auto)]
 
 pub mod commands;

@@ -1,4 +1,4 @@
-//! What the arguments ask for.
+//! Requests, and how they are parsed from arguments.
 
 ghost use Rattle.std.specs.Prelude.{◌≡◌, ◌≤◌, IfOk, IfErr, IfSome, IsNone, IsSome, List, true, false, map, string_bytes};
 ghost use Rattle.clap.specs.Words.{Text, found_of, rows_of, kind_of};
@@ -15,70 +15,72 @@ use std::alloc::{AllocError, Global};
 use std::fmt::{Display, Formatter};
 use std::{error, fmt};
 
-/// The most octets of a subfile where no number is given.
+/// The largest number of octets of a subfile, if no number is given.
 pub const DEFAULT_SUBFILE: u64 = 1_024;
 
-/// What is to be done.
+/// The job of a command.
 #[derive(Clone, Copy, Debug, PartialEq, Eq)]
 pub enum Job {
-    /// List the envelopes of the input.
+    /// Lists the envelopes of the input.
     Check,
-    /// Show the parts of each envelope but its story.
+    /// Shows the parts of each envelope except its story.
     Show,
-    /// Write the story of each envelope.
+    /// Writes the story of each envelope.
     Story,
-    /// Pack the envelope that a script tells.
+    /// Packs the envelope that a script specifies.
     Pack(PackRequest),
-    /// Tell id, sizes, words and age of each envelope, which of them repeat others, and whether their copy may be used.
+    /// Reports the id, sizes, words and age of each envelope, the earlier envelope that it
+    /// repeats, and whether its copy may be used.
     Audit {
         /// The present instant.
         now: Instant,
     },
 }
 
-/// A file, or else standard input, and what is to be done with it.
+/// A file or standard input, and the job to do with it.
 #[derive(Clone, Copy, Debug, PartialEq, Eq)]
 pub struct Request<'a> {
-    /// The path of the file, or None for standard input.
+    /// The path of the file, or `None` for standard input.
     pub file: Option<&'a str>,
-    /// What is to be done.
+    /// The job.
     pub job: Job,
 }
 
 /// The files that a command reads.
 #[derive(Drop)]
 pub enum Files<'a> {
-    /// The file of this name, or standard input if there is none.
+    /// The file with this path, or standard input for `None`.
     One(Option<&'a str>),
     /// Two or more files, in this order.
     Many(Vec<&'a str>),
-    /// The files that a list names, in its order: the list is the file of this name, or standard input if it is `-`.
+    /// The files that a list names, in its order. The list is the file with this path, or standard
+    /// input for `-`.
     Listed(&'a str),
 }
 
-/// Files, and what is to be done with each of them.
+/// Files, and the job to do with each of them.
 #[derive(Drop)]
 pub struct FilesRequest<'a> {
     /// The files.
     pub files: Files<'a>,
-    /// What is to be done.
+    /// The job.
     pub job: Job,
 }
 
-/// Why arguments ask for nothing.
+/// A usage error.
 #[derive(Debug, Drop)]
 pub enum UsageFault {
-    /// The words are none that the program takes. The error tells it.
+    /// `clap` rejects the arguments. The error has the message.
     Words(Error),
     /// `--max` is given without `--unknown`.
     MaxNeedsUnknown,
-    /// What `--now` gives is no instant.
+    /// The value of `--now` is not an instant.
     BadNow,
-    /// Memory was refused.
+    /// An allocation failed.
     OutOfMemory,
 }
 
-/// Writes the error of the arguments, or the line that the command prints.
+/// Writes the message of `clap`, or the line that the command prints.
 impl Display for UsageFault {
     fn fmt<W: fmt::Write>(&self, f: &mut Formatter<W>) -> fmt::Result {
         match self {
@@ -119,7 +121,7 @@ ghost use Rattle.iim_request.specs.declared.request.Verb.{Verb as VerbValue};
 ghost use Rattle.iim_request.specs.Format.{AreNamed, AsksFiles, AsksFor, AsksForFiles, AsksJob, GivesNumber, IsFaultOf, IsFilesFault, IsFilesFaultOf, IsJobFault, IsMade, IsSubfile, text_given};
 ghost use Rattle.iim_request.specs.Verbs.{verb_name, IsForOne, IsForOthers, IsFoundOf};
 
-/// A command's name.
+/// The name of a command.
 #[derive(Clone, Copy, Debug, PartialEq, Eq)]
 enum Verb {
     Check,
@@ -129,7 +131,7 @@ enum Verb {
     Audit,
 }
 
-/// The command of a name.
+/// Returns the command with this name, or `None` if there is no such command.
 fn verb_named(name: &str) -> Option<Verb>
     ensures named { IfSome result (λ verb. name.now ≡ verb_name verb) }
     ensures other { IsNone result → (verb : VerbValue) → name.now ≡ verb_name verb → ⊥ }
@@ -144,7 +146,8 @@ fn verb_named(name: &str) -> Option<Verb>
     }
 }
 
-/// The number that an option was given, from the least one to the greatest size.
+/// Returns the value of an option, from `least` to the greatest size, or `None` if it is not given
+/// or out of range.
 fn number_given(text: Option<&str>, least: u64) -> Option<u64>
     ensures given { GivesNumber least (text_given text.entry) result }
     ensures within { IfSome result (λ number. (least ≤ number) × (number ≤ greatest_size)) }
@@ -156,7 +159,7 @@ fn number_given(text: Option<&str>, least: u64) -> Option<u64>
     Some(number)
 }
 
-/// The octets of a full subfile: the number that was given, or 1,024.
+/// Returns the number of octets of a full subfile: the value that was given, or 1,024.
 fn subfile_given(text: Option<&str>) -> u64
     ensures given { IsSubfile (text_given text.entry) result }
     ensures within { (1 ≤ result) × (result ≤ greatest_size) }
@@ -167,7 +170,7 @@ fn subfile_given(text: Option<&str>) -> u64
     }
 }
 
-/// Whether a maximum is given of a known size.
+/// Checks whether a maximum is given for a known size.
 fn is_max_alone(unknown: bool, max: Option<u64>) -> bool
     ensures yes { result ≡ true → IsSome max × (unknown ≡ false) }
     ensures no { result ≡ false → IsSome max → unknown ≡ true }
@@ -175,7 +178,7 @@ fn is_max_alone(unknown: bool, max: Option<u64>) -> bool
     max.is_some() && !unknown
 }
 
-/// What `pack` is asked for.
+/// Returns the job of `pack`.
 fn pack_job(found: &ArgMatches<'_>) -> Result<Job, UsageFault>
     ensures ok { IfOk result (AsksJob (verb_name VerbValue.Pack) (rows_of (found_of found.now))) }
     ensures err { IfErr result (IsJobFault (verb_name VerbValue.Pack) (rows_of (found_of found.now))) }
@@ -193,7 +196,7 @@ fn pack_job(found: &ArgMatches<'_>) -> Result<Job, UsageFault>
     }))
 }
 
-/// What `audit` is asked for.
+/// Returns the job of `audit`.
 fn audit_job(found: &ArgMatches<'_>) -> Result<Job, UsageFault>
     ensures ok { IfOk result (AsksJob (verb_name VerbValue.Audit) (rows_of (found_of found.now))) }
     ensures err { IfErr result (IsJobFault (verb_name VerbValue.Audit) (rows_of (found_of found.now))) }
@@ -209,7 +212,7 @@ fn audit_job(found: &ArgMatches<'_>) -> Result<Job, UsageFault>
     }
 }
 
-/// What a command is asked for.
+/// Returns the job of a command.
 fn job_of(verb: Verb, found: &ArgMatches<'_>) -> Result<Job, UsageFault>
     ensures ok { IfOk result (AsksJob (verb_name verb) (rows_of (found_of found.now))) }
     ensures err { IfErr result (IsJobFault (verb_name verb) (rows_of (found_of found.now))) }
@@ -223,13 +226,13 @@ fn job_of(verb: Verb, found: &ArgMatches<'_>) -> Result<Job, UsageFault>
     }
 }
 
-/// What `--files-from` beside a FILE is told.
+/// The message if `--files-from` is given together with a FILE.
 const LIST_AND_FILE: &str = "--files-from takes no FILE";
 
-/// What more than one file is told, where one is wanted.
+/// The message if more than one file is given and one is expected.
 const NOT_ONE_FILE: &str = "more than one FILE";
 
-/// Makes the fault of this kind and message.
+/// Returns a usage error of this kind, with this message.
 fn fault_of(alloc: Global, kind: ErrorKind, message: &str) -> UsageFault
     requires { kind ≡ ErrorKind.OutOfMemory → ⊥ }
     ensures { IsMade kind result }
@@ -243,7 +246,7 @@ fn fault_of(alloc: Global, kind: ErrorKind, message: &str) -> UsageFault
     }
 }
 
-/// Returns the files of these names, given as arguments.
+/// Returns the files with these names, given as arguments.
 fn named<'a>(alloc: Global, names: &[&'a str]) -> Result<Files<'a>, UsageFault>
     ensures ok { IfOk result (AreNamed (map (λ name. name.now) names.now)) }
     ensures err { IfErr result (λ fault. fault ≡ UsageFault.OutOfMemory) }
@@ -258,7 +261,7 @@ fn named<'a>(alloc: Global, names: &[&'a str]) -> Result<Files<'a>, UsageFault>
     }
 }
 
-/// Returns the files that a command is given.
+/// Returns the files that the arguments of a command name.
 fn files_of<'a>(alloc: Global, found: &ArgMatches<'a>) -> Result<Files<'a>, UsageFault>
     ensures ok { IfOk result (AsksFiles (rows_of (found_of found.now))) }
     ensures err { IfErr result (IsFilesFault (rows_of (found_of found.now))) }
@@ -271,7 +274,7 @@ fn files_of<'a>(alloc: Global, found: &ArgMatches<'a>) -> Result<Files<'a>, Usag
     }
 }
 
-/// What the words ask for in which clap found this: they have no fault, and name one of the commands.
+/// Returns the request of arguments that `clap` accepted. They name one of the commands.
 fn request_of<'a>(alloc: Global, matches: &ArgMatches<'a>) -> Result<FilesRequest<'a>, UsageFault>
     requires { (words : List Text) × IsFoundOf words matches.now }
     ensures ok { (words : List Text) → IsFoundOf words matches.now → IfOk result (AsksForFiles words) }
@@ -290,7 +293,8 @@ fn request_of<'a>(alloc: Global, matches: &ArgMatches<'a>) -> Result<FilesReques
     }
 }
 
-/// Reads the words, of which the first is the program's name: any number of files.
+/// Parses the arguments of a command line, with any number of files. The first of them is the
+/// program's name.
 pub fn parse_files<'a>(alloc: Global, words: &'a [String]) -> Result<FilesRequest<'a>, UsageFault>
     ensures ok { IfOk result (AsksForFiles (map string_bytes words.entry.now)) }
     ensures err { IfErr result (IsFilesFaultOf (map string_bytes words.entry.now)) }
@@ -299,7 +303,8 @@ pub fn parse_files<'a>(alloc: Global, words: &'a [String]) -> Result<FilesReques
     request_of(alloc, &matches)
 }
 
-/// Reads the words, of which the first is the program's name: one file at most.
+/// Parses the arguments of a command line, with at most one file. The first of them is the
+/// program's name.
 pub fn parse<'a>(alloc: Global, words: &'a [String]) -> Result<Request<'a>, UsageFault>
     ensures ok { IfOk result (AsksFor (map string_bytes words.entry.now)) }
     ensures err { IfErr result (IsFaultOf (map string_bytes words.entry.now)) }
@@ -310,7 +315,8 @@ pub fn parse<'a>(alloc: Global, words: &'a [String]) -> Result<Request<'a>, Usag
     }
 }
 
-/// Returns the request for one file, if it is for one.
+/// Returns the request for one file, or a usage error if the request is for several files or a
+/// list.
 fn one_file(alloc: Global, request: FilesRequest<'_>) -> Result<Request<'_>, UsageFault>
     ensures ok { IfOk result (IsForOne request.entry) }
     ensures err { IfErr result (IsForOthers request.entry) }

@@ -1,4 +1,4 @@
-//! Octets as text that can be printed.
+//! Octets that are escaped as printable text.
 
 ghost use Rattle.std.specs.Prelude.{◌≡◌, ◌++◌, [], ◌∷◌, if◌then◌else◌, slice_index, OnOk};
 ghost use Rattle.iim_dataset.specs.Format.Datasets.{escape};
@@ -7,14 +7,15 @@ ghost use Rattle.iim_request.specs.Format.{is_hidden, shown_name, spell_control}
 use iim_dataset::internals::push_escape;
 use std::alloc::AllocError;
 
-/// Whether these two octets are a control character from U+0080 to U+009F.
+/// Checks whether two octets encode a control character from U+0080 to U+009F.
 fn spell_control(first: u8, second: u8) -> bool
     ensures { result ≡ spell_control first second }
 {
     first == 0xC2 && (0x80 <= second && second <= 0x9F)
 }
 
-/// Whether an octet between these is a control character, or one of the two of such, or a backslash.
+/// Checks whether `octet` is escaped: it is a control character, a backslash, or one of the two
+/// octets of a control character, together with the octet before or after it.
 fn is_hidden(before: u8, octet: u8, next: u8) -> bool
     ensures { result ≡ is_hidden before octet next }
 {
@@ -22,7 +23,7 @@ fn is_hidden(before: u8, octet: u8, next: u8) -> bool
         || (octet == b'\\' || (spell_control(before, octet) || spell_control(octet, next)))
 }
 
-/// The first of some octets, or 0.
+/// Returns the first octet of a slice, or 0 if it is empty.
 fn next_of(octets: &[u8]) -> u8
     ensures { result ≡ slice_index octets.now 0 }
 {
@@ -32,7 +33,7 @@ fn next_of(octets: &[u8]) -> u8
     }
 }
 
-/// Adds an octet as it is, or as `\x` and two digits.
+/// Appends an octet as it is or, if `hidden`, as `\x` and two digits.
 fn push_octet(text: &mut Vec<u8>, hidden: bool, octet: u8) -> Result<(), AllocError>
     ensures { OnOk result (text.new.items ≡ text.old.items ++ (if hidden then escape octet else octet ∷ [])) }
 {
@@ -44,8 +45,8 @@ fn push_octet(text: &mut Vec<u8>, hidden: bool, octet: u8) -> Result<(), AllocEr
     }
 }
 
-/// Adds a name: of its control characters (U+0000 to U+001F and U+007F to U+009F) and backslashes each octet as `\x` and two digits, all
-/// else as it is.
+/// Appends a name. Each octet of its control characters (U+0000 to U+001F and U+007F to U+009F)
+/// and backslashes is written as `\x` and two digits, every other octet as it is.
 pub fn push_name(text: &mut Vec<u8>, name: &str) -> Result<(), AllocError>
     ensures { OnOk result (text.new.items ≡ text.old.items ++ shown_name name.now) }
 {
