@@ -1,4 +1,4 @@
--- Writers of blocks.
+-- Buffered writers.
 use Rattle.std.proofs.Common.{◌≡◌, ℕ, ◌+◌, ◌≤◌, List, [], ◌∷◌, ◌++◌, length, drop, refl, sym, ap, ◌∙◌, arith, ◌^◌, ◌<◌, inl, inr, take, map, append-nil, append_assoc, length-append, length-take, Result, Ok, Err, IfErr, OnErr}
 use Rattle.std.proofs.Math.Seq.{take-append_seam}
 use Rattle.std.proofs.lemmas.List.{drop-append-le, drop-drop, length-drop, take-append-drop}
@@ -11,7 +11,7 @@ use Rattle.iim_output.specs.HoldingLaws.{parts_on}
 use Rattle.iim_dataset.specs.declared.stop.Stop.{Stop}
 use Rattle.iim_output.specs.declared.block_writer.BlockWriter.{BlockWriter}
 
--- ---- Octets that are held.
+-- ---- Octets that are buffered.
 
 pub takes : (out : ℕ) (items new more octets : List ℕ) → drop out items ≡ octets → new ≡ items ++ more → out ≤ length items → drop out new ≡ octets ++ more
 takes out items new more octets is added within = rw (added, drop-append-le out items more within, is) refl
@@ -33,13 +33,13 @@ rose_not : (i j : ℕ) → Rose i j → j ≡ i → j + 1 < 2 ^ 64 → ⊥
 rose_not i j (inl e) same few = absurd (omega (arith, e, same))
 rose_not i j (inr r) same few = absurd (omega (arith, r.0, few))
 
--- what grew where a device broke
+-- the counts that rose if a reader or writer failed
 broke : (a b : Device) → Broke a b → (a.failures ≤ b.failures) × (a.interruptions ≤ b.interruptions) × HasBroken a b
 broke a b (inl (inl e, still)) = (omega (arith, e), still, inl (inl (omega (arith, e))))
 broke a b (inl (inr r, still)) = (r.1, still, inl (inr r.0))
 broke a b (inr i) = (omega (arith, i.0), i.1, inr i.2)
 
--- ---- what was told
+-- ---- what was passed to a writer
 
 pub puts_of_put : {W : Type 0} (state : W → Device) (a b : BlockWriter W) (text : List ℕ) → HasPut state a b text → stops_of b ≡ stops_of a
     → PutsOn state a b text
@@ -75,11 +75,11 @@ puts_of_stuck state a b text h rose =
       };
     }
 
--- the octets of a line are told as events
+-- the octets of a line are passed as events
 pub told_line : {W : Type 0} (state : W → Device) (a b : BlockWriter W) (xs : List ℕ) → PutsOn state a b xs → PutsLines state a (map LineOctet xs) b
 told_line state a b xs p = rw (octets_of_line xs) p
 
--- ---- what is held and let out
+-- ---- what is buffered and flushed
 
 pub holds : {W : Type 0} (state : W → Device) → TextsJoin → (a b : BlockWriter W) (text : List ℕ) → KeepsWriter a b → held_of b ≡ held_of a ++ text
     → device_of state b ≡ device_of state a → HasPut state a b text
@@ -117,7 +117,7 @@ stays_stuck state a b octets n same is rest stopped limit rose = (
   rose,
 )
 
--- a text that is longer than a block, where nothing is held
+-- a text that is longer than a block, with an empty buffer
 pub passes_through : {W : Type 0} (state : W → Device) (a b : BlockWriter W) (text : List ℕ) → KeepsWriter a b → HoldsNothing a → held_of b ≡ held_of a
     → Wrote (device_of state a) (device_of state b) text
     → WithinInterruptionLimit (length text) (device_of state a) (device_of state b) → HasPut state a b text
@@ -150,13 +150,13 @@ stuck_on state texts a b c xs ys first then = record {
   patience = omega (arith, first.patience, then.patience, length-append first.out then.out);
 }
 
--- ---- texts that are out, or cut short
+-- ---- texts that are written, or in part
 
--- nothing was held before: the parts are those of the text
+-- the buffer was empty before: the parts are those of the text
 front_of : {W : Type 0} (a : BlockWriter W) (text out rest : List ℕ) → HoldsNothing a → held_of a ++ text ≡ out ++ rest → text ≡ out ++ rest
 front_of a text out rest before parts = rw before at parts
 
--- nothing was held before nor is after
+-- the buffer is empty before and after
 pub all_out : {W : Type 0} (state : W → Device) (a b : BlockWriter W) (text : List ℕ) → HoldsNothing a → HoldsNothing b → HasPut state a b text
     → Wrote (device_of state a) (device_of state b) text
 all_out state a b text before after put =
@@ -169,7 +169,7 @@ stopped_in state a b text before cut =
     let is = front_of a text cut.out cut.rest before cut.parts in
     (omega (arith, cut.some, ap length is, length-append cut.out cut.rest), rw (is, take-append_seam cut.out cut.rest) cut.broke.0, cut.broke.1)
 
--- a text was taken, and what was held could not be let out
+-- a text was consumed, and the flush failed
 pub cut_by_stuck : {W : Type 0} (state : W → Device) → TextsJoin → (a b c : BlockWriter W) (text : List ℕ) → HasPut state a b text → StaysStuck state b c
     → IsCutShort state a c text
 cut_by_stuck state texts a b c text put stuck =
@@ -184,7 +184,7 @@ cut_by_stuck state texts a b c text put stuck =
       patience = both.patience;
     }
 
--- a text was taken in part
+-- a text was consumed in part
 pub cut_by_put : {W : Type 0} (state : W → Device) (a b : BlockWriter W) (text : List ℕ) (n : ℕ) → n < length text → HasStuck state a b (take n text)
     → IsCutShort state a b text
 cut_by_put state a b text n within stuck = record {
@@ -199,7 +199,7 @@ cut_by_put state a b text n within stuck = record {
   patience = stuck.patience;
 }
 
--- a text was taken, and then another was cut short
+-- a text was consumed, and then another in part
 pub cut_on : {W : Type 0} (state : W → Device) → TextsJoin → (a b c : BlockWriter W) (xs ys : List ℕ) → HasPut state a b xs → IsCutShort state b c ys
     → IsCutShort state a c (xs ++ ys)
 cut_on state texts a b c xs ys put cut = record {
@@ -212,9 +212,9 @@ cut_on state texts a b c xs ys put cut = record {
   patience = omega (arith, put.patience, cut.patience, length-append put.out cut.out);
 }
 
--- ---- of answers
+-- ---- results
 
--- where at most one octet was to be taken
+-- if at most one octet was to be consumed
 pub none_of_one : {T : Type 0} (r : Result T Stop) (x : ℕ) (P : List ℕ → Type 0) → IfErr r (λ stop. stop.taken < 1)
     → IfErr r (λ stop. P (take stop.taken (x ∷ []))) → OnErr r (P [])
 none_of_one (Ok y) x P few front = tt
@@ -224,7 +224,7 @@ pub taken_none : {T : Type 0} (r : Result T Stop) → IfErr r (λ stop. stop.tak
 taken_none (Ok y) few = tt
 taken_none (Err stop) few = omega (arith, few)
 
--- what is so of the devices of a writer is so of the target that it was lent, before and after
+-- what holds of the target of a writer holds of the borrowed target, before and after
 pub between : {W : Type 0} {after : Device} (state : W → Device) (P : Device → Device → Type 0) (a c : BlockWriter W) (first last : MutBor W)
     → a.writer ≡ first → last ≡ c.writer → after ≡ state last.now → P (device_of state a) (device_of state c)
     → P (state first.now) after

@@ -6,23 +6,23 @@ use Rattle.iim_dataset.specs.States.Devices.{Device, Wrote, Stopped}
 pub use Rattle.iim_output.specs.declared.fault.CommandFault.{CommandFault}
 pub use Rattle.iim_output.specs.declared.fault.CommandFault.TheVariants.{CannotRead, CannotWrite, OutOfMemory}
 
--- what the records 1 and 2 of an envelope may have: the limits of wire copy
+-- the limits on records 1 and 2 of an envelope: those of wire copy
 abbrev pub limits : Limits
 limits = wire_limits
 
--- the line of an accepted envelope: its number, and how many octets it has
+-- the line of an accepted envelope: its number, and its length in octets
 abbrev pub accepted_line : ℕ → ℕ → List ℕ
 accepted_line number used = decimal number ++ (codes " accepted " ++ (decimal used ++ codes " octets\n"))
 
--- the line of octets that are refused: its number, and the octet, the layer, the dataset and the cause
+-- the line of a refusal: its number, then the octet, the layer, the dataset and the cause
 abbrev pub refused_line : ℕ → Refusal → List ℕ
 refused_line number e = decimal number ++ (codes " " ++ (refusal_text e ++ codes "\n"))
 
--- the line in place of that of one envelope too many
+-- the line that replaces the line of the first envelope beyond the limit
 abbrev pub too_many_line : List ℕ
 too_many_line = codes "too many envelopes\n"
 
--- the line that tells a fault
+-- the line of an error
 abbrev pub fault_line : CommandFault → List ℕ
 fault_line CannotRead = codes "cannot read\n"
 fault_line CannotWrite = codes "cannot write\n"
@@ -32,24 +32,25 @@ fault_line OutOfMemory = codes "out of memory\n"
 abbrev pub status_accepted : ℕ
 status_accepted = 0
 
--- octets are refused, or there are too many envelopes
+-- octets are rejected, or there are too many envelopes
 abbrev pub status_refused : ℕ
 status_refused = 1
 
--- the words ask for nothing
+-- the arguments are invalid
 abbrev pub status_usage : ℕ
 status_usage = 2
 
--- a fault of a file, of an output or of memory
+-- a failure of a file, of an output or of an allocation
 abbrev pub status_failed : ℕ
 status_failed = 3
 
--- ---- How a text comes out at once.
+-- ---- How a text is written unbuffered.
 
--- The text is out, and the status is the wanted one; or the device broke inside it, and the status is 3.
+-- The text is written, and the status is the requested one; or a write failed inside it, and the
+-- status is 3.
 abbrev pub IsSaid : Device → Device → List ℕ → ℕ → ℕ → Type 0
 IsSaid old new text want status = (Wrote old new text × (status ≡ want)) ⊎ ((n : ℕ) × Stopped old new text n × (status ≡ status_failed))
 
--- The output broke inside the text.
+-- A write failed inside the text.
 abbrev pub FailsToSay : Device → Device → List ℕ → CommandFault → Type 0
 FailsToSay old new text fault = (fault ≡ CannotWrite) × (n : ℕ) × Stopped old new text n

@@ -1,4 +1,4 @@
--- The laws of writers of blocks, handed in by their impls.
+-- The lemmas of buffered writers, which their impls pass on.
 use Rattle.std.proofs.Common.{◌≡◌, ℕ, List, [], ◌++◌, map, refl, sym, ◌∙◌, append-nil, append_assoc, length-append, arith}
 use Rattle.std.proofs.lemmas.List.{map-append}
 use Rattle.iim_dataset.specs.{States.Devices.Device, Steps.appends_nothing, Steps.appends_joined}
@@ -11,7 +11,7 @@ writes_on a b c i j k xs ys h l =
     rw (map-append octet_for (map LineOctet xs) (map LineOctet ys), octets_of_line xs, octets_of_line ys)
     at (writes_joined a b c i j k (map LineOctet xs) (map LineOctet ys) (rw (octets_of_line xs) h) (rw (octets_of_line ys) l))
 
--- of two texts, one after the other
+-- for two texts that follow one another
 pub parts_on : (held mid rest first second out more : List ℕ) → held ++ first ≡ out ++ mid → mid ++ second ≡ more ++ rest → held ++ (first ++ second) ≡ (out ++ more) ++ rest
 parts_on held mid rest first second out more one two =
     rw (← append_assoc held first second, one, append_assoc out mid second, two) (sym (append_assoc out more rest))
@@ -31,7 +31,7 @@ pub puts_joined : {W : Type 0} (state : W → Device) (a b c : BlockWriter W) (x
 puts_joined state a b c xs ys first then =
     rw (map-append octet_for xs ys) (puts_on state a b c (map octet_for xs) (map octet_for ys) first then)
 
--- ---- where no write failed
+-- ---- if no write failed
 
 pub put_nothing : {W : Type 0} (state : W → Device) (b : BlockWriter W) → HasPut state b b []
 put_nothing state b = record { out = []; same = refl; parts = append-nil (held_of b); wrote = (appends_nothing (device_of state b).octets, (refl, omega arith)); patience = omega arith }

@@ -1,4 +1,4 @@
-//! Output in blocks.
+//! Buffered output.
 
 ghost use Rattle.std.specs.Prelude.{◌≡◌, ◌+◌, ◌<◌, ◌≤◌, [], ◌∷◌, length, map, take, IfOk, IfErr, OnOk, OnErr};
 ghost use Rattle.iim_dataset.specs.Format.Octets.{Rose};
@@ -13,8 +13,9 @@ use iim_dataset::{Stop, Target, put};
 use std::alloc::Global;
 use wire_story::StorySink;
 
-/// Writes to a target in blocks: holds octets until a block of them is full, or until it is told to let them out. What it took is out,
-/// or held; a failed write loses none of it. It counts its stops up to the greatest number of 64 bits.
+/// A writer that buffers octets up to a block of 4,096, and writes them to a target when the block
+/// is full or at [`BlockWriter::flush`]. An octet that it consumed is written or buffered; a
+/// failed write loses none. It counts its failed writes, up to the greatest number of 64 bits.
 #[derive(Drop)]
 pub struct BlockWriter<'w, W> {
     writer: &'w mut W,
@@ -25,7 +26,8 @@ pub struct BlockWriter<'w, W> {
 impl<'w, W: Target> BlockWriter<'w, W> {
     ghost use Rattle.iim_output.specs.States.Holding.{HasPut, HasStuck, PutsOn, StaysStuck, HoldsNothing, device_of, held_of, stops_of};
 
-    /// A writer that holds nothing, over a target that it is lent. Where memory is refused, the target is handed back.
+    /// Creates a writer with an empty buffer over a borrowed target. Returns the target if the
+    /// allocation fails.
     pub fn new(alloc: Global, writer: &'w mut W) -> Result<BlockWriter<'w, W>, &'w mut W>
         ensures writer { IfOk result (λ made. made.writer ≡ writer.entry) }
         ensures held { IfOk result HoldsNothing }
@@ -42,7 +44,7 @@ impl<'w, W: Target> BlockWriter<'w, W> {
         }
     }
 
-    /// The target, handed back. What is still held is lost.
+    /// Returns the target. Octets that are still buffered are lost.
     pub fn into_writer(self) -> &'w mut W
         ensures { result ≡ self.entry.writer }
     {
@@ -54,7 +56,8 @@ impl<'w, W: Target> BlockWriter<'w, W> {
         writer
     }
 
-    /// Lets out what is held. Where a write fails, the rest stays held.
+    /// Writes all buffered octets. If a write fails, the octets that were not written remain
+    /// buffered.
     pub fn flush(&mut self) -> Result<(), Stop>
         ensures put { OnOk result (HasPut W.state self.old self.new []) }
         ensures puts { OnOk result (PutsOn W.state self.old self.new []) }
@@ -64,7 +67,7 @@ impl<'w, W: Target> BlockWriter<'w, W> {
         ensures front { OnErr result (PutsOn W.state self.old self.new []) }
         ensures none { IfErr result (λ stop. stop.taken ≡ 0) }
         ensures counted { OnErr result (Rose (stops_of self.old) (stops_of self.new)) }
-        // A million interruptions at most for each octet that was held.
+        // At most a million interruptions for each octet that was buffered.
         ensures patience { WithinInterruptionLimit (length (held_of self.old)) (device_of W.state self.old)
             (device_of W.state self.new) }
     {
@@ -81,7 +84,8 @@ impl<'w, W: Target> BlockWriter<'w, W> {
         }
     }
 
-    /// Takes a text whole, or only the octets before the one at which a write failed.
+    /// Writes or buffers a text. If a write fails, consumes only the octets before the one at
+    /// which it failed.
     #[inline(always)]
     pub fn put(&mut self, text: &[u8]) -> Result<(), Stop>
         ensures put { OnOk result (HasPut W.state self.old self.new text.now) }
@@ -91,7 +95,8 @@ impl<'w, W: Target> BlockWriter<'w, W> {
         ensures stuck { IfErr result (λ stop. HasStuck W.state self.old self.new (take stop.taken text.now)) }
         ensures front { IfErr result (λ stop. PutsOn W.state self.old self.new (take stop.taken text.now)) }
         ensures counted { OnErr result (Rose (stops_of self.old) (stops_of self.new)) }
-        // A million interruptions at most for each octet that was held, and for each of the text.
+        // At most a million interruptions for each octet that was buffered, and for each octet of
+        // the text.
         ensures patience { WithinInterruptionLimit (length (held_of self.old) + length text.now)
             (device_of W.state self.old) (device_of W.state self.new) }
     {
@@ -102,7 +107,7 @@ impl<'w, W: Target> BlockWriter<'w, W> {
         self.put_after_flush(text)
     }
 
-    /// The same of a text for which there is no room.
+    /// Flushes the buffer, and then writes or buffers a text that did not fit into it.
     #[inline(never)]
     fn put_after_flush(&mut self, text: &[u8]) -> Result<(), Stop>
         requires { self.old.held.room < length text.now }
@@ -123,7 +128,7 @@ impl<'w, W: Target> BlockWriter<'w, W> {
         }
     }
 
-    /// Takes a text where nothing is held: holds it, or where it is longer than a block writes it at once.
+    /// Buffers a text in the empty buffer, or writes it at once if it is longer than a block.
     fn put_first(&mut self, text: &[u8]) -> Result<(), Stop>
         requires { HoldsNothing self.old }
         ensures put { OnOk result (HasPut W.state self.old self.new text.now) }
@@ -149,7 +154,7 @@ impl<'w, W: Target> BlockWriter<'w, W> {
         }
     }
 
-    /// Holds a text for which there is room.
+    /// Buffers a text that fits.
     #[inline(always)]
     fn hold(&mut self, text: &[u8])
         requires { length text.now ≤ self.old.held.room }
@@ -185,7 +190,7 @@ impl<'w, W: Target> StorySink for BlockWriter<'w, W> {
             PutsLines W.state self.old (map LineOctet (take stop.taken run.now)) self.new) }
         ensures counted { OnErr result (Rose (stops_of self.old) (stops_of self.new)) }
 
-        // As of `put`.
+        // As for `put`.
         ensures patience { WithinInterruptionLimit (length (held_of self.old) + length run.now)
             (device_of W.state self.old) (device_of W.state self.new) }
     {
@@ -199,7 +204,7 @@ impl<'w, W: Target> StorySink for BlockWriter<'w, W> {
         ensures front { OnErr result (PutsLines W.state self.old [] self.new) }
         ensures counted { OnErr result (Rose (stops_of self.old) (stops_of self.new)) }
 
-        // The same of the LF.
+        // As for `put`, for the octet LF.
         ensures patience { WithinInterruptionLimit (length (held_of self.old) + 1) (device_of W.state self.old)
             (device_of W.state self.new) }
     {
@@ -220,7 +225,7 @@ impl<'w, W: Target> Outlet for BlockWriter<'w, W> {
         ensures settled { OnOk result (HoldsNothing self.new) }
         ensures stuck { OnErr result (StaysStuck W.state self.old self.new) }
 
-        // As of `flush`.
+        // As for `flush`.
         ensures patience { WithinInterruptionLimit (length (held_of self.old)) (device_of W.state self.old)
             (device_of W.state self.new) }
     {

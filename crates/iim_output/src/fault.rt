@@ -1,4 +1,4 @@
-//! Why a command could not be carried out.
+//! Errors of commands.
 
 ghost use Rattle.std.specs.Prelude.{◌≡◌};
 
@@ -7,21 +7,21 @@ use std::error::Error;
 use std::fmt;
 use std::fmt::{Display, Formatter};
 
-/// What went wrong around the octets, and not with them.
+/// An error that is not in the octets of the input.
 #[derive(Clone, Copy, Debug, PartialEq, Eq)]
 pub enum CommandFault {
-    /// The input failed, or was interrupted without end.
+    /// A read of the input failed, or was interrupted too often.
     CannotRead,
-    /// The output took no more.
+    /// A write to the output failed.
     CannotWrite,
-    /// Memory was refused.
+    /// An allocation failed.
     OutOfMemory,
 }
 
 impl CommandFault {
     ghost use Rattle.iim_output.specs.Format.{fault_line};
 
-    /// The line that tells it.
+    /// Returns the line that the command prints.
     pub fn line(self) -> &'static str
         ensures { result.now ≡ fault_line self }
     {
@@ -33,7 +33,7 @@ impl CommandFault {
     }
 }
 
-/// Writes its line, without the line end.
+/// Writes the line without its LF.
 impl Display for CommandFault {
     fn fmt<W: fmt::Write>(&self, f: &mut Formatter<W>) -> fmt::Result {
         f.write_str(match self {

@@ -1,4 +1,4 @@
-//! Octets that were taken and are not out yet.
+//! Octets that are buffered for a target.
 
 ghost use Rattle.std.specs.Prelude.{◌≡◌, ◌≤◌, ◌+◌, [], ◌++◌, length, drop, IfOk};
 
@@ -7,13 +7,13 @@ use iim_dataset::internals::ReservedOctets;
 use std::alloc::{AllocError, Global};
 use std::marker::Model;
 
-/// Octets that were taken and are not out yet, in one block of memory. Contracts see it as the octets, and how many more there is room
-/// for.
+/// A buffer of one block of octets that are not written yet. Contracts see it as these octets and
+/// the capacity for more.
 #[derive(Drop)]
 pub(crate) struct Held {
-    /// What was taken.
+    /// The octets that were consumed since the last `clear`.
     block: ReservedOctets,
-    /// How many of it are out.
+    /// The number of these octets that are written.
     out: usize,
 }
 
@@ -29,7 +29,7 @@ impl Model for Held {
         × (h.block.room ≡ 4096) };
 }
 
-/// Takes octets, for which there is room: a single one without a call.
+/// Appends octets, which must fit. A single octet is appended without a call that copies a slice.
 #[inline(always)]
 fn take(block: &mut ReservedOctets, more: &[u8])
     requires { length block.old.items + length more.now ≤ block.old.room }
@@ -43,7 +43,7 @@ fn take(block: &mut ReservedOctets, more: &[u8])
 }
 
 impl Held {
-    /// None. An error says that memory was refused.
+    /// Creates an empty buffer. Returns an error if the allocation fails.
     pub(crate) fn new(alloc: Global) -> Result<Held, AllocError>
         ensures { IfOk result (λ held. held.octets ≡ []) }
     {
@@ -54,21 +54,21 @@ impl Held {
         Ok(held)
     }
 
-    /// The octets.
+    /// Returns the octets that are not written yet.
     pub(crate) fn octets(&self) -> &[u8]
         ensures { result.now ≡ self.now.octets }
     {
         &self.block.as_slice()[self.out..]
     }
 
-    /// How many more there is room for.
+    /// Returns the number of octets that still fit.
     pub(crate) fn room(&self) -> usize
         ensures { result ≡ self.now.room }
     {
         self.block.room() - self.block.len()
     }
 
-    /// Takes octets, for which there is room.
+    /// Appends octets, which must fit.
     #[inline(always)]
     pub(crate) fn take(&mut self, more: &[u8])
         requires { length more.now ≤ self.old.room }
@@ -77,7 +77,7 @@ impl Held {
         take(&mut self.block, more);
     }
 
-    /// Passes over the first of the octets, which are out.
+    /// Skips the first `out` octets, which are written.
     pub(crate) fn pass(&mut self, out: usize)
         requires { out ≤ length self.old.octets }
         ensures { self.new.octets ≡ drop out self.old.octets }
@@ -85,7 +85,7 @@ impl Held {
         self.out += out;
     }
 
-    /// Drops the octets, and keeps the room.
+    /// Removes all octets. The memory is kept.
     pub(crate) fn clear(&mut self)
         ensures { self.new.octets ≡ [] }
     {

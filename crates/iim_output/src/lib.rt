@@ -1,11 +1,12 @@
-//! What the commands write with, whatever they read: lines, output in blocks, faults and statuses.
+//! Output of the commands: lines, buffered output, errors and exit statuses.
 //!
-//! [`block_writer::BlockWriter`] holds octets until a block of them is full, [`outlet::Outlet`] is a sink that lets out what it holds,
-//! [`lines`] has the lines that all commands tell, [`fault::CommandFault`] is why one could not be carried out, and
-//! [`limits::LIMITS`] what they take of an envelope.
+//! [`block_writer::BlockWriter`] buffers octets up to a block, and [`outlet::Outlet`] is a sink
+//! that can be flushed. [`lines`] has the lines that all commands print, [`fault::CommandFault`]
+//! the errors of a command, and [`limits::LIMITS`] the limits on an envelope.
 //!
-//! Stands on `iim_places`, which tells refusals, on `iim_script` for printed text, and on the crates below them; it knows no unpacker.
-//! The crates of the single commands stand on it: `iim_listing`, `iim_pack_script` and `iim_commands`.
+//! Depends on `iim_places` for refusals, on `iim_script` for escaped text, and on the crates below
+//! them, but on no unpacker. The crates `iim_listing`, `iim_pack_script` and `iim_commands` depend
+//! on it.
 #![tactic(auto)]
 
 pub mod block_writer;

@@ -1,6 +1,6 @@
-//! What the commands take of an envelope.
+//! The limits of the commands on an envelope.
 
 use iim_fields::Limits;
 
-/// What the records 1 and 2 of an envelope may have.
+/// The limits on records 1 and 2 of an envelope.
 pub const LIMITS: Limits = Limits::WIRE;

@@ -15,14 +15,14 @@ use iim_script::{push_printed, write_word};
 use itoa::write_digits;
 use std::alloc::AllocError;
 
-/// The line in place of that of one envelope too many.
+/// The line that replaces the line of the first envelope beyond the limit.
 pub const TOO_MANY: &str = "too many envelopes\n";
 
-/// Writes a text.
+/// Writes a text to a target, unbuffered.
 pub fn say<W: Target>(output: &mut W, text: &[u8]) -> Result<(), CommandFault>
     ensures ok { OnOk result (Wrote (W.state output.old) (W.state output.new) text.now) }
     ensures err { IfErr result (FailsToSay (W.state output.old) (W.state output.new) text.now) }
-    // A million interruptions at most for each octet of the text.
+    // At most a million interruptions for each octet of the text.
     ensures patience { WithinInterruptionLimit (length text.now) (W.state output.old) (W.state output.new) }
 {
     match put(output, text) {
@@ -31,7 +31,7 @@ pub fn say<W: Target>(output: &mut W, text: &[u8]) -> Result<(), CommandFault>
     }
 }
 
-/// Adds a text to what is written in blocks.
+/// Appends a text to buffered output.
 pub fn add<W: Target>(output: &mut BlockWriter<'_, W>, text: &[u8]) -> Result<(), CommandFault>
     ensures ok { OnOk result (HasPut W.state output.old output.new text.now) }
     ensures err { IfErr result (FailsToAdd W.state output.old output.new text.now) }
@@ -42,7 +42,7 @@ pub fn add<W: Target>(output: &mut BlockWriter<'_, W>, text: &[u8]) -> Result<()
     }
 }
 
-/// Adds a text to what is written in blocks, and lets out all.
+/// Appends a text to buffered output, and flushes it.
 pub fn add_last<W: Target>(output: &mut BlockWriter<'_, W>, text: &[u8]) -> Result<(), CommandFault>
     ensures ok { OnOk result (HasPut W.state output.old output.new text.now) }
     ensures held { OnOk result (HoldsNothing output.new) }
@@ -56,10 +56,11 @@ pub fn add_last<W: Target>(output: &mut BlockWriter<'_, W>, text: &[u8]) -> Resu
     }
 }
 
-/// Writes a text, and answers the status, or that of a fault where it can't be written.
+/// Writes a text to a target. Returns `status`, or the status of a failure if the text cannot be
+/// written.
 pub fn tell<E: Target>(errors: &mut E, text: &[u8], status: u8) -> u8
     ensures said { IsSaid (E.state errors.old) (E.state errors.new) text.now status result }
-    // As of `say`.
+    // As for `say`.
     ensures patience { WithinInterruptionLimit (length text.now) (E.state errors.old) (E.state errors.new) }
 {
     match put(errors, text) {
@@ -68,10 +69,11 @@ pub fn tell<E: Target>(errors: &mut E, text: &[u8], status: u8) -> u8
     }
 }
 
-/// The most octets of the line of an accepted envelope, or more: two numbers of up to 20 digits, and 18 octets.
+/// The capacity for the line of an accepted envelope. The longest line has two numbers of 20
+/// digits, and 18 octets.
 const LINE: usize = 64;
 
-/// Adds the line of an accepted envelope.
+/// Appends the line of an accepted envelope: its number, and its length in octets.
 pub fn push_accepted(text: &mut Vec<u8>, number: u64, used: u64) -> Result<(), AllocError>
     ensures { OnOk result (text.new.items ≡ text.old.items ++ accepted_line number used) }
 {
@@ -83,7 +85,7 @@ pub fn push_accepted(text: &mut Vec<u8>, number: u64, used: u64) -> Result<(), A
     text.extend_from_slice(&line[number_at..])
 }
 
-/// Adds the line of octets that are refused.
+/// Appends the line of a refusal.
 pub fn push_refused(text: &mut Vec<u8>, number: u64, refusal: Refusal) -> Result<(), AllocError>
     ensures { OnOk result (text.new.items ≡ text.old.items ++ refused_line number refusal) }
 {

@@ -1,19 +1,19 @@
-//! Sinks that let out what they hold before their reader waits.
+//! Sinks that are flushed before their reader waits for input.
 
 ghost use Rattle.std.specs.Prelude.{◌≡◌, [], OnOk, OnErr};
 
 use iim_dataset::Stop;
 use wire_story::StorySink;
 
-/// A sink that may hold octets, and lets them out when it is told to.
+/// A sink that may buffer octets, and writes them when it is flushed.
 pub trait Outlet: StorySink {
-    /// It holds nothing.
+    /// The buffer is empty.
     ghost settled: { Self → Type 0 };
 
-    /// From one value to another by a failure to let out what was held.
+    /// How a value changes if a flush fails.
     ghost stuck: { Self → Self → Type 0 };
 
-    /// Lets out all that it holds. At an error some of it stays.
+    /// Writes all buffered octets. After an error some of them remain buffered.
     fn let_out(&mut self) -> Result<(), Stop>
         ensures told { OnOk result (Self.goes self.old [] self.new) }
         ensures calm { OnOk result (Self.failures self.new ≡ Self.failures self.old) }

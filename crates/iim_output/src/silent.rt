@@ -1,4 +1,4 @@
-//! A sink that passes over the text of a story.
+//! A sink that discards the text of a story.
 
 ghost use Rattle.std.specs.Prelude.{[]};
 
@@ -7,7 +7,7 @@ use crate::outlet::Outlet;
 use iim_dataset::{Stop, Target};
 use wire_story::StorySink;
 
-/// Passes over the text of a story, and lets out what a writer holds.
+/// Discards the text of a story. It flushes the writer, which the lines of the listing go to.
 #[derive(Drop)]
 pub struct Silent<'w, W> {
     /// The writer.

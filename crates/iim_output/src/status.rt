@@ -1,13 +1,13 @@
-//! The statuses that the program ends with.
+//! The exit statuses of the program.
 
 /// All envelopes were accepted.
 pub const ACCEPTED: u8 = 0;
 
-/// Octets were refused, or there were too many envelopes.
+/// Octets were rejected, or there were too many envelopes.
 pub const REFUSED: u8 = 1;
 
-/// The arguments ask for nothing.
+/// The arguments are invalid.
 pub const USAGE: u8 = 2;
 
-/// A file, output or memory fault.
+/// A failure of a file, of the output or of an allocation.
 pub const FAILED: u8 = 3;

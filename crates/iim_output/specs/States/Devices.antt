@@ -1,13 +1,13 @@
--- The devices of a run.
+-- The input and the outputs of a run.
 use Rattle.std.specs.Prelude.{◌≡◌, ⊤, List, ℕ, Option, Some, None}
 use Rattle.iim_dataset.specs.States.Devices.{Device}
 
--- The octets of a device, where they are known, are these.
+-- The octets of a reader or writer, if they are known, are these.
 abbrev pub HasOctets : Option (List ℕ) → List ℕ → Type 0
 HasOctets None octets = ⊤
 HasOctets (Some known) octets = known ≡ octets
 
--- the three devices of a run
+-- the input, the output and the error output of a run
 pub record Devices : Type 0 where
   pub input : Device
   pub output : Device

@@ -1,7 +1,7 @@
--- Octets that were taken and are not out yet.
+-- Octets that are buffered for a target.
 use Rattle.std.specs.Prelude.{ℕ, List}
 
--- the octets, and how many more there is room for
+-- the octets, and the capacity for more
 pub record Holding : Type 0 where
   pub octets : List ℕ
   pub room : ℕ

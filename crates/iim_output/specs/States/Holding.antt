@@ -1,4 +1,5 @@
--- A writer of blocks: what it holds, and what is out; and a sink that passes over the text of a story.
+-- A buffered writer: what it has buffered, and what it has written; and a sink that discards the
+-- text of a story.
 use Rattle.std.specs.Prelude.{◌≡◌, ℕ, ◌+◌, ◌<◌, List, [], ◌++◌, length, map}
 use Rattle.iim_dataset.specs.States.Devices.{Device, Wrote, BrokeAfter, WithinInterruptionLimit}
 use Rattle.iim_dataset.specs.Format.Octets.{Rose}
@@ -7,24 +8,25 @@ pub use Rattle.iim_output.specs.declared.block_writer.BlockWriter.{BlockWriter}
 use Rattle.iim_output.specs.declared.silent.Silent.{Silent}
 use Rattle.iim_output.specs.Format.{CommandFault, CannotWrite}
 
--- what it has taken and not let out
+-- what it has consumed and not written
 abbrev pub held_of : {W : Type 0} → BlockWriter W → List ℕ
 held_of b = b.held.octets
 
--- what it writes to, as a device
+-- the target that it writes to
 abbrev pub device_of : {W : Type 0} → (W → Device) → BlockWriter W → Device
 device_of state b = state b.writer.now
 
--- how often it stopped
+-- the number of its failed writes
 abbrev pub stops_of : {W : Type 0} → BlockWriter W → ℕ
 stops_of b = b.stops
 
--- It still writes to the target that it was lent.
+-- It still writes to the target that it borrowed.
 abbrev pub KeepsWriter : {W : Type 0} → BlockWriter W → BlockWriter W → Type 0
 KeepsWriter old new = new.writer.ghost_name ≡ old.writer.ghost_name
 
--- A text was taken, and no write failed: of what was held and the text a front is out, and the rest is held. A million interruptions at
--- most came for each octet that is out.
+-- A text was consumed, and no write failed: a prefix of the buffered octets and the text is
+-- written, and the rest is buffered. There were at most a million interruptions for each octet
+-- that is written.
 pub record HasPut {W : Type 0} (state : W → Device) (old new : BlockWriter W) (text : List ℕ) : Type 0 where
   pub out : List ℕ
   pub same : KeepsWriter old new
@@ -32,8 +34,9 @@ pub record HasPut {W : Type 0} (state : W → Device) (old new : BlockWriter W) 
   pub wrote : Wrote (device_of state old) (device_of state new) out
   pub patience : WithinInterruptionLimit (length out) (device_of state old) (device_of state new)
 
--- A text was taken, and a write failed: of what was held and the text a front is out, and the rest is held. A million interruptions at
--- most came for each octet that is out, and for the next.
+-- A text was consumed, and a write failed: a prefix of the buffered octets and the text is
+-- written, and the rest is buffered. There were at most a million interruptions for each octet
+-- that is written, and for the next.
 pub record HasStuck {W : Type 0} (state : W → Device) (old new : BlockWriter W) (text : List ℕ) : Type 0 where
   pub out : List ℕ
   pub same : KeepsWriter old new
@@ -41,27 +44,28 @@ pub record HasStuck {W : Type 0} (state : W → Device) (old new : BlockWriter W
   pub broke : BrokeAfter (device_of state old) (device_of state new) out
   pub patience : WithinInterruptionLimit (length out + 1) (device_of state old) (device_of state new)
 
--- A failure to let out what is held leaves some of it, and is counted.
+-- A failure of a flush leaves some octets buffered, and is counted.
 abbrev pub StaysStuck : {W : Type 0} → (W → Device) → BlockWriter W → BlockWriter W → Type 0
 StaysStuck state old new = HasStuck state old new [] × (0 < length (held_of new)) × Rose (stops_of old) (stops_of new)
 
--- A text was taken: of what was held and the text a front went out, and the rest is held.
+-- A text was consumed: a prefix of the buffered octets and the text was written, and the rest is
+-- buffered.
 pub record PutsOn {W : Type 0} (state : W → Device) (old new : BlockWriter W) (text : List ℕ) : Type 0 where
   pub out : List ℕ
   pub same : KeepsWriter old new
   pub parts : held_of old ++ text ≡ out ++ held_of new
   pub writes : WritesOn (device_of state old) (device_of state new) (stops_of old) (stops_of new) out
 
--- It was told these events, and took the octets for them.
+-- These events were passed to it, and it consumed their octets.
 abbrev pub PutsLines : {W : Type 0} → (W → Device) → BlockWriter W → List StoryEvent → BlockWriter W → Type 0
 PutsLines state old events new = PutsOn state old new (map octet_for events)
 
--- It holds nothing.
+-- Its buffer is empty.
 abbrev pub HoldsNothing : {W : Type 0} → BlockWriter W → Type 0
 HoldsNothing b = held_of b ≡ []
 
--- Of what was held and a text a front is out, and not all, since a write failed. A million interruptions at most came for each octet that
--- is out, and for the next.
+-- A proper prefix of the buffered octets and a text is written, since a write failed. There were
+-- at most a million interruptions for each octet that is written, and for the next.
 pub record IsCutShort {W : Type 0} (state : W → Device) (old new : BlockWriter W) (text : List ℕ) : Type 0 where
   pub out : List ℕ
   pub rest : List ℕ
@@ -71,17 +75,17 @@ pub record IsCutShort {W : Type 0} (state : W → Device) (old new : BlockWriter
   pub broke : BrokeAfter (device_of state old) (device_of state new) out
   pub patience : WithinInterruptionLimit (length out + 1) (device_of state old) (device_of state new)
 
--- The output broke inside the text.
+-- A write failed inside the text.
 abbrev pub FailsToAdd : {W : Type 0} → (W → Device) → BlockWriter W → BlockWriter W → List ℕ → CommandFault → Type 0
 FailsToAdd state old new text fault = (fault ≡ CannotWrite) × IsCutShort state old new text
 
--- ---- A sink that passes over the text of a story.
+-- ---- A sink that discards the text of a story.
 
--- Whatever it was told, its writer took nothing more.
+-- Whatever was passed to it, its writer consumed nothing more.
 abbrev pub PassesOver : {W : Type 0} → (W → Device) → Silent W → List StoryEvent → Silent W → Type 0
 PassesOver state old events new = HasPut state old.output new.output []
 
--- It refuses nothing.
+-- It stops at nothing.
 abbrev pub refuses_never : {W : Type 0} → Silent W → ℕ
 refuses_never sink = 0
 
