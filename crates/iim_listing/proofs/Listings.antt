@@ -27,14 +27,14 @@ text_after text es e count is =
     let next : count + 1 ≡ 1 + length es = omega arith in
     rw (next, texts_parts text es (e ∷ []) 1, append-nil (text (1 + length es) e)) refl
 
--- ---- the whole input, where some of it is left
+-- ---- the whole input, if the remaining octets are known
 
 consumes_holds : (old new : Option (List ℕ)) (xs more : List ℕ) → Consumes old new xs → HasOctets new more → HasOctets old (xs ++ more)
 consumes_holds None new xs more c h = tt
 consumes_holds (Some o) None xs more c h = absurd c
 consumes_holds (Some o) (Some n) xs more c h = cc
 
--- what is left, where it is known
+-- the remaining octets, if they are known
 pub left_of : (known : Option (List ℕ)) → (more : List ℕ) × HasOctets known more
 left_of None = ([], tt)
 left_of (Some xs) = (xs, refl)
@@ -53,7 +53,7 @@ refused_later begun more k e d =
       kills = rw (front, get_or-append begun more 0 k d.within) d.kills;
     }
 
--- a refusal of octets that came is one of all that stands after the envelopes
+-- a refusal of octets that were read is one of all octets after the envelopes
 pub ends_refused : {S : Type 0} {goes : S → List StoryEvent → S → Type 0} {mid rest : Device} {a b : S} {e : Refusal} (r : IsRefusal goes mid rest a b e)
     → (more : List ℕ) × HasOctets rest.octets more × IsRefusedAfter limits (r.octets ++ more) r.k e
 ends_refused {rest = rest} {e = e} r = elim r.refused [
@@ -66,7 +66,7 @@ ends_refused {rest = rest} {e = e} r = elim r.refused [
 pub none_taken : GiftsJoin → (source : Device) → AreTaken source source 0 [] []
 none_taken joins source = record { divides = record { admitted = tt; parts = refl; few = omega arith }; given = joins.none source; counted = refl }
 
--- other octets after them, which came or did not
+-- other octets after them, read or not
 pub divided : {source rest : Device} {count : ℕ} {es : List Listed} {begun : List ℕ} → AreTaken source rest count es begun → (more : List ℕ)
     → Divides limits (joined es ++ more) es more
 divided t more = record { admitted = t.divides.admitted; parts = refl; few = t.divides.few }
@@ -83,7 +83,7 @@ taken_then {source} {mid} {es = es} joins t rest begun given = record {
   counted = t.counted;
 }
 
--- an envelope more
+-- one more envelope
 pub taken_more : {source rest : Device} {count : ℕ} {es : List Listed} {e : Listed} → AreTaken source rest count es e.octets → IsListed limits e
     → (count ≡ max_envelopes → ⊥) → AreTaken source rest (count + 1) (es ++ e ∷ []) []
 taken_more {es = es} {e = e} t is below =
@@ -98,7 +98,7 @@ taken_more {es = es} {e = e} t is below =
       counted = omega (arith, t.counted, longer);
     }
 
--- the whole input, where more of it is left
+-- the whole input, with its remaining octets
 pub whole : {source rest : Device} {count : ℕ} {es : List Listed} {begun : List ℕ} → AreTaken source rest count es begun → (more : List ℕ)
     → HasOctets rest.octets more → HasOctets source.octets (joined es ++ (begun ++ more))
 whole {source} {rest} {es = es} {begun = begun} t more left =
@@ -110,7 +110,7 @@ pub none_listed : {W : Type 0} (state : W → Device) → GiftsJoin → (text : 
     → AreListed state text source source old old 0
 none_listed state joins text source old fresh = record { envelopes = []; taken = none_taken joins source; fresh = fresh; put = put_nothing state old }
 
--- the output broke inside a text of the listing
+-- a write failed inside a text of the listing
 broke_in : {W : Type 0} {state : W → Device} {source rest : Device} {old new : BlockWriter W} {count : ℕ} {es : List Listed} {begun : List ℕ}
     (text : ℕ → Listed → List ℕ) → AreTaken source rest count es begun → HoldsNothing old → (words : List ℕ) → IsListingText text es begun words
     → IsCutShort state old new words → FailsToList state text source rest old new CannotWrite × KeepsWriter old new
@@ -122,7 +122,7 @@ module _ {W : Type 0} {state : W → Device} {text : ℕ → Listed → List ℕ
   put_then : {new : BlockWriter W} (line : List ℕ) → HasPut state now new line → HasPut state old new (texts_from text 1 r.envelopes ++ line)
   put_then {new} line put = put_on state old now new (texts_from text 1 r.envelopes) line r.put put
 
-  -- what was held was let out
+  -- the buffer was flushed
   put_still : {new : BlockWriter W} → HasPut state now new [] → HasPut state old new (texts_from text 1 r.envelopes)
   put_still out = rw append-nil at (put_then [] out)
 
@@ -135,7 +135,7 @@ module _ {W : Type 0} {state : W → Device} {text : ℕ → Listed → List ℕ
 
 module _ {W : Type 0} {state : W → Device} {text : ℕ → Listed → List ℕ} {source mid : Device} {old now : BlockWriter W} {count : ℕ}
     (joins : GiftsJoin) (r : AreListed state text source mid old now count) where
-  -- an envelope more
+  -- one more envelope
   pub listed_more : {new : BlockWriter W} (rest : Device) (line : List ℕ) (e : Listed) → IsListed limits e → HasGiven mid rest e.octets
       → (count ≡ max_envelopes → ⊥) → line ≡ text (count + 1) e → HasPut state now new line → AreListed state text source rest old new (count + 1)
   listed_more rest line e is given below words put = record {
@@ -145,7 +145,7 @@ module _ {W : Type 0} {state : W → Device} {text : ℕ → Listed → List ℕ
     put = rw (← text_after text r.envelopes e count r.taken.counted, ← words) (put_then r line put);
   }
 
-  -- the listing is out
+  -- the listing is written
   pub listed : {new : BlockWriter W} (rest : Device) (status : ℕ) (begun more line : List ℕ) (ending : InputEnding) → HasGiven mid rest begun
       → HasOctets rest.octets more → EndsBy limits count (begun ++ more) ending → status ≡ status_of ending → line ≡ ending_line count ending
       → HasPut state now new line → HoldsNothing new → WritesListing text source rest (device_of state old) (device_of state new) status × KeepsWriter old new
@@ -157,12 +157,12 @@ module _ {W : Type 0} {state : W → Device} {text : ℕ → Listed → List ℕ
       let ends = rw t.counted at ends in
       ((_, r.envelopes, ending, whole t more left, t.given.1, record { rest = begun ++ more; divides = divides; ends = ends }, is, out), put.same)
 
-  -- ---- the listing isn't out
+  -- ---- the listing is not complete
 
   pub starved : (rest : Device) (begun : List ℕ) → HasGiven mid rest begun → FailsToList state text source rest old now OutOfMemory × KeepsWriter old now
   starved rest begun given = let t = taken_then joins r.taken rest begun given in ((_, r.envelopes, begun, t.divides, t.given, r.put), r.put.same)
 
-  -- the output broke inside the last line
+  -- a write failed inside the last line
   pub unended : TextsJoin → (rest : Device) (new : BlockWriter W) (begun line : List ℕ) (ending : InputEnding) (fault : CommandFault) → HasGiven mid rest begun
       → EndsBy limits count begun ending → line ≡ ending_line count ending → FailsToAdd state now new line fault
       → FailsToList state text source rest old new fault × KeepsWriter old new
@@ -172,7 +172,7 @@ module _ {W : Type 0} {state : W → Device} {text : ℕ → Listed → List ℕ
       let all : front ++ line ≡ front ++ ending_line (length r.envelopes) ending = ap (λ (w : List ℕ). front ++ w) (last_line r line ending words) in
       rw unsaid.0 (broke_in text (taken_then joins r.taken rest begun given) r.fresh (front ++ line) (inr (ending, rw r.taken.counted at ends, all)) cut)
 
-  -- the output broke inside the text of an envelope
+  -- a write failed inside the text of an envelope
   pub unsaid_of : TextsJoin → (rest : Device) (new : BlockWriter W) (line : List ℕ) (e : Listed) (fault : CommandFault) → IsListed limits e
       → HasGiven mid rest e.octets → (count ≡ max_envelopes → ⊥) → line ≡ text (count + 1) e → FailsToAdd state now new line fault
       → FailsToList state text source rest old new fault × KeepsWriter old new
@@ -186,7 +186,7 @@ rises : Rose 0 0 → ⊥
 rises (inl e) = omega (arith, e)
 rises (inr h) = omega (arith, h.0)
 
--- nothing comes next
+-- there is no next item
 pub failed : {W : Type 0} {state : W → Device} {text : ℕ → Listed → List ℕ} {source : Device} {old : BlockWriter W} {count : ℕ} → GiftsJoin → TextsJoin
     → (mid rest : Device) (v : Unpacking) (a b : Silent W) (fault : CommandFault) → AreListed state text source mid old a.output count
     → IsNext (λ old events new. HasPut state old.output new.output []) (λ sink. 0) (λ sink. HoldsNothing sink.output)
@@ -204,7 +204,7 @@ failed {state = state} {text = text} {old = old} joins texts mid rest v a b Cann
     broke_in text (taken_then joins r.taken rest u.octets u.came.given) r.fresh words (inl refl) cut
 failed joins texts mid rest v a b OutOfMemory r c = absurd c
 
--- ---- what was held is let out at the end
+-- ---- the buffer is flushed at the end
 
 pub settled_starved : {W : Type 0} (state : W → Device) → TextsJoin → (text : ℕ → Listed → List ℕ) (source rest : Device) (a b c : BlockWriter W)
     (answer result : Result ℕ CommandFault) → HoldsNothing a → IfErr answer (FailsToList state text source rest a b) → Settles state b c answer result
@@ -220,7 +220,7 @@ settled_starved state texts text source rest a b c (Err OutOfMemory) result empt
 settled_starved state texts text source rest a b c (Err CannotRead) result empty err s = rw (s.0, s.1) err
 settled_starved state texts text source rest a b c (Err CannotWrite) result empty err s = rw (s.0, s.1) err
 
--- memory was short before anything was read
+-- the allocation failed before anything was read
 pub nothing_listed : GiftsJoin → TextsJoin → (text : ℕ → Listed → List ℕ) (source old new : Device) → new ≡ old
     → FailsListing text source source old new OutOfMemory
 nothing_listed joins texts text source old new same =

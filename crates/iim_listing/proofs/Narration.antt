@@ -21,7 +21,7 @@ use Rattle.iim_listing.specs.Steps.{HoldsLines, IsSettled, FailsToEnd, Stands}
 use Rattle.iim_listing.specs.Laws.{EnvelopesAreDeliveredAsLines}
 use Rattle.iim_listing.proofs.Listings.{divided, missed_after, none_taken, taken_more, taken_then, texts_parts, whole}
 
--- ---- what is delivered of an envelope
+-- ---- the text of an envelope
 
 pub delivered_lines : OctetsAreHandedOnOneWay → EventsTellTheDatasets → TextsStandBetweenStxAndEtx → TextsAreDeliveredAsLines → EnvelopesAreDeliveredAsLines
 delivered_lines way tell between lines octets v more a (text, (whole, begun, reads, is), told) =
@@ -35,14 +35,14 @@ delivered_lines way tell between lines octets v more a (text, (whole, begun, rea
     between (object_of a.datasets) a.text (AfterEnd v.head (record { items = v.trailer }) (length a.message.after)) (leads_to octets v a) in
     told ∙ ap delivered (is ∙ ap text_so_far object ∙ sym found) ∙ lines a.text v.lines a.lines
 
--- the words that a sink wrote of an envelope
+-- the octets that a sink wrote for an envelope
 envelope_text : EnvelopesAreDeliveredAsLines → LinesAreJoinedByLineFeeds → (e : Listed) (more : List StoryEvent) → IsListed limits e
     → IsDelivered e.octets more → map octet_for more ≡ text_of e
 envelope_text law joins e more is d = rw (law e.octets e.value more is.admits d) (joins e.value.lines)
 
 -- ---- where octets end among stories
 
--- Of two texts the first is out whole, or only a front of it.
+-- Of two texts the first is written completely, or only a part of it.
 meets : (xs out more left : List ℕ) → xs ++ more ≡ out ++ left
     → ((r : List ℕ) × (out ≡ xs ++ r) × (more ≡ r ++ left)) ⊎ ((r : List ℕ) × (xs ≡ out ++ r) × (0 < length r))
 meets [] out more left is = inl (out, refl, is)
@@ -54,7 +54,7 @@ meets (x ∷ xs) (o ∷ out) more left is =
       | inr h ↦ inr (h.0, (let p = h.1 in cc), h.2)
     ]
 
--- all of a list but its last, where some is left
+-- all of a list except its last element, if some octets remain
 but_last : (xs out rest : List ℕ) (x : ℕ) → xs ++ (x ∷ []) ≡ out ++ rest → 0 < length rest → (left : List ℕ) × (xs ≡ out ++ left)
 but_last xs [] rest x is some = (xs, refl)
 but_last [] (o ∷ []) [] x is some = absurd (omega (arith, some))
@@ -65,7 +65,8 @@ but_last (y ∷ xs) (o ∷ out) rest x is some =
     let (left, less) = but_last xs out rest x tail some in
     (left, cc)
 
--- Of stories and words all stories are out and a front of the words; or the stories of some, and a front of the next one's text.
+-- Of stories and words all stories are written and a prefix of the words; or the stories of the
+-- first envelopes, and a prefix of the next one's text.
 abbrev Reach : List Listed → ℕ → List ℕ → List ℕ → List ℕ → Type 0
 Reach es n words out left = ((w : List ℕ) × (out ≡ texts_from story_of n es ++ w) × (words ≡ w ++ left))
     ⊎ ((f : List Listed) × (e : Listed) × (g : List Listed) × (w : List ℕ) × (rest : List ℕ) × (es ≡ f ++ e ∷ g) × (out ≡ texts_from story_of n f ++ w)
@@ -84,19 +85,19 @@ reach (e ∷ es) n words out left is =
       | inr (r, at, some) ↦ (let (left, less) = but_last (text_of e) out r 10 at some in inr ([], e, es, out, left, refl, refl, less))
     ]
 
--- ---- what was told
+-- ---- the lines that were written
 
 parts_of : (text : ℕ → Listed → List ℕ) (told others es : List Listed) → es ≡ told ++ others
     → texts_from text 1 told ++ texts_from text (1 + length told) others ≡ texts_from text 1 es
 parts_of text told others es is = rw is (sym (texts_parts text told others 1))
 
--- nothing was held before: a front of the text is out
+-- nothing was buffered before: a prefix of the text is written
 front_of : {W : Type 0} (state : W → Device) (a d : BlockWriter W) (text : List ℕ) → HoldsNothing a → (w : PutsOn state a d text) → text ≡ w.out ++ held_of d
 front_of state a d text before w = sym (ap (λ (t : List ℕ). t ++ text) before) ∙ w.parts
 
 module _ {W : Type 0} {ws : W → Device} {first output : BlockWriter W} {errors_old errors : Device} {es : List Listed} {words lines : List ℕ}
     (s : Stands ws first errors_old es words output errors lines) where
-  -- the writer took more
+  -- the writer consumed more
   stands_on : {next : BlockWriter W} (more : List ℕ) → PutsOn ws output next more → Stands ws first errors_old es (words ++ more) next errors lines
   stands_on {next} more put = record {
     fresh = s.fresh;
@@ -114,22 +115,22 @@ module _ {W : Type 0} {ws : W → Device} {first output : BlockWriter W} {errors
     held = s.held;
   }
 
-  -- or nothing more
+  -- the writer consumed nothing more
   stands_still : {next : BlockWriter W} → PutsOn ws output next [] → Stands ws first errors_old es words next errors lines
   stands_still put = rw append-nil at (stands_on [] put)
 
-  -- all that it took
+  -- all that it consumed
   all_put : PutsOn ws first output (stories es ++ words)
   all_put =
       let later = texts_from story_of (1 + length s.told) s.others in
       rw (← parts_of story_of s.told s.others es s.parts, append_assoc (stories s.told) later words, s.texts, ← append_assoc (stories s.told) s.begun s.rest)
       (puts_on ws first s.mark output (stories s.told ++ s.begun) s.rest s.before s.after)
 
-  -- and all lines
+  -- all lines
   all_said : texts_from line_of 1 s.told ++ lines ≡ texts_from line_of 1 es
   all_said = rw s.held (parts_of line_of s.told s.others es s.parts)
 
-  -- the lines went out when nothing was held
+  -- the lines were written when nothing was buffered
   stands_marked : {left : List ℕ} → TextsJoin → HoldsNothing output → (now : Device) → Wrote errors now lines → left ≡ []
       → Stands ws first errors_old es words output now left
   stands_marked texts empty now wrote none = record {
@@ -148,7 +149,7 @@ module _ {W : Type 0} {ws : W → Device} {first output : BlockWriter W} {errors
     held = none;
   }
 
-  -- nothing is held, so all is out on both
+  -- nothing is buffered, so all is written to both targets
   stories_out : HoldsNothing output → writer_stops output ≡ 0 → Wrote (device_of ws first) (device_of ws output) (stories es ++ words)
   stories_out empty none =
       let w = all_put in
@@ -159,7 +160,7 @@ module _ {W : Type 0} {ws : W → Device} {first output : BlockWriter W} {errors
   lines_out : lines ≡ [] → Wrote errors_old errors (texts_from line_of 1 es)
   lines_out none = rw (rw (none, append-nil) at all_said) at s.said
 
--- a narrator was told more
+-- more events were passed to a story writer
 stands_told : {W E : Type 0} {ws : W → Device} {es : E → Device} {first : BlockWriter W} {errors_old : Device} {envelopes : List Listed} {words : List ℕ}
     {a b : Narrator W E} {events : List StoryEvent} → TextsJoin → Stands ws first errors_old envelopes words a.output (errors_of es a) a.lines.items
     → TellsOn ws es a events b → Stands ws first errors_old envelopes (words ++ map octet_for events) b.output (errors_of es b) b.lines.items
@@ -171,7 +172,7 @@ stands_told {es = es} {words = words} {a = a} {b = b} {events = events} texts s 
       (stands_on marked (map octet_for u.then) u.after)
 ]
 
--- the story of an envelope is taken, and its line held
+-- the story of an envelope is consumed, and its line buffered
 stands_ended : {W : Type 0} {ws : W → Device} {first output : BlockWriter W} {errors_old errors : Device} {es : List Listed} {lines : List ℕ} (e : Listed)
     (line : List ℕ) → Stands ws first errors_old es (text_of e ++ 10 ∷ []) output errors lines → line ≡ line_of (length es + 1) e
     → Stands ws first errors_old (es ++ e ∷ []) [] output errors (lines ++ line)
@@ -225,7 +226,8 @@ none_narrated ws es joins texts source n settled none = record {
 abbrev pub HasText : Listed → Type 0
 HasText e = IsTextIn e.octets (text_of e)
 
--- After envelopes octets came, and the narrator was told the text in the first k of them. It writes to the same targets.
+-- After envelopes these octets were read, and the text of the first k of them was passed to the
+-- story writer. It writes to the same targets.
 pub record HasBegun {W E : Type 0} (ws : W → Device) (es : E → Device) (first : Narrator W E) (source rest : Device) (n : Narrator W E) (count : ℕ)
     (begun : List ℕ) (k : ℕ) (words : List ℕ) : Type 0 where
   pub envelopes : List Listed
@@ -254,7 +256,7 @@ module _ {W E : Type 0} {ws : W → Device} {es : E → Device} {first a : Narra
     keeps = (told.put.same ∙ r.keeps.0, told.keeps ∙ r.keeps.1);
   }
 
-  -- all octets of an envelope came, with its text
+  -- all octets of an envelope were read, with its text
   pub envelope_begun : {b : Narrator W E} {rest : Device} {v : Unpacking} {octets : ℕ} → EnvelopesAreDeliveredAsLines → LinesAreJoinedByLineFeeds
       → (h : EnvelopeHasCome (TellsOn ws es) mid rest v a b octets)
       → HasBegun ws es first source rest b count h.envelope.octets (length h.envelope.octets) (text_of h.envelope)
@@ -263,20 +265,20 @@ module _ {W E : Type 0} {ws : W → Device} {es : E → Device} {first a : Narra
       rw (← envelope_text law feeds h.envelope h.more h.is h.delivered)
       (has_begun rest octets (length octets) h.came.given h.came.told (omega arith) (rw take-length h.delivered))
 
-  -- octets were refused, and came with the text of those before the refused one
+  -- octets were read and rejected, with the text of those before the rejected one
   pub refused_begun : {b : Narrator W E} {rest : Device} {e : Refusal} → (f : IsRefusal (TellsOn ws es) mid rest a b e)
       → HasBegun ws es first source rest b count f.octets f.k (map octet_for f.more)
   refused_begun {rest = rest} {e = e} f = has_begun rest f.octets f.k f.came.given f.came.told (refused_within f.octets f.k e f.refused) f.delivered
 
--- what is written of them, and of all that stands after the envelopes
+-- what is written of them, and of all octets after the envelopes
 pub text_refused : {S : Type 0} {goes : S → List StoryEvent → S → Type 0} {mid rest : Device} {a b : S} {e : Refusal} (f : IsRefusal goes mid rest a b e)
     (more : List ℕ) → IsRefusedAfter limits (f.octets ++ more) f.k e → LeavesText (f.octets ++ more) (RefusedBy e) (map octet_for f.more)
 text_refused {e = e} f more is =
     (f.k, is, (f.more, rw (take-append-le f.k f.octets more (refused_within f.octets f.k e f.refused)) f.delivered, refl))
 
--- ---- the output broke
+-- ---- a write to the output failed
 
--- what stands after some of the envelopes that came
+-- the octets after the first envelopes
 divides_before : {input begun : List ℕ} {es : List Listed} → Divides limits input es begun → (front : List Listed) (e : Listed) (g : List Listed)
     → es ≡ front ++ e ∷ g → Divides limits input front (e.octets ++ (joined g ++ begun)) × IsListed limits e
 divides_before d front e g is =
@@ -301,11 +303,11 @@ rises : (i j : ℕ) → i ≡ 0 → Rose i j → 0 < j
 rises i j none (inl h) = omega (arith, none, h)
 rises i j none (inr h) = absurd (omega (arith, none, h.0, h.2))
 
--- The line is the one for what follows the envelopes, of which the words are written.
+-- The line is the one for what follows the envelopes, whose words are written.
 abbrev pub TellsEnd : ℕ → List ℕ → List ℕ → List ℕ → Type 0
 TellsEnd count begun words line = (ending : InputEnding) × EndsBy limits count begun ending × LeavesText begun ending words × (line ≡ ending_line count ending)
 
--- nothing is held
+-- nothing is buffered
 pub settled_out : {W E : Type 0} (ws : W → Device) (es : E → Device) → TextsJoin → (b : Narrator W E) → IsSettled b → LetsOut ws es b b []
 settled_out ws es texts b (empty, none) = record {
   text = (puts_nothing ws b.output, empty, refl);
@@ -313,14 +315,14 @@ settled_out ws es texts b (empty, none) = record {
   told = subst (λ (lines : List ℕ). Wrote (errors_of es b) (errors_of es b) (lines ++ [])) (sym none) (texts.none (errors_of es b));
 }
 
--- ---- what it comes to
+-- ---- the outcome
 
 module _ {W E : Type 0} {ws : W → Device} {es : E → Device} {first b : Narrator W E} {source rest : Device} {count k : ℕ} {begun words : List ℕ}
     (texts : TextsJoin) (h : HasBegun ws es first source rest b count begun k words) where
   kept : (d : Narrator W E) → KeepsTargets b d → KeepsTargets first d
   kept d keeps = (keeps.0 ∙ h.keeps.0, keeps.1 ∙ h.keeps.1)
 
-  -- all that was held was let out, and a line after it
+  -- all that was buffered was written, and a line after it
   all_out : {d : Narrator W E} {line : List ℕ} → stops_of b ≡ 0 → LetsOut ws es b d line
       → Wrote (output_of ws first) (output_of ws d) (stories h.envelopes ++ words)
       × Wrote (errors_of es first) (errors_of es d) (texts_from line_of 1 h.envelopes ++ line)
@@ -330,7 +332,7 @@ module _ {W E : Type 0} {ws : W → Device} {es : E → Device} {first b : Narra
       let said = texts.more (errors_of es first) (errors_of es b) (errors_of es d) told (b.lines.items ++ line) s.said l.told in
       (stories_out (stands_still s l.text.0) l.text.1 (l.text.2 ∙ none), rw (← append_assoc told b.lines.items line, all_said s) at said)
 
-  -- all is told
+  -- all stories are written
   pub narrated : {d : Narrator W E} (status : ℕ) (more line : List ℕ) (ending : InputEnding) → stops_of b ≡ 0 → LetsOut ws es b d line
       → HasOctets rest.octets more → EndsBy limits count (begun ++ more) ending → LeavesText (begun ++ more) ending words → status ≡ status_of ending
       → line ≡ ending_line count ending
@@ -356,7 +358,7 @@ module _ {W E : Type 0} {ws : W → Device} {es : E → Device} {first b : Narra
         kept d (l.text.0.same, l.keeps),
       )
 
-  -- the output broke inside a story, or inside the text in the octets
+  -- a write to the output failed inside a story, or inside the text of the octets
   broke_in_text : (d : Narrator W E) → PutsOn ws b.output d.output [] → KeepsTargets b d → errors_of es d ≡ errors_of es b
       → (k ≡ length begun → held_of d.output ≡ [] → (e : Listed) × IsListed limits e × (e.octets ≡ begun)) → 0 < stops_of d
       → FailsToNarrate source rest (output_of ws first) (output_of ws d) (errors_of es first) (errors_of es d) CannotWrite × KeepsTargets first d
@@ -422,7 +424,7 @@ module _ {W E : Type 0} {ws : W → Device} {es : E → Device} {first b : Narra
       let line_is = rw h.taken.counted at same in
       inr (ending, rw h.taken.counted at ends, leaves, rw line_is refl)
 
-  -- what was held is lost
+  -- what was buffered is lost
   lost : (d : Narrator W E) (line : List ℕ) → stops_of b ≡ 0 → (line ≡ []) ⊎ TellsEnd count begun words line → IsLost ws es b d line
       → FailsToNarrate source rest (output_of ws first) (output_of ws d) (errors_of es first) (errors_of es d) CannotWrite × KeepsTargets first d
   lost d line none why l = elim l.broke [
@@ -438,7 +440,7 @@ module _ {W E : Type 0} {ws : W → Device} {es : E → Device} {first b : Narra
         ((_, h.envelopes, begun, h.taken.divides, h.taken.given, inr (_, words, length told + n, told_with line why, out, broke)), kept d l.keeps)
   ]
 
-  -- a last line was not told, or nothing after what was held
+  -- a last line was not written, or nothing after what was buffered
   pub untold : (d : Narrator W E) (line : List ℕ) → stops_of b ≡ 0 → (line ≡ []) ⊎ TellsEnd count begun words line → (fault : CommandFault)
       → FailsToTell ws es b d line fault
       → FailsToNarrate source rest (output_of ws first) (output_of ws d) (errors_of es first) (errors_of es d) fault × KeepsTargets first d
@@ -448,7 +450,7 @@ module _ {W E : Type 0} {ws : W → Device} {es : E → Device} {first b : Narra
       let out = all_out none l in
       ((_, h.envelopes, begun, k, words, h.taken.divides, h.taken.given, h.is, out.0, rw append-nil at out.1), kept d (l.text.0.same, l.keeps))
 
--- the story of an envelope that came is ended
+-- the story of an envelope is ended
 pub narrated_more : {W E : Type 0} {ws : W → Device} {es : E → Device} {first b : Narrator W E} {source rest : Device} {count : ℕ} {e : Listed}
     → HasBegun ws es first source rest b count e.octets (length e.octets) (text_of e) → IsListed limits e → stops_of b ≡ 0 → (d : Narrator W E)
     (line : List ℕ) → (count ≡ max_envelopes → ⊥) → line ≡ line_of (count + 1) e
@@ -462,7 +464,7 @@ narrated_more {e = e} h is none d line below words (put, calm, lines) = record {
   unbroken = calm ∙ none;
 }
 
--- or it is not
+-- the story of an envelope is not ended
 pub unended : {W E : Type 0} {ws : W → Device} {es : E → Device} {first b : Narrator W E} {source rest : Device} {count : ℕ} {e : Listed} → TextsJoin
     → HasBegun ws es first source rest b count e.octets (length e.octets) (text_of e) → IsListed limits e → stops_of b ≡ 0 → (d : Narrator W E)
     (fault : CommandFault) → FailsToEnd ws es b d fault
@@ -472,7 +474,7 @@ unended {es = es} {b = b} {e = e} texts h is none d fault (inr (broke, put, rose
     rw broke (broke_in_text texts h d put (put.same, ap (λ m. m.ghost_name) same) (ap (λ m. es m.now) same) (λ whole nothing. (e, is, refl))
     (rises (stops_of b) (stops_of d) none rose))
 
--- nothing comes next
+-- there is no next item
 pub unfed : {W E : Type 0} {ws : W → Device} {es : E → Device} {first : Narrator W E} {source : Device} {count : ℕ} → GiftsJoin → TextsJoin
     → (mid rest : Device) (v : Unpacking) (a b : Narrator W E) (fault : CommandFault) → IsTelling ws es first source mid a count
     → IsCalm (stops_of a) (stops_of b) (Err fault) → IsNext (TellsOn ws es) stops_of IsSettled (λ a b. IsLost ws es a b []) (mid, a) (rest, v, b) (Err fault)
@@ -493,7 +495,7 @@ unfed joins texts mid rest v a b CannotWrite r calm (inr u) =
     lost texts h b [] (u.calm ∙ r.unbroken) (inl refl) u.holds_back
 unfed joins texts mid rest v a b OutOfMemory r calm c = absurd c
 
--- memory was short before anything was read
+-- the allocation failed before anything was read
 pub nothing_told : GiftsJoin → TextsJoin → (source old new errors : Device) → new ≡ old → FailsToNarrate source source old new errors errors OutOfMemory
 nothing_told joins texts source old new errors same =
     let divides : Divides limits [] [] [] = record { admitted = tt; parts = refl; few = omega arith } in

@@ -1,4 +1,4 @@
--- What a narrator loses.
+-- What a story writer loses.
 use Rattle.iim_listing.proofs.Words.{◌≡◌, ℕ, ◌+◌, inl, inr, ◌∙◌, arith, List, [], ◌++◌, length, append-nil, length-append, Result, Ok, Err, IfErr, take-append-le, MutBor, Device, TextsJoin, CommandFault, IsLost, FailsToTell, LetsOut, errors_of, output_of, Narrator}
 use Rattle.iim_dataset.specs.States.Devices.{Stopped}
 use Rattle.iim_output.specs.Format.{FailsToSay}
@@ -9,7 +9,7 @@ stopped_before old new xs ys n stopped =
     let s = rw append-nil at stopped in
     (omega (arith, s.0, length-append xs ys), rw (take-append-le n xs ys (omega (arith, s.0))) s.1, s.2)
 
--- a line more is lost
+-- one more line is lost
 pub lost_more : {W E : Type 0} (ws : W → Device) (es : E → Device) (a b : Narrator W E) (line : List ℕ) → IsLost ws es a b [] → IsLost ws es a b line
 lost_more ws es a b line l = record {
   keeps = l.keeps;
@@ -19,7 +19,7 @@ lost_more ws es a b line l = record {
   ];
 }
 
--- all that was held is out, and a line after it is not
+-- all that was buffered is written, and a line after it is not
 pub unsaid : {W E T : Type 0} (ws : W → Device) (es : E → Device) → TextsJoin → (a b d : Narrator W E) (said line : List ℕ) (r : Result T CommandFault)
     → said ≡ line → LetsOut ws es a b [] → TextIsOut ws a d → d.errors.ghost_name ≡ b.errors.ghost_name
     → IfErr r (FailsToSay (errors_of es b) (errors_of es d) said) → IfErr r (FailsToTell ws es a d line)
@@ -29,7 +29,7 @@ unsaid ws es texts a b d said line (Err fault) whole l text same (is, n, stopped
     let cut = rw (append-nil a.lines.items, whole) at (texts.stopped (errors_of es a) (errors_of es b) (errors_of es d) lines said n l.told stopped) in
     rw is (record { keeps = (text.0.same, same ∙ l.keeps); broke = inr (text, length a.lines.items + n, cut) })
 
--- what is so of the devices of a narrator is so of the targets that it was lent, before and after
+-- what holds of the targets of a story writer holds of the borrowed targets, before and after
 pub between : {W E : Type 0} {output errors : Device} (ws : W → Device) (es : E → Device) (P : Device → Device → Device → Device → Type 0)
     (a b : Narrator W E) (first last : MutBor W) (told then : MutBor E) → a.output.writer ≡ first → last ≡ b.output.writer → a.errors ≡ told
     → then ≡ b.errors → output ≡ ws last.now → errors ≡ es then.now → P (output_of ws a) (output_of ws b) (errors_of es a) (errors_of es b)

@@ -1,4 +1,5 @@
--- How an unpacker that stood on no octets is fed up to the end of an envelope, and what an intake gives.
+-- How an unpacker in the initial state is fed up to the end of an envelope, and what an intake
+-- returns.
 use Rattle.iim_listing.proofs.Words.{◌≡◌, ◌⊎◌, ℕ, inl, inr, refl, sym, ap, subst, ◌∙◌, arith, List, [], length, take, Option, Some, Result, take-length, Device, StoryEvent, Unpacking, limits_in, raised, Joined, GiftsJoin, DeliveryMayBeCut, Refusal, CommandFault, EnvelopeHasCome, IsCalm, IsNext, IsRefusal, limits, IsDelivered, no_text, ◌-◌, ◌^◌, ◌<◌, ◌∷◌, length-append, IsAtEnd, HasGiven}
 use Rattle.std.proofs.Common.{◌≢◌, append-nil}
 use Rattle.iim_dataset.specs.declared.device.IoFault.{IoFault}
@@ -20,12 +21,12 @@ use Rattle.iim_listing.specs.declared.coming.Next.{Next}
 delivered_of : (octets : List ℕ) (more : List StoryEvent) → Delivers [] octets more → IsDelivered octets more
 delivered_of octets more adds = let added = adds [] no_text in (added.0, added.1, added.2)
 
--- the count of the sink where it did not refuse
+-- the sink's number of failures, if it did not stop
 calm_counts : (cause : Cause) (before now : ℕ) → cause ≢ Message messages.Sink → CountsFor cause before now → now ≡ before
 calm_counts (Message messages.Sink) before now other counts = absurd (other refl)
 calm_counts _ before now other counts = counts
 
--- ---- why an intake gives nothing
+-- ---- why an intake returns no envelope
 
 module _ {S : Type 0} (goes : S → List StoryEvent → S → Type 0) (failures : S → ℕ) (old new : Device) (u v : Unpacking) (a b : S)
     (same : limits_in u ≡ limits) (at : Stands u [] 0) where
@@ -91,7 +92,7 @@ module _ {S : Type 0} (goes : S → List StoryEvent → S → Type 0) (failures 
         delivered = delivered_of w.octets w.more is.1;
       }
 
-  -- what comes next is right, the count of the sink, and whether more can be asked for
+  -- the next item, the sink's number of failures, and whether the next one can be read
   fault_next : (settled : S → Type 0) (stuck : S → S → Type 0) (alive : Option ℕ) (fault : IntakeFault) (result : Result Next CommandFault)
       → (kept : ℕ) × Faults goes failures old new u v a b kept fault → (((e : Refusal) → fault ≢ Refused e) → settled b) → IsOfFault fault result
       → IsNext goes failures settled stuck (old, a) (new, v, b) result × IsCalm (failures a) (failures b) result × CanAskForMore alive result
@@ -108,7 +109,8 @@ empty_too : (used : ℕ) (xs ys : List ℕ) → used ≡ raised 0 (length xs) �
 empty_too used xs [] one two none = refl
 empty_too used xs (y ∷ ys) one two none = absurd (omega (arith, one, two, ap length none))
 
--- What an unpacker was fed that stood on no octets, within the limits; and the sink was told nothing where there is none.
+-- What was fed to an unpacker that was in the initial state, within the limits; without octets
+-- nothing was passed to the sink.
 pub record HasTaken {S : Type 0} (goes : S → List StoryEvent → S → Type 0) (old new : Device) (v : Unpacking) (a b : S) : Type 0 where
   pub first : Unpacking
   pub stood : Stands first [] 0
@@ -125,7 +127,7 @@ take_none goes joins d u a at same nothing =
 
 module _ {S : Type 0} {goes : S → List StoryEvent → S → Type 0} {old mid : Device} {v : Unpacking} {a d : S} (joined : Joined goes)
     (h : HasTaken goes old mid v a d) where
-  -- the sink let out what it held
+  -- the sink was flushed
   pub take_out : {e : S} → goes d [] e → HasTaken goes old mid v a e
   take_out {e} told =
       let fed = fed_on joined h.fed told in
@@ -133,7 +135,7 @@ module _ {S : Type 0} {goes : S → List StoryEvent → S → Type 0} {old mid :
       joined a d e [] [] (h.still (empty_too h.used fed.octets h.fed.octets fed.counts h.fed.counts none)) told in
       record { first = h.first; stood = h.stood; within = h.within; used = h.used; fed = fed; still = still }
 
-  -- nothing came, and nothing is next in line
+  -- no octets were read, and none are unread
   pub take_ended : {new : Device} {e : S} (settled : S → Type 0) → GiftsJoin → WasEnded mid new v d e → settled d
       → HasGiven old new [] × IsAtEnd new.octets × goes a [] e × settled e
   take_ended {new} settled joins ended rests =
@@ -150,7 +152,7 @@ module _ {S : Type 0} {goes : S → List StoryEvent → S → Type 0} {old mid :
       let there = (h.fed.stands [] 0 h.stood).0 in
       (there.taking, there.unended)
 
-  -- one piece more
+  -- one more chunk
   pub take_more : {new : Device} {w : Unpacking} {e : S} {k : ℕ} → GiftsJoin → DeliveryMayBeCut → (0 < k) × IsReady w × HasFed goes mid new v w d e k
       → HasTaken goes old new w a e
   take_more {k = k} joins cut (some, ready, two) =
@@ -176,7 +178,7 @@ module _ {S : Type 0} {goes : S → List StoryEvent → S → Type 0} {old mid :
         fed_few law one (rw within (omega arith)) (rw within (omega arith)) [] 0 h.stood,
       )
 
--- ---- of an unpacker that was fed
+-- ---- for an unpacker that was fed
 
 -- an unpacker is done
 pub taken_whole : {S : Type 0} {goes : S → List StoryEvent → S → Type 0} {old mid new : Device} {v w : Unpacking} {a d e : S} {k octets : ℕ} → Joined goes
@@ -198,7 +200,7 @@ taken_whole {w = w} {octets = octets} joined joins cut h done' counts =
       delivered = delivered_of whole.octets whole.more adds;
     }
 
--- the sink was held up
+-- a flush of the sink failed
 pub held_up : {S : Type 0} {goes : S → List StoryEvent → S → Type 0} {old mid : Device} {v : Unpacking} {a b : S} (failures : S → ℕ) (stuck : S → S → Type 0)
     (d : S) → HasTaken goes old mid v a b → failures b ≡ failures a → stuck b d → IsHeldUp goes failures stuck old mid a d
 held_up {b = b} failures stuck d h calm is =
@@ -214,7 +216,7 @@ held_up {b = b} failures stuck d h calm is =
       holds_back = is;
     }
 
--- the intake gives nothing, and where its reader failed the sink holds nothing
+-- the intake returns no envelope, and if its reader failed, the sink has nothing buffered
 pub taken_fault : {S : Type 0} {goes : S → List StoryEvent → S → Type 0} {old mid : Device} {v : Unpacking} {a d : S} (failures : S → ℕ)
     (settled : S → Type 0) (stuck : S → S → Type 0) → Joined goes → GiftsJoin → DeliveryMayBeCut → (new : Device) (w : Unpacking) (e : S)
     (block : List ℕ) (failed : Option ℕ) (fault : IntakeFault) (result : Result Next CommandFault) → HasTaken goes old mid v a d → failures d ≡ failures a

@@ -1,4 +1,4 @@
--- The names that several proofs bring in, passed on from one place.
+-- The names that several proofs import, re-exported from one module.
 pub use Rattle.iim_dataset.proofs.DeviceLaws.{missed_later}
 pub use Rattle.iim_dataset.specs.Format.Octets.{Rose}
 pub use Rattle.iim_dataset.specs.Laws.{GiftsJoin, TextsJoin}

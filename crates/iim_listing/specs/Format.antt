@@ -1,4 +1,4 @@
--- What the commands leave of an input: `check` and `show` a listing, `story` the texts.
+-- What the commands write for an input: `check` and `show` a listing, `story` the texts.
 use Rattle.std.specs.Prelude.{◌≡◌, ℕ, ◌+◌, length, List, [], ◌∷◌, ◌++◌, codes, decimal, ◌⊎◌, ◌≤◌, map, take}
 use Rattle.std.specs.{List.flat_map, List.join_with_byte, Io.KnownBytes.Appends}
 use Rattle.wire_story.specs.Format.Texts.{StoryEvent, delivered, octet_for}
@@ -14,11 +14,11 @@ use Rattle.wire_story.specs.States.Reading.{HasBroken}
 pub use Rattle.iim_output.specs.declared.fault.CommandFault.{CommandFault}
 pub use Rattle.iim_output.specs.declared.fault.CommandFault.TheVariants.{CannotRead, CannotWrite, OutOfMemory}
 
--- a count of octets as it is told: it stays at the greatest number of 64 bits
+-- a number of octets as it is counted: capped at the greatest number of 64 bits
 abbrev pub told : ℕ → ℕ
 told n = raised 0 n
 
--- What is delivered of the text in the octets is this.
+-- These events are delivered for the text in the octets.
 abbrev pub IsDelivered : List ℕ → List StoryEvent → Type 0
 IsDelivered octets more = (text : List ℕ) × IsTextOf octets text × (more ≡ delivered text)
 
@@ -26,7 +26,7 @@ IsDelivered octets more = (text : List ℕ) × IsTextOf octets text × (more ≡
 abbrev pub line_of : ℕ → Listed → List ℕ
 line_of number e = accepted_line number (told (length e.octets))
 
--- what is written of each envelope, in their order, numbered from n
+-- the texts of envelopes in their order, numbered from n
 abbrev pub texts_from : (ℕ → Listed → List ℕ) → ℕ → List Listed → List ℕ
 texts_from text n [] = []
 texts_from text n (e ∷ es) = text n e ++ texts_from text (n + 1) es
@@ -37,11 +37,11 @@ ending_line count Whole = []
 ending_line count (RefusedBy refusal) = refused_line (count + 1) refusal
 ending_line count TooMany = too_many_line
 
--- what is written of a listing
+-- the text of a listing
 abbrev pub listing : (ℕ → Listed → List ℕ) → List Listed → InputEnding → List ℕ
 listing text envelopes ending = texts_from text 1 envelopes ++ ending_line (length envelopes) ending
 
--- the status of a listing: 0 where the whole input is accepted, else 1
+-- the status of a listing: 0 if the whole input is accepted, otherwise 1
 abbrev pub status_of : InputEnding → ℕ
 status_of Whole = status_accepted
 status_of _ = status_refused
@@ -56,23 +56,25 @@ sizes_line s =
     ++ (codes ", limit " ++ (decimal s.subfile ++ (codes ", announced " ++ (number_or_dash s.announced ++ (codes ", maximum "
     ++ (number_or_dash s.maximum ++ codes "\n")))))))))))
 
--- all that is shown of an envelope with this number
+-- the text of `show` for an envelope with this number
 abbrev pub shown_of : ℕ → Listed → List ℕ
 shown_of number e = number_line number
     ++ (flat_map field_line e.value.fields ++ (message_line e.value.head ++ (trailer_line e.value.trailer ++ sizes_line e.value.sizes)))
 
--- The listing of the whole input is written, and the status is the one for it. (The input before and after, then the output.)
+-- The listing of the whole input is written, and this is its status. (The input before and after,
+-- then the output.)
 abbrev pub WritesListing : (ℕ → Listed → List ℕ) → Device → Device → Device → Device → ℕ → Type 0
 WritesListing text source rest old new status = (input : List ℕ) × (envelopes : List Listed) × (ending : InputEnding) × HasOctets source.octets input × Unfailed source rest
     × IsListing limits input envelopes ending × (status ≡ status_of ending) × Wrote old new (listing text envelopes ending)
 
--- The text is what is written of the envelopes, and perhaps the last line too.
+-- The text is that of the envelopes, possibly with the last line.
 abbrev pub IsListingText : (ℕ → Listed → List ℕ) → List Listed → List ℕ → List ℕ → Type 0
 IsListingText text envelopes rest words = (words ≡ texts_from text 1 envelopes)
     ⊎ ((ending : InputEnding) × EndsBy limits (length envelopes) rest ending × (words ≡ listing text envelopes ending))
 
--- Why the listing isn't out. A read failed after envelopes and octets that every layer can continue from: all these envelopes are
--- listed. Or the output broke inside the listing. Or memory was short: some of the envelopes that came are listed.
+-- Why the listing is not complete. A read failed after envelopes and a viable prefix: all these
+-- envelopes are listed. Or a write failed inside the listing. Or an allocation failed: some of the
+-- envelopes that were read are listed.
 abbrev pub FailsListing : (ℕ → Listed → List ℕ) → Device → Device → Device → Device → CommandFault → Type 0
 FailsListing text source rest old new CannotRead = (input : List ℕ) × (envelopes : List Listed) × (begun : List ℕ) × (fault : IoFault)
     × Divides limits input envelopes begun × IsOpen limits begun × MissedAfter source rest input fault × Wrote old new (texts_from text 1 envelopes)
@@ -81,13 +83,14 @@ FailsListing text source rest old new CannotWrite = (input : List ℕ) × (envel
 FailsListing text source rest old new OutOfMemory = (input : List ℕ) × (envelopes : List Listed) × (begun : List ℕ)
     × Divides limits input envelopes begun × HasGiven source rest input × Wrote old new (texts_from text 1 envelopes)
 
--- ---- What `story` leaves: the text of each envelope on the output, and the lines of `check` on the errors.
+-- ---- What `story` writes: the text of each envelope to the output, and the lines of `check` to
+-- the errors.
 
 -- the text of an envelope: its lines, joined by LF
 abbrev pub text_of : Listed → List ℕ
 text_of e = join_with_byte lf e.value.lines
 
--- and an LF after it
+-- the text of an envelope, and an LF
 abbrev pub story_of : ℕ → Listed → List ℕ
 story_of number e = text_of e ++ (lf ∷ [])
 
@@ -95,42 +98,45 @@ story_of number e = text_of e ++ (lf ∷ [])
 abbrev pub stories : List Listed → List ℕ
 stories envelopes = texts_from story_of 1 envelopes
 
--- The words are what is delivered of the text in the octets, each line end as LF.
+-- The words are the text delivered for the octets, with each line end as LF.
 abbrev pub IsTextIn : List ℕ → List ℕ → Type 0
 IsTextIn octets words = (more : List StoryEvent) × IsDelivered octets more × (words ≡ map octet_for more)
 
--- What is written of the octets after the envelopes: of refused ones the text before the refused one, and of one envelope too many
--- its text, without an LF.
+-- The text of the octets after the envelopes: for a refusal the text before the rejected octet,
+-- and for one envelope too many its text, without an LF.
 abbrev pub LeavesText : List ℕ → InputEnding → List ℕ → Type 0
 LeavesText rest Whole words = words ≡ []
 LeavesText rest (RefusedBy refusal) words = (k : ℕ) × IsRefusedAfter limits rest k refusal × IsTextIn (take k rest) words
 LeavesText rest TooMany words = (e : Listed) × IsListed limits e × (more : List ℕ) × (rest ≡ e.octets ++ more) × (words ≡ text_of e)
 
--- The whole input is told: its stories on the output, and the lines of `check` on the errors. (The input before and after, then the
--- output, then the errors.)
+-- The whole input is written: its stories to the output, and the lines of `check` to the errors.
+-- (The input before and after, then the output, then the errors.)
 abbrev pub Narrated : Device → Device → Device → Device → Device → Device → ℕ → Type 0
 Narrated source rest old new errors_old errors_new status =
     (input : List ℕ) × (envelopes : List Listed) × (ending : InputEnding) × (words : List ℕ) × HasOctets source.octets input × Unfailed source rest
     × (all : IsListing limits input envelopes ending) × LeavesText all.rest ending words × (status ≡ status_of ending)
     × Wrote old new (stories envelopes ++ words) × Wrote errors_old errors_new (listing line_of envelopes ending)
 
--- ---- where a fault comes
+-- ---- where an error occurs
 
--- The output broke after these stories, and inside the text of the octets: the words are out, with which the text in the first k
--- begins. If that is all of them, and all of their text is out, then they are an envelope, and the LF after its text was refused.
+-- A write to the output failed after these stories, inside the text of the octets. The words are
+-- written; the text of the first k octets begins with them. If these are all octets, and all of
+-- their text is written, then they are an envelope, and the write of the LF after its text failed.
 abbrev pub BreaksInText : Device → Device → List Listed → List ℕ → Type 0
 BreaksInText old new envelopes octets = (k : ℕ) × (words : List ℕ) × (rest : List ℕ) × (k ≤ length octets)
     × (k ≡ length octets → rest ≡ [] → (e : Listed) × IsListed limits e × (e.octets ≡ octets))
     × IsTextIn (take k octets) (words ++ rest) × Appends old.octets new.octets (stories envelopes ++ words) × HasBroken old new
 
--- Of the envelopes whose stories are out some, from the first on, are told on the errors, each with its whole line. (All that ended before
--- the last block was read are among them: nothing is held when it is read, which is the condition of `Input::next_piece`, and not said here.)
+-- Of the envelopes whose stories are written, the lines of the first ones are written to the
+-- errors, each completely. (All envelopes that ended before the last read are among them: nothing
+-- is buffered at a read. That is the condition of `Input::next_piece`, and not part of this
+-- definition.)
 abbrev pub TellsFront : Device → Device → List Listed → Type 0
 TellsFront errors_old errors_new envelopes = (front : List Listed) × (others : List Listed) × (envelopes ≡ front ++ others)
     × Wrote errors_old errors_new (texts_from line_of 1 front)
 
--- The errors broke inside these lines, after these words, which are the text in the first k of the octets after the envelopes; or the
--- lines have the one for what follows the envelopes.
+-- A write to the errors failed inside these lines, after these words, which are the text of the
+-- first k octets after the envelopes; or the lines include the one for what follows the envelopes.
 abbrev pub AreToldWith : List Listed → List ℕ → List ℕ → List ℕ → Type 0
 AreToldWith envelopes rest told words = ((told ≡ texts_from line_of 1 envelopes) × (k : ℕ) × IsTextIn (take k rest) words)
     ⊎ ((ending : InputEnding) × EndsBy limits (length envelopes) rest ending × LeavesText rest ending words × (told ≡ listing line_of envelopes ending))
@@ -139,10 +145,11 @@ abbrev pub BreaksInLines : Device → Device → Device → Device → List List
 BreaksInLines old new errors_old errors_new envelopes rest = (told : List ℕ) × (words : List ℕ) × (n : ℕ) × AreToldWith envelopes rest told words
     × Wrote old new (stories envelopes ++ words) × Stopped errors_old errors_new told n
 
--- Why not all is told. A read failed after envelopes and octets that every layer can continue from. Or the output broke inside a story,
--- which may be that of an earlier envelope than the one that came last: the lines that were held are lost then, and no line is told
--- before its story is out. Or the errors broke inside their lines, when all that came of the stories was out. Or memory was short: the
--- stories of some of the envelopes that came are out, and of octets after them the text in the first k.
+-- Why the output is not complete. A read failed after envelopes and a viable prefix. Or a write to
+-- the output failed inside a story, possibly that of an earlier envelope than the last one read:
+-- then the buffered lines are lost, and no line is written before its story. Or a write to the
+-- errors failed inside the lines, when all stories were written. Or an allocation failed: the
+-- stories of some of the envelopes are written, and the text of the first k octets after them.
 abbrev pub FailsToNarrate : Device → Device → Device → Device → Device → Device → CommandFault → Type 0
 FailsToNarrate source rest old new errors_old errors_new CannotRead =
     (input : List ℕ) × (envelopes : List Listed) × (begun : List ℕ) × (fault : IoFault) × (words : List ℕ)

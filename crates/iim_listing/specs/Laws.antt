@@ -1,9 +1,10 @@
--- What `story` leaves: the text of each envelope on the output, and the lines of `check` on the errors.
+-- What `story` writes: the text of each envelope to the output, and the lines of `check` to the
+-- errors.
 use Rattle.std.specs.Prelude.{◌≡◌, ℕ, List}
 use Rattle.wire_story.specs.Format.Texts.{StoryEvent, events_of_lines}
 use Rattle.iim_places.specs.Format.Admitted.{Value, Admits}
 use Rattle.iim_listing.specs.Format.{IsDelivered}
 
--- What is delivered of the text in an envelope is its lines.
+-- The text delivered for an envelope consists of its lines.
 abbrev pub EnvelopesAreDeliveredAsLines : Type 0
 EnvelopesAreDeliveredAsLines = (octets : List ℕ) (v : Value) (more : List StoryEvent) → Admits octets v → IsDelivered octets more → more ≡ events_of_lines v.lines

@@ -1,4 +1,4 @@
--- What comes next of an input.
+-- The next item of an input.
 use Rattle.std.specs.Prelude.{◌≡◌, ℕ, ◌<◌, ◌⊎◌, ⊤, List, [], length, take, Option, None, Result, Ok, Err}
 use Rattle.std.specs.Io.KnownBytes.{IsAtEnd}
 use Rattle.iim_dataset.specs.States.Devices.{Device, HasGiven, MissedAfter}
@@ -12,7 +12,7 @@ use Rattle.iim_listing.specs.Format.{told, IsDelivered, CommandFault, CannotRead
 use Rattle.iim_listing.specs.declared.coming.Next.{Next}
 use Rattle.iim_listing.specs.declared.coming.Next.TheVariants as next
 
--- An envelope came, the unpacker is done with it, and the sink was told its text.
+-- An envelope was read, the unpacker is done with it, and its text was passed to the sink.
 pub record EnvelopeHasCome {S : Type 0} (goes : S → List StoryEvent → S → Type 0) (old new : Device) (u : Unpacking) (a b : S) (octets : ℕ) : Type 0 where
   pub envelope : Listed
   pub is : IsListed limits envelope
@@ -23,7 +23,8 @@ pub record EnvelopeHasCome {S : Type 0} (goes : S → List StoryEvent → S → 
   pub came : Came goes old new a b envelope.octets more
   pub delivered : IsDelivered envelope.octets more
 
--- Octets came that are refused, and the sink was told the text of those before the refused one.
+-- Octets were read that are rejected, and the text of those before the rejected one was passed to
+-- the sink.
 pub record IsRefusal {S : Type 0} (goes : S → List StoryEvent → S → Type 0) (old new : Device) (a b : S) (e : Refusal) : Type 0 where
   pub octets : List ℕ
   pub more : List StoryEvent
@@ -33,7 +34,7 @@ pub record IsRefusal {S : Type 0} (goes : S → List StoryEvent → S → Type 0
   pub at_end : k ≡ length octets → IsAtEnd new.octets
   pub delivered : IsDelivered (take k octets) more
 
--- Octets came, of which the sink took the text of the first k and refused the next.
+-- Octets were read, of which the sink consumed the text of the first k and then stopped.
 pub record SinkRefuses {S : Type 0} (goes : S → List StoryEvent → S → Type 0) (failures : S → ℕ) (old new : Device) (a b : S) : Type 0 where
   pub octets : List ℕ
   pub more : List StoryEvent
@@ -43,7 +44,7 @@ pub record SinkRefuses {S : Type 0} (goes : S → List StoryEvent → S → Type
   pub delivered : IsDelivered (take k octets) more
   pub rose : Rose (failures a) (failures b)
 
--- Octets came that every layer can continue from, and then a read failed.
+-- A viable prefix was read, and then a read failed.
 pub record IsCutOff {S : Type 0} (goes : S → List StoryEvent → S → Type 0) (old new : Device) (a b : S) : Type 0 where
   pub octets : List ℕ
   pub more : List StoryEvent
@@ -53,7 +54,7 @@ pub record IsCutOff {S : Type 0} (goes : S → List StoryEvent → S → Type 0)
   pub is_open : IsOpen limits octets
   pub delivered : IsDelivered octets more
 
--- Octets came that every layer can continue from, and the sink was told their text; then it could not let out what it held.
+-- A viable prefix was read, and its text was passed to the sink; then a flush of the sink failed.
 pub record IsHeldUp {S : Type 0} (goes : S → List StoryEvent → S → Type 0) (failures : S → ℕ) (stuck : S → S → Type 0) (old new : Device) (a b : S) : Type 0 where
   pub octets : List ℕ
   pub more : List StoryEvent
@@ -64,8 +65,9 @@ pub record IsHeldUp {S : Type 0} (goes : S → List StoryEvent → S → Type 0)
   pub delivered : IsDelivered octets more
   pub holds_back : stuck told b
 
--- What comes next, or why nothing does; it takes no memory. (What it is for a sink to hold nothing, and to fail to let out what it
--- holds; the input and the sink, before and after; after, the unpacker.)
+-- The next item, or why there is no item; nothing is allocated. (First: when the buffer of a sink
+-- is empty, and how a failed flush changes the sink. Then the input and the sink, before and
+-- after; after, also the unpacker.)
 abbrev pub IsNext : {S : Type 0} → (S → List StoryEvent → S → Type 0) → (S → ℕ) → (S → Type 0) → (S → S → Type 0) → Device × S
     → Device × Unpacking × S → Result Next CommandFault → Type 0
 IsNext goes failures settled stuck (old, a) (new, u, b) (Ok (next.Envelope octets)) = EnvelopeHasCome goes old new u a b octets
@@ -75,12 +77,12 @@ IsNext goes failures settled stuck (old, a) (new, u, b) (Err CannotRead) = IsCut
 IsNext goes failures settled stuck (old, a) (new, u, b) (Err CannotWrite) = SinkRefuses goes failures old new a b ⊎ IsHeldUp goes failures stuck old new a b
 IsNext goes failures settled stuck (old, a) (new, u, b) (Err OutOfMemory) = ⊥
 
--- The sink counted a failure only where it refused.
+-- The sink counted a failure only if it stopped.
 abbrev pub IsCalm : ℕ → ℕ → Result Next CommandFault → Type 0
 IsCalm before now (Err CannotWrite) = ⊤
 IsCalm before now _ = now ≡ before
 
--- After an envelope more can be asked for. (The octet that a failed intake keeps.)
+-- After an envelope the next one can be read. (The octet that a failed intake stores.)
 abbrev pub CanAskForMore : Option ℕ → Result Next CommandFault → Type 0
 CanAskForMore failed (Ok (next.Envelope octets)) = failed ≡ None
 CanAskForMore failed _ = ⊤

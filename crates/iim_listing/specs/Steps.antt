@@ -1,4 +1,4 @@
--- A narrator from inside, and what is listed and told of an input by turns.
+-- The state of a story writer, and how a listing and stories are written item by item.
 use Rattle.std.specs.Prelude.{◌≡◌, ℕ, List, ◌⊎◌, [], ◌++◌, Result, Err, ◌+◌, length, Option, Some, None, Ok}
 use Rattle.std.proofs.Common.{inl, inr, refl, sym, subst, ◌∙◌, append-nil, append_assoc, arith}
 use Rattle.std.specs.List.{AllByRecursion}
@@ -17,26 +17,27 @@ use Rattle.wire_message.specs.declared.fault.MessageCause.TheVariants.{Sink}
 use Rattle.iim_listing.specs.declared.coming.Next.{Next}
 use Rattle.iim_listing.specs.declared.coming.Next.TheVariants as next
 
--- what the text goes to, and who is told the lines, as devices
+-- the targets of the text and of the lines
 abbrev pub output_of : {W E : Type 0} → (W → Device) → Narrator W E → Device
 output_of ws n = device_of ws n.output
 
 abbrev pub errors_of : {W E : Type 0} → (E → Device) → Narrator W E → Device
 errors_of es n = es n.errors.now
 
--- how often the output stopped
+-- the number of failed writes of the output
 abbrev pub stops_of : {W E : Type 0} → Narrator W E → ℕ
 stops_of n = writer_stops n.output
 
--- It still writes to the targets that it was lent.
+-- It still writes to the targets that it borrowed.
 abbrev pub KeepsTargets : {W E : Type 0} → Narrator W E → Narrator W E → Type 0
 KeepsTargets a b = KeepsWriter a.output b.output × (b.errors.ghost_name ≡ a.errors.ghost_name)
 
--- It holds these lines more, and none went out.
+-- These lines were buffered, and none was written.
 abbrev pub HoldsLines : {W E : Type 0} → Narrator W E → Narrator W E → List ℕ → Type 0
 HoldsLines a b lines = (b.lines.items ≡ a.lines.items ++ lines) × (b.errors ≡ a.errors)
 
--- All lines that it held went out, when of the text nothing was held: it was told some of these events before, and the others after.
+-- All buffered lines were written at a time when no text was buffered: some of these events were
+-- passed to it before, and the others after.
 pub record ToldLines {W E : Type 0} (ws : W → Device) (es : E → Device) (a : Narrator W E) (events : List StoryEvent) (b : Narrator W E) : Type 0 where
   pub mark : BlockWriter W
   pub first : List StoryEvent
@@ -48,27 +49,28 @@ pub record ToldLines {W E : Type 0} (ws : W → Device) (es : E → Device) (a :
   pub none : b.lines.items ≡ []
   pub told : Wrote (errors_of es a) (errors_of es b) a.lines.items
 
--- It was told these events; and the lines that it held it still holds, or they are out.
+-- These events were passed to it; and the lines that were buffered still are, or they are written.
 pub record TellsOn {W E : Type 0} (ws : W → Device) (es : E → Device) (a : Narrator W E) (events : List StoryEvent) (b : Narrator W E) : Type 0 where
   pub put : PutsLines ws a.output events b.output
   pub keeps : b.errors.ghost_name ≡ a.errors.ghost_name
   pub lines : HoldsLines a b [] ⊎ ToldLines ws es a events b
 
--- It holds nothing.
+-- Its buffers are empty.
 abbrev pub IsSettled : {W E : Type 0} → Narrator W E → Type 0
 IsSettled n = HoldsNothing n.output × (n.lines.items ≡ [])
 
--- Of the text all is out, and nothing is held.
+-- All text is written, and none is buffered.
 abbrev pub TextIsOut : {W E : Type 0} → (W → Device) → Narrator W E → Narrator W E → Type 0
 TextIsOut ws a b = PutsOn ws a.output b.output [] × HoldsNothing b.output × (stops_of b ≡ stops_of a)
 
--- All that it held is out, the text before the lines, and then this line.
+-- All that was buffered is written, the text before the lines, and then this line.
 pub record LetsOut {W E : Type 0} (ws : W → Device) (es : E → Device) (a b : Narrator W E) (line : List ℕ) : Type 0 where
   pub text : TextIsOut ws a b
   pub keeps : b.errors.ghost_name ≡ a.errors.ghost_name
   pub told : Wrote (errors_of es a) (errors_of es b) (a.lines.items ++ line)
 
--- The text that it held could not be let out, and no line went out; or the text is out, and the errors broke inside the lines and this one.
+-- The buffered text could not be written, and no line was; or the text is written, and a write to
+-- the errors failed inside the lines and this one.
 pub record IsLost {W E : Type 0} (ws : W → Device) (es : E → Device) (a b : Narrator W E) (line : List ℕ) : Type 0 where
   pub keeps : KeepsTargets a b
   pub broke : (StaysStuck ws a.output b.output × (errors_of es b ≡ errors_of es a))
@@ -77,13 +79,14 @@ pub record IsLost {W E : Type 0} (ws : W → Device) (es : E → Device) (a b : 
 abbrev pub IsStuck : {W E : Type 0} → (W → Device) → (E → Device) → Narrator W E → Narrator W E → Type 0
 IsStuck ws es a b = IsLost ws es a b []
 
--- Why a last line isn't told. Where memory was refused for it, all that was held is out.
+-- Why a last line is not written. If its allocation failed, all that was buffered is written.
 abbrev pub FailsToTell : {W E : Type 0} → (W → Device) → (E → Device) → Narrator W E → Narrator W E → List ℕ → CommandFault → Type 0
 FailsToTell ws es a b line CannotRead = ⊥
 FailsToTell ws es a b line CannotWrite = IsLost ws es a b line
 FailsToTell ws es a b line OutOfMemory = LetsOut ws es a b []
 
--- Why a story isn't ended: what is held is lost, or is out where memory was refused for the line; or the LF was not taken, and no line went out.
+-- Why a story is not ended: what was buffered is lost, or is written if the allocation of the line
+-- failed; or the LF was not consumed, and no line was written.
 abbrev pub FailsToEnd : {W E : Type 0} → (W → Device) → (E → Device) → Narrator W E → Narrator W E → CommandFault → Type 0
 FailsToEnd ws es a b fault = FailsToTell ws es a b [] fault
     ⊎ ((fault ≡ CannotWrite) × PutsOn ws a.output b.output [] × Rose (stops_of a) (stops_of b) × (b.errors ≡ a.errors))
@@ -91,7 +94,7 @@ FailsToEnd ws es a b fault = FailsToTell ws es a b [] fault
 pub tells_nothing : {W E : Type 0} (ws : W → Device) (es : E → Device) (n : Narrator W E) → TellsOn ws es n [] n
 tells_nothing ws es n = record { put = puts_nothing ws n.output; keeps = refl; lines = inl (sym (append-nil n.lines.items), refl) }
 
--- Lines that are held as before went out; or those went out, and then nothing more.
+-- Lines that are still buffered were written later; or they were written, and then no more.
 lines_joined : {W E : Type 0} (ws : W → Device) (es : E → Device) (a b c : Narrator W E) (xs ys : List StoryEvent) → TellsOn ws es a xs b
     → PutsLines ws b.output ys c.output → HoldsLines a b [] ⊎ ToldLines ws es a xs b → HoldsLines b c [] ⊎ ToldLines ws es b ys c
     → HoldsLines a c [] ⊎ ToldLines ws es a (xs ++ ys) c
@@ -132,40 +135,43 @@ tells_joined ws es a b c xs ys first then = record {
   lines = lines_joined ws es a b c xs ys first then.put first.lines then.lines;
 }
 
--- ---- How a listing is held and let out.
+-- ---- How a listing is buffered and flushed.
 
--- Why the listing isn't out. Where memory was short, some of the envelopes that came are listed, out or held.
+-- Why the listing is not complete. If an allocation failed, some of the envelopes that were read
+-- are listed, written or buffered.
 abbrev pub FailsToList : {W : Type 0} → (W → Device) → (ℕ → Listed → List ℕ) → Device → Device → BlockWriter W → BlockWriter W → CommandFault → Type 0
 FailsToList state text source rest old new OutOfMemory = (input : List ℕ) × (envelopes : List Listed) × (begun : List ℕ)
     × Divides limits input envelopes begun × HasGiven source rest input × HasPut state old new (texts_from text 1 envelopes)
 FailsToList state text source rest old new fault = FailsListing text source rest (device_of state old) (device_of state new) fault
 
--- What was held is let out where memory was short, or the output breaks; any other answer is handed on, and nothing is done.
+-- After a failed allocation the buffer is flushed, or that fails; any other result is returned,
+-- and nothing is written.
 abbrev pub Settles : {W : Type 0} → (W → Device) → BlockWriter W → BlockWriter W → Result ℕ CommandFault → Result ℕ CommandFault → Type 0
 Settles state old new (Err OutOfMemory) result = ((result ≡ Err OutOfMemory) × HasPut state old new [] × HoldsNothing new)
     ⊎ ((result ≡ Err CannotWrite) × StaysStuck state old new)
 Settles state old new answer result = (result ≡ answer) × (new ≡ old)
 
--- These envelopes, `count` of them, came from the input, and octets after them, and nothing else.
+-- Exactly these envelopes, `count` of them, and then these octets were read from the input.
 pub record AreTaken (source rest : Device) (count : ℕ) (envelopes : List Listed) (begun : List ℕ) : Type 0 where
   pub divides : Divides limits (joined envelopes ++ begun) envelopes begun
   pub given : HasGiven source rest (joined envelopes ++ begun)
   pub counted : count ≡ length envelopes
 
--- Envelopes came, and this text of each was taken, where nothing was held before.
+-- Envelopes were read, and this text of each was consumed by a writer whose buffer was empty.
 pub record AreListed {W : Type 0} (state : W → Device) (text : ℕ → Listed → List ℕ) (source rest : Device) (old new : BlockWriter W) (count : ℕ) : Type 0 where
   pub envelopes : List Listed
   pub taken : AreTaken source rest count envelopes []
   pub fresh : HoldsNothing old
   pub put : HasPut state old new (texts_from text 1 envelopes)
 
--- More comes after it; or it is done with this status; or this is why it isn't. The targets are the same then.
+-- More follows; or it is complete with this status; or this is the error. The targets are
+-- unchanged then.
 abbrev pub NextOf : Type 0 → (ℕ → Type 0) → (CommandFault → Type 0) → Type 0 → Result (Option ℕ) CommandFault → Type 0
 NextOf more done fails same (Ok None) = more
 NextOf more done fails same (Ok (Some status)) = done status × same
 NextOf more done fails same (Err fault) = fails fault × same
 
--- It comes to this where so many envelopes are listed.
+-- The result for the next item, if this many envelopes are listed.
 abbrev pub ListsNext : {W : Type 0} → (W → Device) → (ℕ → Listed → List ℕ) → Device → Device → BlockWriter W → BlockWriter W
     → ℕ → Result (Option ℕ) CommandFault → Type 0
 ListsNext {W = W} state text mid rest now new count result = (source : Device) (old : BlockWriter W) → AreListed state text source mid old now count
@@ -174,8 +180,9 @@ ListsNext {W = W} state text mid rest now new count result = (source : Device) (
 
 -- ---- stories
 
--- Of these envelopes, and of words after them, the first ones are told; when they were, their stories and some words were out, and nothing
--- was held. The writer has taken the rest since, and the lines of the other envelopes are held.
+-- Of these envelopes, and of words after them, the lines of the first ones are written. When they
+-- were, the stories of these and some words were written, and nothing was buffered. The writer has
+-- consumed the rest since, and the lines of the other envelopes are buffered.
 pub record Stands {W : Type 0} (ws : W → Device) (first : BlockWriter W) (errors_old : Device) (es : List Listed) (words : List ℕ) (output : BlockWriter W) (errors : Device) (lines : List ℕ) : Type 0 where
   pub fresh : HoldsNothing first × (writer_stops first ≡ 0)
   pub told : List Listed
@@ -191,8 +198,9 @@ pub record Stands {W : Type 0} (ws : W → Device) (first : BlockWriter W) (erro
   pub said : Wrote errors_old errors (texts_from line_of 1 told)
   pub held : lines ≡ texts_from line_of (1 + length told) others
 
--- `count` envelopes came from the input, and nothing else; the text of each is its lines, joined; the narrator took their stories, and was
--- told no words after them. It writes to the same targets, of which the output never stopped.
+-- Exactly `count` envelopes were read from the input; the text of each is its lines, joined. Their
+-- stories were passed to the story writer, and no words after them. It writes to the same targets,
+-- and no write to the output failed.
 pub record IsTelling {W E : Type 0} (ws : W → Device) (es : E → Device) (first : Narrator W E) (source rest : Device)
     (n : Narrator W E) (count : ℕ) : Type 0 where
   pub envelopes : List Listed
@@ -202,7 +210,7 @@ pub record IsTelling {W E : Type 0} (ws : W → Device) (es : E → Device) (fir
   pub keeps : KeepsTargets first n
   pub unbroken : stops_of n ≡ 0
 
--- It comes to this where so many envelopes are told.
+-- The result for the next item, if the stories of this many envelopes are written.
 abbrev pub TellsNext : {W E : Type 0} → (W → Device) → (E → Device) → Device → Device → Narrator W E → Narrator W E
     → ℕ → Result (Option ℕ) CommandFault → Type 0
 TellsNext {W = W} {E = E} ws es mid rest now new count result = (source : Device) (first : Narrator W E) → IsTelling ws es first source mid now count
@@ -210,7 +218,7 @@ TellsNext {W = W} {E = E} ws es mid rest now new count result = (source : Device
     (Narrated source rest (output_of ws first) (output_of ws new) (errors_of es first) (errors_of es new))
     (FailsToNarrate source rest (output_of ws first) (output_of ws new) (errors_of es first) (errors_of es new)) (KeepsTargets first new) result
 
--- What it comes to that an intake gives nothing. Where the sink refused octets it is a fault of the output.
+-- The result if an intake returns an error. If the sink stopped, it is an error of the output.
 abbrev pub IsOfFault : IntakeFault → Result Next CommandFault → Type 0
 IsOfFault (Refused e) result = ((e.cause ≡ Message Sink) × (result ≡ Err CannotWrite)) ⊎ ((e.cause ≡ Message Sink → ⊥) × (result ≡ Ok (next.Refused e)))
 IsOfFault _ result = result ≡ Err CannotRead

@@ -1,4 +1,4 @@
-//! `check`: a line for each envelope.
+//! One line for each envelope.
 
 ghost use Rattle.iim_listing.specs.Format.{line_of};
 
@@ -7,7 +7,7 @@ use iim_output::lines::push_accepted;
 use iim_unpack::UnpackedRef;
 use std::alloc::AllocError;
 
-/// Tells how many octets each envelope has.
+/// Lists the number and the length in octets of each envelope.
 #[derive(Clone, Copy)]
 pub struct Check;
 

@@ -1,4 +1,4 @@
-//! What comes next of an input.
+//! The next envelope of an input.
 
 ghost use Rattle.std.specs.Prelude.{◌≡◌, [], None, OnOk, OnErr};
 ghost use Rattle.iim_unpack.specs.States.Intakes.{in_line};
@@ -18,18 +18,18 @@ use iim_unpack::laws::place_laws;
 use iim_unpack::{Cause, Fed, IntakeFault, Refusal, Unpacker};
 use wire_story::laws::delivery_may_be_cut;
 
-/// What an input has next.
+/// The next item of an input.
 #[derive(Clone, Copy, Debug, PartialEq, Eq)]
 pub enum Next {
-    /// An envelope of so many octets, with which the unpacker is done.
+    /// A complete envelope of this length in octets. The unpacker is done with it.
     Envelope(u64),
-    /// Nothing.
+    /// The end of the input.
     End,
-    /// Octets that are refused.
+    /// Octets that are rejected.
     Refused(Refusal),
 }
 
-/// Lets out what the sink holds, where the input holds no octets and so has to be read.
+/// Flushes the sink if the input has no buffered octets and must be read.
 fn let_out_before_read<R: Source, S: Outlet>(intake: &Input<R>, sink: &mut S) -> Result<(), Stop>
     ensures told { OnOk result (S.goes sink.old [] sink.new) }
     ensures calm { OnOk result (S.failures sink.new ≡ S.failures sink.old) }
@@ -42,7 +42,7 @@ fn let_out_before_read<R: Source, S: Outlet>(intake: &Input<R>, sink: &mut S) ->
     sink.let_out()
 }
 
-/// What octets that are refused come to, which may be a fault of the sink.
+/// Returns the next item for a refusal, or an error if the refusal is that of the sink.
 fn next_of_refusal(refusal: Refusal) -> Result<Next, CommandFault>
     ensures { IsOfFault (Refused refusal) result }
 {
@@ -52,7 +52,7 @@ fn next_of_refusal(refusal: Refusal) -> Result<Next, CommandFault>
     Ok(Next::Refused(refusal))
 }
 
-/// What a fault of an intake comes to.
+/// Returns the next item for an error of an intake, or the error of the command.
 fn next_of_fault(fault: IntakeFault) -> Result<Next, CommandFault>
     ensures { IsOfFault fault result }
 {
@@ -63,8 +63,9 @@ fn next_of_fault(fault: IntakeFault) -> Result<Next, CommandFault>
     }
 }
 
-/// Begins an unpacker again, feeds it what comes next, and tells the sink the text of it. Before the input is read, the sink lets out
-/// what it holds. A fault is of the devices.
+/// Resets an unpacker, and feeds it the next envelope of an input. The sink receives the text of
+/// the envelope, and is flushed before each read of the input. Errors are those of the input and
+/// the output; a refusal is an item.
 pub fn take_next<R: Source, S: Outlet>(
     intake: &mut Input<R>,
     unpacker: &mut Unpacker,

@@ -1,4 +1,4 @@
-//! An input that is read only when all that came of it before is out.
+//! An input that is read only when all earlier output is written.
 
 ghost use Rattle.std.specs.Prelude.{◌≡◌, ◌↔◌, ◌<◌, [], None, IsTrue, IfOk, IfErr, OnOk, length};
 ghost use Rattle.iim_unpack.specs.States.Intakes.{FedPiece, GivesNothing, IsReady, ReadsWhereEmpty, in_line};
@@ -8,8 +8,9 @@ use iim_output::outlet::Outlet;
 use iim_unpack::{Fed, Intake, IntakeFault, Unpacker};
 use std::marker::Model;
 
-/// The input of a listing or of stories: an [`Intake`] that can be read only when the sink holds nothing back. A command has no other way
-/// to read what it is given, so that it can't wait for input with output that it has not written.
+/// The input of a listing or of stories: an [`Intake`] that can be read only when the sink has
+/// nothing buffered. A command has no other way to read its input. So it cannot wait for input
+/// while output is pending.
 ///
 /// Contracts see it as the intake.
 #[derive(Drop)]
@@ -26,7 +27,7 @@ impl<R> Model for Input<R> {
 }
 
 impl<R: Source> Input<R> {
-    /// Returns an input of which nothing has been read.
+    /// Creates an input from which nothing was read.
     pub fn new(reader: R) -> Input<R>
         ensures reader { result.reader ≡ reader }
         ensures block { result.block ≡ [] }
@@ -37,15 +38,16 @@ impl<R: Source> Input<R> {
         }
     }
 
-    /// Checks whether octets were read and not used yet: then [`Input::next_piece`] reads nothing.
+    /// Checks whether octets were read and not consumed. Then [`Input::next_piece`] does not read.
     pub fn holds_octets(&self) -> bool
         ensures { IsTrue result ↔ (0 < length self.now.block) }
     {
         self.intake.holds_octets()
     }
 
-    /// Feeds an unpacker the octets that were read and not used yet. If there are none, reads once, as [`Intake::next_piece`] does, and
-    /// feeds it what came: the sink must hold nothing then.
+    /// Feeds an unpacker the octets that were read and not consumed. If there are no such octets,
+    /// reads once, as [`Intake::next_piece`] does, and feeds what it has read. The sink must have
+    /// nothing buffered in that case.
     pub fn next_piece<S: Outlet>(
         &mut self,
         unpacker: &mut Unpacker,

@@ -1,4 +1,4 @@
-//! What holds of all inputs.
+//! Lemmas about all inputs.
 
 ghost use Rattle.iim_listing.specs.Laws.{EnvelopesAreDeliveredAsLines};
 
@@ -6,7 +6,7 @@ use iim_dataset::laws::dataset_laws;
 use wire_message::laws::message_laws;
 use wire_story::laws::texts_are_delivered_as_lines;
 
-/// What is delivered of the text in an envelope is its lines.
+/// Proves that the text delivered for an envelope consists of its lines.
 pub fn envelopes_are_delivered_as_lines()
     ensures { EnvelopesAreDeliveredAsLines }
 {

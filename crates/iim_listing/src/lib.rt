@@ -1,10 +1,11 @@
-//! Listings of inputs: `check`, `show` and `story`.
+//! The commands `check`, `show` and `story`.
 //!
-//! [`list::list`] writes a text for each envelope of an input, up to octets that are refused, and [`story::narrate`] the story of each.
-//! Both take what comes next by [`coming::take_next`], of an [`input::Input`]: it can be read only when all that came before is out.
+//! [`list::list`] writes a text for each envelope of an input, up to the first refusal, and
+//! [`story::narrate`] writes the story of each. Both call [`coming::take_next`] to read an
+//! [`input::Input`], which can be read only when all earlier output is written.
 //!
-//! Stands on `iim_unpack`, on `iim_output` for what it writes with, on `iim_script` for printed values, and on the crates below them.
-//! `iim_commands` stands on it.
+//! Depends on `iim_unpack`, on `iim_output` for writers, on `iim_script` for escaped values, and
+//! on the crates below them. `iim_commands` depends on it.
 #![tactic(auto)]
 
 pub mod check;

@@ -23,7 +23,7 @@ use iim_output::status::{ACCEPTED, REFUSED};
 use iim_unpack::{MAX_ENVELOPES, UnpackedRef, Unpacker};
 use std::alloc::{AllocError, Global};
 
-/// Adds the text of the envelope that an unpacker is done with.
+/// Appends the text of the envelope with which an unpacker is done.
 #[inline]
 fn push_envelope<P: EnvelopeLines>(
     texts: &P,
@@ -42,8 +42,9 @@ fn push_envelope<P: EnvelopeLines>(
     texts.push_text(text, number, octets, &got)
 }
 
-/// Lists what comes next, after `count` envelopes, in the room for a text, and answers the status where it is the last. Where memory is
-/// short, some of the listing may be held.
+/// Lists the next item of an input, after `count` envelopes, and returns the status if it is the
+/// last. `text` is a buffer for the text of the item. If an allocation fails, some of the listing
+/// may be buffered.
 #[inline]
 fn list_next<P: EnvelopeLines, R: Source, W: Target>(
     texts: &P,
@@ -87,7 +88,8 @@ fn list_next<P: EnvelopeLines, R: Source, W: Target>(
     }
 }
 
-/// Lists the envelopes of an input. Where memory is short, some of the listing may be held.
+/// Lists the envelopes of an input, and returns the status. If an allocation fails, some of the
+/// listing may be buffered.
 fn list_texts<P: EnvelopeLines, R: Source, W: Target>(
     alloc: Global,
     texts: &P,
@@ -116,7 +118,7 @@ fn list_texts<P: EnvelopeLines, R: Source, W: Target>(
     }
 }
 
-/// Lets out what is held where memory was short, and hands on the answer.
+/// Flushes the output if an allocation failed, and returns the result.
 fn settle<W: Target>(
     output: &mut BlockWriter<'_, W>,
     answer: Result<u8, CommandFault>,
@@ -133,9 +135,12 @@ fn settle<W: Target>(
     }
 }
 
-/// Lists an input: each envelope, up to the end, to octets that are refused or to one envelope too many. The texts of the envelopes that
-/// came are out before the input is read again. At a fault that is not of the output they are out too; where a write fails, those of
-/// them that are not out are lost.
+/// Lists an input: each envelope, up to the end, to the first refusal or to one envelope too many.
+/// Returns the status.
+///
+/// The texts of the envelopes read so far are written before the input is read again. If an
+/// allocation or a read fails, they are written, too. If a write fails, those that are not written
+/// are lost.
 pub fn list<P: EnvelopeLines, R: Source, W: Target>(
     alloc: Global,
     texts: &P,
@@ -159,24 +164,25 @@ pub fn list<P: EnvelopeLines, R: Source, W: Target>(
             let answer = list_texts(alloc, texts, intake, &mut silent);
             let Silent { mut output } = silent;
             let answer = settle(&mut output, answer);
-            // No effect at run time. The proof reads what the output holds from this use of what is handed back.
+            // No effect at run time: the proof needs this use of the returned target to know its
+            // contents.
             let _ = &*output.into_writer();
             answer
         }
         Err(same) => {
-            // The same for what is handed back where memory was refused.
+            // The same for the target that is returned if the allocation fails.
             let _ = &*same;
             Err(CommandFault::OutOfMemory)
         }
     }
 }
 
-/// What a command writes of each envelope.
+/// The text that a command writes for each envelope.
 pub trait EnvelopeLines {
     /// The text of the envelope with this number.
     ghost written: { ℕ → Listed → List ℕ };
 
-    /// Adds the text of an envelope with this number, which has `octets` octets.
+    /// Appends the text of an envelope. `number` is its number from 1, and `octets` is its length.
     fn push_text(
         &self,
         text: &mut Vec<u8>,

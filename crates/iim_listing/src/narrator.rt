@@ -1,4 +1,4 @@
-//! What `story` writes with: the text in blocks, and the lines that are told beside it.
+//! The output of `story`: the text in blocks, and the lines of the envelopes beside it.
 
 ghost use Rattle.std.specs.Prelude.{◌≡◌, [], ◌∷◌, IfErr, OnOk, OnErr};
 ghost use Rattle.iim_output.specs.Format.{accepted_line, refused_line};
@@ -14,17 +14,18 @@ use iim_places::Refusal;
 use std::alloc::{AllocError, Global};
 use wire_story::StorySink;
 
-/// Writes the text of stories in blocks to one target, and tells another the lines of the envelopes. The lines are held until it is told
-/// to let out what it holds: they go out after all text that it took before.
+/// Writes the text of stories in blocks to one target, and the lines of the envelopes to another.
+/// The lines are buffered until it is flushed: they are written after all text that it received
+/// before them.
 #[derive(Drop)]
 pub(crate) struct Narrator<'o, 'e, W, E> {
-    /// What the text goes to.
+    /// The writer of the text.
     pub output: BlockWriter<'o, W>,
-    /// Who is told the lines.
+    /// The target of the lines.
     pub errors: &'e mut E,
-    /// The lines that are not told yet.
+    /// The lines that are not written yet.
     pub lines: Vec<u8>,
-    /// Room for one line more while it is made.
+    /// A buffer in which the next line is built.
     line: Vec<u8>,
 }
 
@@ -33,7 +34,7 @@ impl<'o, 'e, W: Target, E: Target> Narrator<'o, 'e, W, E> {
     ghost use Rattle.iim_output.specs.States.Holding.{PutsOn};
     ghost use Rattle.iim_listing.specs.Steps.{HoldsLines, FailsToEnd, FailsToTell, LetsOut, stops_of};
 
-    /// A narrator that holds no line.
+    /// Creates a writer of stories that has no line buffered.
     pub(crate) fn new(
         alloc: Global,
         output: BlockWriter<'o, W>,
@@ -51,7 +52,7 @@ impl<'o, 'e, W: Target, E: Target> Narrator<'o, 'e, W, E> {
         }
     }
 
-    /// Both targets, handed back. What is still held is lost.
+    /// Returns both targets. What is still buffered is lost.
     pub(crate) fn into_targets(self) -> (&'o mut W, &'e mut E)
         ensures output { result.0 ≡ self.entry.output.writer }
         ensures errors { result.1 ≡ self.entry.errors }
@@ -65,7 +66,8 @@ impl<'o, 'e, W: Target, E: Target> Narrator<'o, 'e, W, E> {
         (output.into_writer(), errors)
     }
 
-    /// Lets out all that it holds where memory was refused, and answers which fault it comes to.
+    /// Flushes all that is buffered after an allocation failed. Returns the error: that failure,
+    /// or the failure of a write.
     fn starve(&mut self) -> CommandFault
         ensures { FailsToTell W.state E.state self.old self.new [] result }
     {
@@ -75,7 +77,7 @@ impl<'o, 'e, W: Target, E: Target> Narrator<'o, 'e, W, E> {
         }
     }
 
-    /// Holds the line of an accepted envelope, or nothing more where memory is refused.
+    /// Buffers the line of an accepted envelope, or nothing if the allocation fails.
     fn hold_line(&mut self, number: u64, octets: u64) -> Result<(), AllocError>
         ensures ok { OnOk result (HoldsLines self.old self.new (accepted_line number octets)) }
         ensures err { OnErr result (HoldsLines self.old self.new []) }
@@ -86,8 +88,8 @@ impl<'o, 'e, W: Target, E: Target> Narrator<'o, 'e, W, E> {
         self.lines.extend_from_slice(self.line.as_slice())
     }
 
-    /// Ends the story of an envelope: takes an LF after its text, and holds its line. Where memory is refused for the line, all that was
-    /// held is let out, and no LF is taken.
+    /// Ends the story of an envelope: writes an LF after its text, and buffers its line. If the
+    /// allocation of the line fails, flushes all that is buffered, and writes no LF.
     pub(crate) fn end_story(&mut self, number: u64, octets: u64) -> Result<(), CommandFault>
         ensures ok { OnOk result (PutsOn W.state self.old.output self.new.output (lf ∷ [])
             × (stops_of self.new ≡ stops_of self.old) × HoldsLines self.old self.new (accepted_line number octets)) }
@@ -102,7 +104,7 @@ impl<'o, 'e, W: Target, E: Target> Narrator<'o, 'e, W, E> {
         }
     }
 
-    /// Lets out all that it holds, and then tells a last line.
+    /// Flushes all that is buffered, and then writes a last line.
     pub(crate) fn tell_last(&mut self, line: &[u8]) -> Result<(), CommandFault>
         ensures ok { OnOk result (LetsOut W.state E.state self.old self.new line.now) }
         ensures err { IfErr result (FailsToTell W.state E.state self.old self.new line.now) }
@@ -114,7 +116,7 @@ impl<'o, 'e, W: Target, E: Target> Narrator<'o, 'e, W, E> {
         }
     }
 
-    /// Lets out all that it holds, and then tells the line of octets that are refused.
+    /// Flushes all that is buffered, and then writes the line of a refusal.
     pub(crate) fn tell_refusal(&mut self, number: u64, refusal: Refusal) -> Result<(), CommandFault>
         ensures ok { OnOk result (LetsOut W.state E.state self.old self.new (refused_line number refusal)) }
         ensures err { IfErr result (FailsToTell W.state E.state self.old self.new (refused_line number refusal)) }

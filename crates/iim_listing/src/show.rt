@@ -1,4 +1,4 @@
-//! `show`: all parts of each envelope but its story.
+//! All parts of each envelope except its story.
 
 ghost use Rattle.std.specs.Prelude.{◌≡◌, ◌+◌, ◌≤◌, ◌++◌, length, drop, OnOk, codes, decimal};
 ghost use Rattle.iim_dataset.specs.Format.Datasets.{number_or_dash};
@@ -12,7 +12,7 @@ use iim_unpack::UnpackedRef;
 use itoa::write_digits;
 use std::alloc::AllocError;
 
-/// Tells the fields of each envelope, the header and the trailer of its message, and its sizes.
+/// Shows the fields of each envelope, the header and the trailer of its message, and its sizes.
 #[derive(Clone, Copy)]
 pub struct Show;
 
@@ -34,7 +34,7 @@ impl EnvelopeLines for Show {
     }
 }
 
-/// Adds the first line.
+/// Appends the first line.
 fn push_number(text: &mut Vec<u8>, number: u64) -> Result<(), AllocError>
     ensures { OnOk result (text.new.items ≡ text.old.items ++ number_line number) }
 {
@@ -43,7 +43,7 @@ fn push_number(text: &mut Vec<u8>, number: u64) -> Result<(), AllocError>
     Ok(())
 }
 
-/// Adds a word and a number after it.
+/// Appends a word and a number.
 fn push_counted(text: &mut Vec<u8>, word: &[u8], number: u64) -> Result<(), AllocError>
     ensures { OnOk result (text.new.items ≡ text.old.items ++ (word.now ++ decimal number)) }
 {
@@ -51,7 +51,8 @@ fn push_counted(text: &mut Vec<u8>, word: &[u8], number: u64) -> Result<(), Allo
     push_decimal(text, number)
 }
 
-/// Writes a number before a place of a line, and answers where it begins.
+/// Writes a number into a line, ending just before the offset `end`. Returns the offset at which
+/// it begins.
 #[inline(always)]
 fn write_number(number: u64, line: &mut [u8], end: usize) -> usize
     requires { 20 ≤ end × end ≤ length line.old }
@@ -61,7 +62,8 @@ fn write_number(number: u64, line: &mut [u8], end: usize) -> usize
     write_digits(number, line, end)
 }
 
-/// Writes a number before a place of a line, or `-` where there is none, and answers where it begins.
+/// Writes a number, or `-` for `None`, into a line, ending just before the offset `end`. Returns
+/// the offset at which it begins.
 #[inline(always)]
 fn write_stated(number: Option<u64>, line: &mut [u8], end: usize) -> usize
     requires { 20 ≤ end × end ≤ length line.old }
@@ -74,14 +76,15 @@ fn write_stated(number: Option<u64>, line: &mut [u8], end: usize) -> usize
     }
 }
 
-/// The size mode: 1 where the size is known at the start.
+/// Returns the size mode: 1 if the size is known at the start, otherwise 0.
 fn mode(known: bool) -> u64
     ensures { result ≡ mode_number known }
 {
     if known { 1 } else { 0 }
 }
 
-/// Writes the first half of the line of sizes before a place of a line, and answers where it begins.
+/// Writes the first half of the line of sizes, ending just before the offset `end`. Returns the
+/// offset at which it begins.
 fn write_counts(sizes: Sizes, line: &mut [u8], end: usize) -> usize
     requires { 92 ≤ end × end ≤ length line.old }
     ensures { drop result line.new ≡ codes "object " ++ (decimal sizes.total
@@ -96,7 +99,8 @@ fn write_counts(sizes: Sizes, line: &mut [u8], end: usize) -> usize
     write_word(b"object ", line, total)
 }
 
-/// Writes the second half of it before a place of a line, and answers where it begins.
+/// Writes the second half of the line of sizes, ending just before the offset `end`. Returns the
+/// offset at which it begins.
 fn write_bounds(sizes: Sizes, line: &mut [u8], end: usize) -> usize
     requires { 91 ≤ end × end ≤ length line.old }
     ensures start { end ≤ result + 91 }
@@ -113,10 +117,11 @@ fn write_bounds(sizes: Sizes, line: &mut [u8], end: usize) -> usize
     write_word(b", limit ", line, subfile)
 }
 
-/// The most octets of the line of sizes, or more: six numbers of up to 20 digits, and 63 octets.
+/// The capacity for the line of sizes. The longest line has six numbers of 20 digits, and 63
+/// octets.
 const SIZES: usize = 192;
 
-/// Adds the line of the object's sizes.
+/// Appends the line of the object's sizes.
 fn push_sizes(text: &mut Vec<u8>, sizes: Sizes) -> Result<(), AllocError>
     ensures { OnOk result (text.new.items ≡ text.old.items ++ sizes_line sizes) }
 {

@@ -1,4 +1,4 @@
-//! `story`: the text of each envelope, as it comes.
+//! The text of each envelope, while it is read.
 
 ghost use Rattle.std.specs.Prelude.{◌≡◌, ◌<◌, ◌≤◌, None, Ok, Err, IfOk, IfErr};
 ghost use Rattle.iim_unpack.specs.States.Intakes.{in_line};
@@ -22,7 +22,8 @@ use iim_unpack::{MAX_ENVELOPES, Unpacker};
 use std::alloc::Global;
 use wire_story::laws::story_laws;
 
-/// Tells what comes next, after `count` envelopes, and answers the status where it is the last.
+/// Writes the story of the next envelope of an input, after `count` envelopes, and returns the
+/// status if there are no more.
 #[inline]
 fn tell_next<R: Source, W: Target, E: Target>(
     intake: &mut Input<R>,
@@ -62,7 +63,8 @@ fn tell_next<R: Source, W: Target, E: Target>(
     }
 }
 
-/// Tells the text of each envelope as it comes, and its line, where nothing is held before. All is out afterwards, but where a write failed.
+/// Writes the story of each envelope while it is read, and its line. Nothing may be buffered
+/// before. Afterwards nothing is buffered, unless a write failed.
 fn tell_stories<R: Source, W: Target, E: Target>(
     alloc: Global,
     intake: &mut Input<R>,
@@ -93,10 +95,13 @@ fn tell_stories<R: Source, W: Target, E: Target>(
     }
 }
 
-/// Writes the text of each envelope as it comes, its lines joined by LF, and an LF after each envelope. The errors are told what
-/// `check` tells: each envelope, up to the end, to octets that are refused or to one envelope too many. What came is out on both before
-/// the input is read again, and no line is told before the text of its envelope is out. Where a write fails, what is not out is lost on
-/// both.
+/// Writes the text of each envelope while it is read, with its lines joined by LF, and an LF after
+/// each envelope. Writes the lines of `check` to `errors`: each envelope, up to the end, to the
+/// first refusal or to one envelope too many. Returns the status.
+///
+/// All output for the octets read so far is written to both targets before the input is read
+/// again. No line is written before the text of its envelope. If a write fails, what is not
+/// written is lost on both targets.
 pub fn narrate<R: Source, W: Target, E: Target>(
     alloc: Global,
     intake: &mut Input<R>,
@@ -116,14 +121,15 @@ pub fn narrate<R: Source, W: Target, E: Target>(
         Ok(made) => {
             let mut narrator = Narrator::new(alloc, made, errors);
             let answer = tell_stories(alloc, intake, &mut narrator);
-            // No effect at run time. The proof reads what both hold from this use of what is handed back.
+            // No effect at run time: the proof needs this use of the returned targets to know
+            // their contents.
             let (output, errors) = narrator.into_targets();
             let _ = &*output;
             let _ = &*errors;
             answer
         }
         Err(same) => {
-            // The same for what is handed back where memory was refused.
+            // The same for the target that is returned if the allocation fails.
             let _ = &*same;
             Err(CommandFault::OutOfMemory)
         }

@@ -63,7 +63,7 @@ pub returns-in-Ok-End-clause-leads : goal.returns-in-Ok-End-clause-leads
 returns-in-Ok-End-clause-leads g c = g.met.R.Source.leads_on c.args.intake.now.reader c.feeding.intake.reader c.next_piece.new.self.reader
     c.feeding.invariant.leads c.next_piece.ensures.leads
 
--- why the intake gave nothing
+-- why the intake returned nothing
 pub returns-in-Err-next_piece : goal.returns-in-Err-next_piece
 returns-in-Err-next_piece g c =
     let out = take_out g.met.S.StorySink.joined c.feeding.invariant.taken c.in-Ok.ensures.told in

@@ -3,7 +3,7 @@ use Rattle.iim_dataset.proofs.Lists.{handed_on}
 use Rattle.iim_listing.proofs.Listings.{ends_refused, failed, left_of, none_left, listed, listed_more, listed_out, starved, unended, unsaid_of}
 use Rattle.iim_listing.proofs.list.list_next.Goals as goal
 
--- what was added to an empty buffer is all that stands in it
+-- what was appended to an empty buffer is all that it has
 added : (before after words all : List ℕ) → before ≡ [] → after ≡ before ++ words → all ≡ after → all ≡ words
 added before after words all empty more whole = rw (whole, more, empty) refl
 

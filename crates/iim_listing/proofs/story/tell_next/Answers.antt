@@ -6,7 +6,7 @@ use Rattle.iim_listing.proofs.story.tell_next.Given.{Over}
 use Rattle.iim_listing.proofs.story.tell_next.Goals.{In-Envelope}
 use Rattle.iim_listing.proofs.story.tell_next.Goals as goal
 
--- an envelope that came
+-- an envelope that was read
 come : (g : Over) (c : In-Envelope g) → EnvelopeHasCome (TellsOn g.W.Target.state g.E.Target.state) (in_line g.R.Source.state c.args.intake.now)
     (in_line g.R.Source.state c.take_next.new.intake) c.take_next.new.unpacker c.args.narrator.now c.take_next.new.sink c.in-Envelope.octets
 come g c = rw c.in-Envelope.is at c.in_ok-octets.ensures.next

@@ -5,7 +5,7 @@ use Rattle.iim_script.specs.Format.Scripts.{field_line, message_line, trailer_li
 use Rattle.iim_listing.specs.Format.{number_line, sizes_line, shown_of}
 use Rattle.iim_listing.proofs.show.ShowEnvelopeLines.push_text.Goals as goal
 
--- five parts, one after another
+-- five parts that follow one another
 joined : (o a f m t s v x y z w : List ℕ) → v ≡ o ++ a → x ≡ v ++ f → y ≡ x ++ m → z ≡ y ++ t → w ≡ z ++ s → w ≡ o ++ (a ++ (f ++ (m ++ (t ++ s))))
 joined o a f m t s v x y z w one two three four five = rw (five, four, three, two, one) (simp append_assoc)
 
