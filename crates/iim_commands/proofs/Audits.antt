@@ -1,4 +1,4 @@
--- What stops an audit's report.
+-- Errors in writing an audit's report.
 use Rattle.iim_commands.proofs.Imports.{◌≡◌, ℕ, ◌+◌, ℤ, inl, inr, refl, sym, List, [], ◌∷◌, ◌++◌, length, take, drop, append_assoc, length-append, arith, take-append-drop, Device, FailsAt, lines_from, printed_report, row_line, sums_line, AuditRow, IsAuditAnswer, FailsToAudit, HasPut, HoldsNothing, IsCutShort, FailsToAdd, limits, cut_on, stopped_in, CommandFault}
 use Rattle.iim_dataset.specs.Laws.{TextsJoin}
 use Rattle.iim_audit.specs.declared.fault.AuditCause.{AuditCause}
@@ -7,14 +7,14 @@ use Rattle.iim_commands.specs.Endings.{CannotTell}
 use Rattle.iim_output.specs.States.Holding.{device_of}
 use Rattle.iim_output.specs.declared.block_writer.BlockWriter.{BlockWriter}
 
--- the output broke inside the answer, where nothing was held
+-- a write failed inside the report or the line, with an empty buffer before
 pub unsaid : {W : Type 0} (state : W → Device) (a b : BlockWriter W) (now : ℤ) (source rest : Device) (words : List ℕ) (status : ℕ) (fault : CommandFault)
     → HoldsNothing a → IsAuditAnswer now source rest words status → FailsToAdd state a b words fault
     → FailsToAudit now source rest (device_of state a) (device_of state b) fault
 unsaid state a b now source rest words status fault before answer (broke, cut) =
     rw broke (words, status, length cut.out, answer, stopped_in state a b words before cut)
 
--- there is no line for the cause
+-- the cause has no line
 pub untold : (now : ℤ) (source rest old : Device) (number : ℕ) (cause : AuditCause) (fault : CommandFault) → FailsAt limits source rest number cause
     → CannotTell cause fault → FailsToAudit now source rest old old fault
 untold now source rest old number causes.Read fault h is = rw is (number, inl h, refl)
@@ -37,7 +37,7 @@ front rows k =
     let (more, is) = lines_on 1 (take k rows) (drop k rows) in
     (more ++ sums_line rows, rw (rw take-append-drop at is) (append_assoc (lines_from 1 (take k rows)) more (sums_line rows)))
 
--- a text that was cut short is so with more after it
+-- a text that was written in part was so with more text after it
 cut_sooner : {W : Type 0} (state : W → Device) (a b : BlockWriter W) (xs ys : List ℕ) → IsCutShort state a b xs → IsCutShort state a b (xs ++ ys)
 cut_sooner state a b xs ys cut = record {
   out = cut.out;
@@ -49,7 +49,7 @@ cut_sooner state a b xs ys cut = record {
   patience = cut.patience;
 }
 
--- the output broke inside the line of a row
+-- a write failed inside the line of a row
 pub cut_in_line : {W : Type 0} (state : W → Device) → TextsJoin → (a b c : BlockWriter W) (rows : List AuditRow) (i : ℕ) (line : List ℕ)
     (fault : CommandFault) → lines_from 1 (take i rows) ++ line ≡ lines_from 1 (take (i + 1) rows) → HasPut state a b (lines_from 1 (take i rows))
     → FailsToAdd state b c line fault → FailsToAdd state a c (printed_report rows) fault

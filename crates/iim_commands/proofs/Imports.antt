@@ -1,4 +1,4 @@
--- The names that several proofs bring in, passed on from one place.
+-- The names that several proofs import, re-exported from one module.
 pub use Rattle.iim_audit.specs.Format.{FailsAt, lines_from, printed_report, row_line, sums_line}
 pub use Rattle.iim_audit.specs.declared.row.AuditRow.{AuditRow}
 pub use Rattle.iim_commands.specs.Format.{Audited, Complained, Ends, IsAuditAnswer, FailsToAudit, Ran}

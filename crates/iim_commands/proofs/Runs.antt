@@ -1,4 +1,4 @@
--- How a run begins and ends.
+-- The beginning and the end of a run.
 use Rattle.iim_commands.proofs.Imports.{◌≡◌, ℕ, ◌⊎◌, inl, inr, refl, ap, ◌∙◌, List, [], Option, None, Some, Result, Ok, Err, IfOk, IfErr, Device, CommandFault, status_failed, in_line, Complained, Ends}
 use Rattle.iim_unpack.specs.States.Blocks.{with_held, put_before}
 use Rattle.iim_unpack.specs.declared.intake.Intake.{Intake}
@@ -7,16 +7,16 @@ none_before : (known : Option (List ℕ)) → put_before [] known ≡ known
 none_before None = refl
 none_before (Some xs) = refl
 
--- a reader of which no octets are held
+-- a reader without buffered octets
 pub with_none_held : (held : List ℕ) (d : Device) → held ≡ [] → with_held held d ≡ d
 with_none_held held d is = rw is (λ i. record { octets = none_before d.octets i; failures = d.failures; interruptions = d.interruptions })
 
--- an intake that is new over a reader
+-- a new intake over a reader
 pub begun : {R : Type 0} (state : R → Device) (intake : Intake R) (reader : R) → intake.block ≡ [] → intake.reader ≡ reader
     → in_line state intake ≡ state reader
 begun state intake reader none is = with_none_held intake.block (state intake.reader) none ∙ ap state is
 
--- with its answer, or a fault that is told
+-- with its result, or an error that is printed
 pub ends : (P : ℕ → Type 0) (Q : CommandFault → Type 0) (old new : Device) (answer : Result ℕ CommandFault) (status : ℕ) → IfOk answer P → IfErr answer Q
     → IfOk answer (λ want. (status ≡ want) × (new ≡ old)) → IfErr answer (λ fault. (status ≡ status_failed) × Complained old new fault)
     → Ends (P status × (new ≡ old)) (λ fault before. Q fault × (before ≡ old)) new status

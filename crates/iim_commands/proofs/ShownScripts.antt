@@ -1,4 +1,4 @@
--- What is shown of an envelope, and its story, are a script of its values.
+-- What `show` prints of an envelope, and its story, are a script of its values.
 use Rattle.iim_commands.proofs.Imports.{◌≡◌, inl, ℕ, ◌<◌, ◌≤◌, true, false, List, [], ◌∷◌, ◌++◌, append_assoc, append-nil, length, refl, ap, arith, limits, story_of, ScriptContent, IsScriptOf}
 use Rattle.std.specs.Prelude.{codes}
 use Rattle.std.specs.List.{AllByRecursion}
@@ -14,7 +14,7 @@ use Rattle.iim_places.specs.Format.Streams.{Listed, IsListed}
 use Rattle.iim_commands.specs.Laws.{told_of, TellsJust, ShownEnvelopesAreScripts}
 use Rattle.iim_listing.specs.Format.{number_line, sizes_line, shown_of}
 
--- ---- the datasets that are kept
+-- ---- the datasets that are stored
 
 run_lacks : (r : ℕ) (run : List Dataset) → AllByRecursion (λ d. (d.rec ≡ r) × IsGoodDataset d) run → is_kept r ≡ false → kept run ≡ []
 run_lacks r [] h none = refl
@@ -29,7 +29,7 @@ records_lack [] ds none h = ap kept none
 records_lack (r ∷ rs) ds (run, rest, parts, good, later) h =
     rw (parts, filter-append (λ (d : Dataset). is_kept d.rec) run rest, run_lacks r run good.each h.0) (records_lack rs rest later h.1)
 
--- good records 1 and 2 are what is kept of whole sections
+-- valid records 1 and 2 are what is stored of complete sections
 kept_of_sections : (ds : List Dataset) → AreSections ds → builders.IsEnvelope (kept ds)
 kept_of_sections ds (r1, rest1, parts1, good1, (r2, rest2, parts2, good2, later2)) =
     let none : kept rest2 ≡ [] = records_lack (7 ∷ 8 ∷ 9 ∷ []) rest2 later2 (refl, (refl, (refl, tt))) in

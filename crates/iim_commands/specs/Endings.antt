@@ -1,9 +1,9 @@
--- Why there is no line for a fault of an audit.
+-- Why an error of an audit has no line.
 use Rattle.std.specs.Prelude.{◌≡◌}
 use Rattle.iim_commands.specs.Format.{AuditCause, CommandFault, CannotRead, OutOfMemory}
 use Rattle.iim_audit.specs.declared.fault.AuditCause.TheVariants as causes
 
--- A failed reader is told as that. Memory may be short for any line.
+-- A failure of the reader is an error of the command. An allocation may fail for any line.
 abbrev pub CannotTell : AuditCause → CommandFault → Type 0
 CannotTell causes.Read fault = fault ≡ CannotRead
 CannotTell causes.Interrupted fault = fault ≡ CannotRead

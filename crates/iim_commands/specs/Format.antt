@@ -1,4 +1,4 @@
--- What a run of a command leaves of its output and its errors, and its status.
+-- What a run of a command writes to its output and its errors, and its status.
 use Rattle.std.specs.Prelude.{◌≡◌, ℕ, ℤ, ◌⊎◌, List}
 use Rattle.iim_dataset.specs.States.Devices.{Device, Wrote, Stopped, HasGiven}
 use Rattle.iim_audit.specs.{Format.IsAudited, Format.FailsAt, Format.printed_report, declared.row.AuditRow.AuditRow}
@@ -14,49 +14,54 @@ use Rattle.iim_places.specs.Format.Streams.{Listed}
 use Rattle.iim_listing.specs.Format.{line_of, FailsToNarrate, Narrated, WritesListing, FailsListing, shown_of}
 use Rattle.iim_pack_script.specs.Format.{Answered, FailsToAnswer, asked}
 
--- ---- What `audit` leaves.
+-- ---- What `audit` writes.
 
--- The line tells why there is no report, at the envelope of this number: its octets are refused, or it is one too many.
+-- The line has the reason why there is no report, at the envelope of this number: its octets are
+-- rejected, or it is one too many.
 abbrev pub TellsWhy : ℕ → AuditCause → List ℕ → Type 0
 TellsWhy number (causes.Refused e) words = words ≡ refused_line number e
 TellsWhy number causes.TooManyEnvelopes words = words ≡ too_many_line
 TellsWhy number _ words = ⊥
 
--- The report of the input, at this instant; or the line that tells why it has none.
+-- The report of the input, at this instant; or the line with the reason why there is no report.
 abbrev pub IsAuditAnswer : ℤ → Device → Device → List ℕ → ℕ → Type 0
 IsAuditAnswer now source rest words status =
     ((rows : List AuditRow) × IsAudited limits now source rest rows × (words ≡ printed_report rows) × (status ≡ status_accepted))
     ⊎ ((number : ℕ) × (cause : AuditCause) × FailsAt limits source rest number cause × TellsWhy number cause words × (status ≡ status_refused))
 
--- That is out, and nothing else. (The input before and after, then the output.)
+-- Exactly that is written. (The input before and after, then the output.)
 abbrev pub Audited : ℤ → Device → Device → Device → Device → ℕ → Type 0
 Audited now source rest old new status = (words : List ℕ) × IsAuditAnswer now source rest words status × Wrote old new words
 
--- Why it isn't out. The reader failed, or memory was short: nothing is out. Or the output broke inside it.
+-- Why it is not written. The reader or an allocation failed: nothing is written. Or a write failed
+-- inside it.
 abbrev pub FailsToAudit : ℤ → Device → Device → Device → Device → CommandFault → Type 0
 FailsToAudit now source rest old new CannotRead = (number : ℕ) × (FailsAt limits source rest number causes.Read ⊎ FailsAt limits source rest number causes.Interrupted)
     × (new ≡ old)
 FailsToAudit now source rest old new CannotWrite = (words : List ℕ) × (status : ℕ) × (n : ℕ) × IsAuditAnswer now source rest words status × Stopped old new words n
 FailsToAudit now source rest old new OutOfMemory = (input : List ℕ) × HasGiven source rest input × (new ≡ old)
 
--- ---- What a run leaves.
+-- ---- What a run writes.
 
--- The line of the fault is out, or the device broke inside it.
+-- The line of the error is written, or a write failed inside it.
 abbrev pub Complained : Device → Device → CommandFault → Type 0
 Complained old new fault = Wrote old new (fault_line fault) ⊎ ((n : ℕ) × Stopped old new (fault_line fault) n)
 
--- It ended as it should; or a fault came, and was told on the errors after what stood there, and the status is 3.
+-- It ended without an error; or an error occurred, and was printed to the errors after their
+-- earlier octets, and the status is 3.
 abbrev pub Ends : Type 0 → (CommandFault → Device → Type 0) → Device → ℕ → Type 0
 Ends answered fails errors status = answered
     ⊎ ((fault : CommandFault) × (before : Device) × fails fault before × Complained before errors fault × (status ≡ status_failed))
 
--- The input was listed, without a word on the errors; or a fault came and was told there.
+-- The input was listed, and nothing was printed to the errors; or an error occurred and was
+-- printed there.
 abbrev pub EndsListing : (ℕ → Listed → List ℕ) → Devices → Devices → ℕ → Type 0
 EndsListing text old new status = Ends (WritesListing text old.input new.input old.output new.output status × (new.errors ≡ old.errors))
     (λ fault errors. FailsListing text old.input new.input old.output new.output fault × (errors ≡ old.errors)) new.errors status
 
--- What each job leaves: a listing; the stories, with the lines of `check` on the errors; the answer to a script; or the report of an
--- audit, without a word on the errors.
+-- What each job writes: a listing; the stories, with the lines of `check` to the errors; the
+-- packed form of a script, or its refusal; or the report of an audit, with nothing printed to the
+-- errors.
 abbrev pub Ran : Job → Devices → Devices → ℕ → Type 0
 Ran Check old new status = EndsListing line_of old new status
 Ran Show old new status = EndsListing shown_of old new status

@@ -7,18 +7,21 @@ use Rattle.iim_output.specs.Format.{limits}
 use Rattle.iim_listing.specs.Format.{story_of, number_line, sizes_line, shown_of}
 use Rattle.iim_pack_script.specs.Format.{ScriptContent, IsScriptOf}
 
--- what a script tells of these values, where each dataset, the header and the trailer has a line
+-- the content of a script with these values, in which each dataset, the header and the trailer has
+-- one line
 abbrev pub told_of : Value → ScriptContent
 told_of v = record { fields = v.fields; head = v.head; trailer = v.trailer; lines = v.lines; text_line = length v.fields + 3 }
 
--- The octets are a script that tells this, and nothing else; it has no fault, but that memory may be refused.
+-- The octets are a script with this content, and no other. It has no error, except that an
+-- allocation may fail.
 pub record TellsJust (script : List ℕ) (t : ScriptContent) : Type 0 where
   pub told : IsScriptOf script t
   pub only : (other : ScriptContent) → IsScriptOf script other → other ≡ t
   pub sound : (line : ℕ) (cause : ScriptCause) → IsScriptFault limits script line cause → cause ≡ OutOfMemory
 
--- What `show` prints of an envelope is its first line, other lines, and the line of its sizes. The other lines, the line `text`, and
--- what `story` prints of the envelope are a script that tells just its values, where they are not too long for one.
+-- What `show` prints of an envelope is its first line, other lines, and the line of its sizes. The
+-- other lines, the line `text`, and what `story` prints of the envelope are a script that
+-- specifies exactly its values, unless they are too long for a script.
 abbrev pub ShownEnvelopesAreScripts : Type 0
 ShownEnvelopesAreScripts = (number : ℕ) (e : Listed) → IsListed limits e → (lines : List ℕ) × (shown_of number e ≡ number_line number ++ (lines ++ sizes_line e.value.sizes))
     × (length (lines ++ (codes "text\n" ++ story_of number e)) ≤ max_script → TellsJust (lines ++ (codes "text\n" ++ story_of number e)) (told_of e.value))

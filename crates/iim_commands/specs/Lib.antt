@@ -1,6 +1,6 @@
--- What octets are, and what is said of them.
+-- What octets are, and the definitions that public contracts cite.
 pub mod Format
--- What holds of these: statements, each the contract of a law.
+-- Lemmas as statements, each the contract of a public function.
 pub mod Laws
--- What only proofs and private clauses cite.
+-- Definitions that only proofs and private clauses cite.
 pub mod Endings

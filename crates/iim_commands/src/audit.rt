@@ -1,4 +1,4 @@
-//! `audit`: the report of an input.
+//! The audit report of an input.
 
 ghost use Rattle.std.specs.Prelude.{◌≡◌, None, IfOk, IfErr, OnOk};
 ghost use Rattle.iim_audit.specs.Format.{printed_report};
@@ -20,7 +20,8 @@ use iim_unpack::Intake;
 use jiff::Timestamp;
 use std::alloc::Global;
 
-/// The line that tells why there is no report, where it is the octets; else the fault.
+/// Returns the line for an error of an audit, if it is in the octets of the input; otherwise the
+/// error of the command.
 fn reason(alloc: Global, fault: AuditFault) -> Result<Vec<u8>, CommandFault>
     ensures told { IfOk result (λ line. TellsWhy fault.envelope fault.cause line.items) }
     ensures other { IfErr result (CannotTell fault.cause) }
@@ -37,7 +38,7 @@ fn reason(alloc: Global, fault: AuditFault) -> Result<Vec<u8>, CommandFault>
     }
 }
 
-/// Writes the lines of a report, and lets out all. It takes no memory.
+/// Writes the lines of a report, and flushes the output. Allocates nothing.
 fn add_report<W: Target>(
     output: &mut BlockWriter<'_, W>,
     report: &Report,
@@ -53,7 +54,7 @@ fn add_report<W: Target>(
     add_last(output, report.last_line().as_slice())
 }
 
-/// The instant, for `jiff`.
+/// Converts an instant for `jiff`.
 fn timestamp_of(instant: Instant) -> Timestamp
     ensures { result.nanosecond ≡ instant.nanosecond }
 {
@@ -63,8 +64,8 @@ fn timestamp_of(instant: Instant) -> Timestamp
     }
 }
 
-/// Writes the report of an input, or the line that tells why there is none, where nothing is held before. Nothing is held afterwards,
-/// but where a write failed.
+/// Writes the report of an input, or the line of its error, and returns the status. The output
+/// must have nothing buffered. It has nothing buffered afterwards, unless a write failed.
 fn report_input<R: Source, W: Target>(
     alloc: Global,
     now: Instant,
@@ -93,8 +94,9 @@ fn report_input<R: Source, W: Target>(
     }
 }
 
-/// Writes the report of an input at the instant `now`, or the line that tells why there is none. Memory is asked for before anything is
-/// written; where a write fails, what of the text is not out is lost.
+/// Writes the report of an input at the instant `now`, or the line of its error, and returns the
+/// status. All allocations are done before anything is written. If a write fails, the text that is
+/// not written is lost.
 pub fn write_audit<R: Source, W: Target>(
     alloc: Global,
     now: Instant,
@@ -115,12 +117,13 @@ pub fn write_audit<R: Source, W: Target>(
         Ok(made) => {
             let mut blocks = made;
             let answer = report_input(alloc, now, intake, &mut blocks);
-            // No effect at run time. The proof reads what the output holds from this use of what is handed back.
+            // No effect at run time: the proof needs this use of the returned target to know its
+            // contents.
             let _ = &*blocks.into_writer();
             answer
         }
         Err(same) => {
-            // The same for what is handed back where memory was refused.
+            // The same for the target that is returned if the allocation fails.
             let _ = &*same;
             Err(CommandFault::OutOfMemory)
         }

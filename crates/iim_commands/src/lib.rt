@@ -1,10 +1,10 @@
-//! What the commands read and write: listings of inputs (`check`, `show`), stories, audits, and packed scripts.
-//! [`parse`] makes a request of the words of a command line, [`run`] carries it out, and [`read_script`] returns what a script
-//! specifies.
+//! The commands of `iimwire`. [`parse`] parses the arguments of a command line, [`run`] runs the
+//! request, and [`read_script`] returns the envelope that a script specifies.
 //!
-//! Stands on the crates of the single commands, whose modules it hands on: `iim_request` reads the words, `iim_listing` lists and tells
-//! stories, `iim_pack_script` packs, and `iim_output` has what they write with. The audit stands here, over `iim_audit`, and what ties
-//! them. The command `iimwire` stands on it, which gives it words, files and streams.
+//! Depends on the crates of the single commands, and re-exports their modules: `iim_request`
+//! parses the arguments, `iim_listing` writes listings and stories, `iim_pack_script` packs, and
+//! `iim_output` has their writers. The command `audit` is in this crate, over `iim_audit`. The
+//! command `iimwire` depends on it, and provides arguments, files and streams.
 #![tactic(auto)]
 
 pub mod audit;

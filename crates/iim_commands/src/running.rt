@@ -1,4 +1,4 @@
-//! Does what a request asks for.
+//! Requests that are run.
 
 ghost use Rattle.std.specs.Prelude.{◌≡◌, ℕ, List, IfOk, IfErr};
 ghost use Rattle.iim_unpack.specs.States.Blocks.{with_held};
@@ -21,7 +21,7 @@ use iim_request::request::{Job, Request};
 use iim_unpack::Intake;
 use std::alloc::Global;
 
-/// Tells a fault. The status is the same whether the line of it could be written or not.
+/// Prints an error, and returns the status of a failure, even if the line cannot be written.
 fn complain<E: Target>(errors: &mut E, fault: CommandFault) -> u8
     ensures status { result ≡ status_failed }
     ensures told { Complained (E.state errors.old) (E.state errors.new) fault }
@@ -30,7 +30,7 @@ fn complain<E: Target>(errors: &mut E, fault: CommandFault) -> u8
     FAILED
 }
 
-/// Ends a run with its answer: the status, after a fault was told.
+/// Ends a run: returns the status, or prints the error and returns the status of a failure.
 fn finish<E: Target>(errors: &mut E, answer: Result<u8, CommandFault>) -> u8
     ensures ok { IfOk answer (λ want. (result ≡ want) × (E.state errors.new ≡ E.state errors.old)) }
     ensures fault { IfErr answer (λ fault. (result ≡ status_failed)
@@ -42,7 +42,7 @@ fn finish<E: Target>(errors: &mut E, answer: Result<u8, CommandFault>) -> u8
     }
 }
 
-/// Lists the envelopes of a reader: the status, and both writers.
+/// Lists the envelopes of a reader. Returns the status and both writers.
 fn write_listing<P: EnvelopeLines, R: Source + Drop, W: Target, E: Target>(
     alloc: Global,
     texts: &P,
@@ -62,7 +62,7 @@ fn write_listing<P: EnvelopeLines, R: Source + Drop, W: Target, E: Target>(
     (status, output, errors)
 }
 
-/// Tells the stories of a reader: the status, and both writers.
+/// Writes the stories of the envelopes of a reader. Returns the status and both writers.
 fn write_stories<R: Source + Drop, W: Target, E: Target>(
     alloc: Global,
     reader: R,
@@ -81,7 +81,7 @@ fn write_stories<R: Source + Drop, W: Target, E: Target>(
     (status, output, errors)
 }
 
-/// Reports the audit of a reader: the status, and both writers.
+/// Writes the audit report of a reader. Returns the status and both writers.
 fn review<R: Source + Drop, W: Target, E: Target>(
     alloc: Global,
     now: Instant,
@@ -101,7 +101,7 @@ fn review<R: Source + Drop, W: Target, E: Target>(
     (status, output, errors)
 }
 
-/// Packs the envelope of a reader's script: the status, and both writers.
+/// Packs the envelope that a reader's script specifies. Returns the status and both writers.
 fn pack<R: Source + Drop, W: Target, E: Target>(
     alloc: Global,
     request: PackRequest,
@@ -120,7 +120,7 @@ fn pack<R: Source + Drop, W: Target, E: Target>(
     (status, output, errors)
 }
 
-/// Does what a request asks for: the status, and both writers.
+/// Runs a request. Returns the status and both writers.
 pub fn run<R: Source + Drop, W: Target, E: Target>(
     alloc: Global,
     request: Request<'_>,
@@ -128,7 +128,7 @@ pub fn run<R: Source + Drop, W: Target, E: Target>(
     output: W,
     errors: E,
 ) -> (u8, W, E)
-    // The reader came to `last`, of whose octets some were read and not used.
+    // The reader has reached the state `last`; the octets `held` were read and not consumed.
     ensures { (last : R) × (held : List ℕ) × R.leads reader last
         × Ran request.entry.job (devices (R.state reader) (W.state output) (E.state errors))
         (devices (with_held held (R.state last)) (W.state result.1) (E.state result.2)) result.0 }

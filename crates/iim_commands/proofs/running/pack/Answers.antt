@@ -2,7 +2,7 @@ use Rattle.iim_commands.proofs.Imports.{◌≡◌, ℕ, Result, Ok, Err, IfOk, I
 use Rattle.iim_output.specs.declared.fault.CommandFault.TheVariants.{CannotRead, CannotWrite, OutOfMemory}
 use Rattle.iim_commands.proofs.running.pack.Goals as goal
 
--- what is told on the errors makes no difference
+-- the error output does not matter for the fault
 unanswered : (a : Asked) (source rest old new errors mid told : Device) (fault : CommandFault)
     → FailsToAnswer a (devices source old errors) (devices rest new mid) fault → FailsToAnswer a (devices source old errors) (devices rest new told) fault
 unanswered a source rest old new errors mid told CannotRead h = h
