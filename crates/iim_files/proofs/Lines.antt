@@ -37,7 +37,7 @@ text_back p true (x ∷ text) tail e =
     (ap (λ t. x ∷ t) (text_back p (x == lf) text tail e))
 text_back p false (x ∷ text) tail e = ap (λ t. x ∷ t) (text_back p (x == lf) text tail e)
 
--- ---- laying out, octet by octet
+-- ---- laying out lines, octet by octet
 
 pub laid_more : (p : List ℕ) (fresh : Bool) (xs : List ℕ) (i : ℕ) → i < length xs
     → prefixed p fresh (take (i + 1) xs) ≡ (prefixed p fresh (take i xs) ++ front p (begins_line fresh (take i xs))) ++ (get_or xs i 0 ∷ [])
@@ -74,7 +74,7 @@ rest_at p fresh xs i lt = rw (drop_more xs i 0 lt) refl
 three_joined : (xs ys : List ℕ) (x : ℕ) (zs : List ℕ) → xs ++ (ys ++ (x ∷ zs)) ≡ ((xs ++ ys) ++ (x ∷ [])) ++ zs
 three_joined xs ys x zs = rw (append_assoc (xs ++ ys) (x ∷ []) zs, append_assoc xs ys (x ∷ zs)) refl
 
--- one octet more is whole
+-- one more octet is complete
 pub whole_more : (p : List ℕ) (fresh begins : Bool) (xs : List ℕ) (i left : ℕ) (all : List ℕ) → i < length xs → begins ≡ begins_line fresh (take i xs)
     → length (front p begins) < left → all ≡ prefixed p fresh (take i xs) ++ take left (prefixed p begins (drop i xs))
     → all ≡ prefixed p fresh (take (i + 1) xs) ++ take (left - (length (front p begins) + 1)) (prefixed p (get_or xs i 0 == lf) (drop (i + 1) xs))

@@ -32,7 +32,7 @@ beq_same true false e = sym e
 beq_same false true e = e
 beq_same false false e = refl
 
--- what the test of lines says
+-- what the test for prefixed lines implies
 pub record Laid (p : List ℕ) (count cut : ℕ) (fresh broken : Bool) (octets : List ℕ) : Type 0 where
   pub own_is : own count octets ≡ prefixed p true (text_of (length p) count octets) ++ take cut p
   pub begins : fresh ≡ begins_line true (text_of (length p) count octets)
@@ -77,12 +77,12 @@ tail_none p (suc cut) fresh at =
     let e : fresh ≡ true = at (omega arith) in
     rw e (none_left (length p) (length p) (take (suc cut) p) (omega (arith, length-take (suc cut) p)))
 
--- what goes out: a text, and a front of the prefix after it
+-- what is written: a text, and a part of the prefix after it
 pub record GoesOut (p : List ℕ) (fresh : Bool) (text : List ℕ) (cut : ℕ) (out : List ℕ) : Type 0 where
   pub is : out ≡ prefixed p fresh text ++ take cut p
   pub at : 0 < cut → begins_line fresh text ≡ true
 
--- the own octets then, and their text
+-- the octets that it has written then, and their text
 pub own_grown : (p : List ℕ) (count : ℕ) (fresh broken : Bool) (octets text : List ℕ) (cut : ℕ) (out : List ℕ) → Laid p count 0 fresh broken octets
     → GoesOut p fresh text cut out
     → own (count + length out) (octets ++ out) ≡ prefixed p true (text_of (length p) count octets ++ text) ++ take cut p
@@ -166,7 +166,7 @@ pub unbroken_or : (broken : Bool) → (broken || 0 == 0) ≡ true
 unbroken_or true = refl
 unbroken_or false = refl
 
--- ---- what of a block is out
+-- ---- how much of a block is written
 
 laid_front : (p : List ℕ) (fresh : Bool) (piece : List ℕ) (n : ℕ)
     → prefixed p fresh piece ≡ prefixed p fresh (take n piece) ++ prefixed p (begins_line fresh (take n piece)) (drop n piece)
@@ -189,7 +189,7 @@ cut_out p fresh piece n out block is lt =
     ap (take out) is ∙ sym (ap (take out) (laid_front p fresh piece n)
     ∙ take-append-le out (prefixed p fresh (take n piece)) (prefixed p (begins_line fresh (take n piece)) (drop n piece)) le)
 
--- ---- what is out, by what contracts see
+-- ---- what is written, by what contracts see
 
 -- the parts of what contracts see
 split : (p q xs ys s t : List ℕ) → started p xs ++ s ≡ started q ys ++ t → (p ≡ q) × (xs ≡ ys) × (s ≡ t)
@@ -203,7 +203,7 @@ split p q xs ys s t e =
     let second = same_front xs ys s t counts rest in
     (first.0, second.0, second.1)
 
--- what stands on the target where contracts see this text after these octets
+-- the octets of the target if contracts see this text after these octets
 pub record Unseen (p : List ℕ) (xs text : List ℕ) (cut : ℕ) (fresh broken : Bool) (octets : List ℕ) : Type 0 where
   pub octets_are : octets ≡ xs ++ (prefixed p true text ++ take cut p)
   pub begins : fresh ≡ begins_line true text
@@ -246,7 +246,7 @@ only_fresh : (fresh : Bool) → (fresh || false) ≡ true → fresh ≡ true
 only_fresh true e = refl
 only_fresh false e = e
 
--- a line begins next, or it is broken
+-- a line begins next, or a write failed
 pub written_now : (p xs text : List ℕ) (fresh broken : Bool) (o : Option (List ℕ)) → (fresh || broken) ≡ true
     → (cut : ℕ) × (o ≡ Some (xs ++ (prefixed p true text ++ take cut p))) × (broken ≡ false → cut ≡ 0) × (fresh ≡ begins_line true text)
     → IsWritten p xs text broken o

@@ -1,4 +1,4 @@
--- What octets are, and what is said of them.
+-- What octets are, and the definitions that public contracts cite.
 pub mod Format
--- Where writers stand.
+-- The states of writers.
 pub mod States

@@ -1,4 +1,4 @@
-//! A command over one of several files.
+//! Commands over one of several files.
 
 ghost use Rattle.std.specs.Prelude.{◌≡◌, ◌<◌, ◌⊎◌, ◌||◌, ℕ, IfOk, length, if◌then◌else◌, max};
 ghost use Rattle.iim_output.specs.Format.{fault_line, status_failed};
@@ -15,19 +15,19 @@ use iim_dataset::internals::ReservedOctets;
 use iim_dataset::{BLOCK, Source, Target, push_shown, put};
 use std::alloc::{AllocError, Global};
 
-/// What a command over files has come to so far.
+/// The result of a command over the files so far.
 pub struct SoFar<W, E> {
-    /// The greatest status.
+    /// The greatest exit status.
     pub status: u8,
-    /// Whether a write has failed: then nothing more is to be written.
+    /// Whether a write failed. Then nothing more may be written.
     pub broken: bool,
     /// The output.
     pub output: W,
-    /// The errors.
+    /// The error output.
     pub errors: E,
 }
 
-/// Returns what a command over no files has come to.
+/// Returns the result of a command over no files.
 pub fn no_files<W, E>(output: W, errors: E) -> SoFar<W, E>
     ensures status { (result.status ≡ 0) }
     ensures targets { (result.output ≡ output) × (result.errors ≡ errors) }
@@ -40,7 +40,7 @@ pub fn no_files<W, E>(output: W, errors: E) -> SoFar<W, E>
     }
 }
 
-/// Returns what each line of a file's output begins with: its printed name, a colon and a space.
+/// Returns the prefix of each line of a file's output: its escaped name, a colon and a space.
 fn prefix_of(alloc: Global, name: &str) -> Result<Vec<u8>, AllocError>
     ensures { IfOk result (λ prefix. prefix.items ≡ line_prefix name.now) }
 {
@@ -50,7 +50,7 @@ fn prefix_of(alloc: Global, name: &str) -> Result<Vec<u8>, AllocError>
     Ok(prefix)
 }
 
-/// Takes room for lines with a prefix.
+/// Allocates a buffer for lines with a prefix.
 fn room_for(alloc: Global, prefix: &[u8]) -> Result<ReservedOctets, AllocError>
     ensures { IfOk result (λ block. length prefix.now < block.room) }
 {
@@ -60,7 +60,7 @@ fn room_for(alloc: Global, prefix: &[u8]) -> Result<ReservedOctets, AllocError>
     }
 }
 
-/// Tells that memory was refused for the lines of a file.
+/// Prints that the allocation for the lines of a file failed.
 fn starve<W: Target, E: Target>(output: W, errors: E) -> SoFar<W, E>
     ensures { IsStarved (W.state output, E.state errors) (W.state result.output, E.state result.errors) result.status }
 {
@@ -78,21 +78,21 @@ fn starve<W: Target, E: Target>(output: W, errors: E) -> SoFar<W, E>
     }
 }
 
-/// Checks whether one of two is true, or both.
+/// Returns whether at least one of the arguments is true.
 fn either(first: bool, second: bool) -> bool
     ensures { result ≡ (first || second) }
 {
     first || second
 }
 
-/// Returns the status, or that of a failure if a write has failed.
+/// Returns the status, or that of a failure if a write failed.
 fn status_after(status: u8, broken: bool) -> u8
     ensures { result ≡ (if broken then status_failed else status) }
 {
     if broken { FAILED } else { status }
 }
 
-/// Carries out a job over a file, with a prefix before each line of its output and its errors.
+/// Runs a job over a file, with a prefix before each line of its output and its errors.
 fn run_prefixed<R: Source + Drop, W: Target, E: Target>(
     alloc: Global,
     job: Job,
@@ -117,10 +117,11 @@ fn run_prefixed<R: Source + Drop, W: Target, E: Target>(
     }
 }
 
-/// What the lines of a file need: their prefix, and room for those of the output and of the errors.
+/// The buffers for the lines of a file: their prefix, a block for the output and one for the
+/// errors.
 type Parts = (Vec<u8>, ReservedOctets, ReservedOctets);
 
-/// Takes what the lines of a file need.
+/// Allocates the buffers for the lines of a file.
 fn parts_for(alloc: Global, name: &str) -> Result<Parts, AllocError>
     ensures { IfOk result (λ parts. (parts.0.items ≡ line_prefix name.now) × (length parts.0.items < parts.1.room)
         × (length parts.0.items < parts.2.room)) }
@@ -131,7 +132,7 @@ fn parts_for(alloc: Global, name: &str) -> Result<Parts, AllocError>
     Ok((prefix, output, errors))
 }
 
-/// Carries out a job over the file of this name.
+/// Runs a job over the file with this name.
 fn run_file<R: Source + Drop, W: Target, E: Target>(
     alloc: Global,
     name: &str,
@@ -153,7 +154,7 @@ fn run_file<R: Source + Drop, W: Target, E: Target>(
     }
 }
 
-/// Carries out a job over the next file, of this name, and returns what it has come to with those before.
+/// Runs a job over the next file, which has this name. Returns the result for all files so far.
 pub fn run_next<R: Source + Drop, W: Target, E: Target>(
     alloc: Global,
     name: &str,
@@ -176,7 +177,7 @@ pub fn run_next<R: Source + Drop, W: Target, E: Target>(
     worsen(ran, status)
 }
 
-/// Returns what it has come to, with the greater status.
+/// Returns the result with the greater of two statuses.
 fn worsen<W, E>(so_far: SoFar<W, E>, status: u8) -> SoFar<W, E>
     ensures { result ≡ record so_far { status = max status so_far.status } }
 {
@@ -194,7 +195,7 @@ fn worsen<W, E>(so_far: SoFar<W, E>, status: u8) -> SoFar<W, E>
     }
 }
 
-/// Tells the errors a line, after which the status is that of a failure.
+/// Prints a line to the errors, and sets the status of a failure.
 fn tell_line<W, E: Target>(text: &[u8], so_far: SoFar<W, E>) -> SoFar<W, E>
     ensures told { IsTold text.now (E.state so_far.errors) (E.state result.errors) }
     ensures status { result.status ≡ status_failed }
@@ -216,7 +217,7 @@ fn tell_line<W, E: Target>(text: &[u8], so_far: SoFar<W, E>) -> SoFar<W, E>
     }
 }
 
-/// Tells the errors a fault that is of no file alone.
+/// Prints an error that belongs to no single file.
 pub fn tell_fault<W, E: Target>(fault: CommandFault, so_far: SoFar<W, E>) -> SoFar<W, E>
     ensures told { IsTold (fault_line fault) (E.state so_far.errors) (E.state result.errors) }
     ensures status { result.status ≡ status_failed }
@@ -225,7 +226,8 @@ pub fn tell_fault<W, E: Target>(fault: CommandFault, so_far: SoFar<W, E>) -> SoF
     tell_line(fault.line().as_bytes(), so_far)
 }
 
-/// Returns the line that tells that a file can't be opened, or that memory was refused for it.
+/// Returns the line for a file that cannot be opened or, if `starved`, for which an allocation
+/// failed.
 fn unopened_line(alloc: Global, name: &str, starved: bool) -> Result<Vec<u8>, AllocError>
     ensures { IfOk result (λ line. line.items ≡ unopened_line name.now starved) }
 {
@@ -240,7 +242,8 @@ fn unopened_line(alloc: Global, name: &str, starved: bool) -> Result<Vec<u8>, Al
     Ok(line)
 }
 
-/// Tells the errors that the file of this name can't be opened, or that memory was refused for it.
+/// Prints that the file with this name cannot be opened or, if `starved`, that an allocation
+/// failed for it.
 pub fn tell_unopened<W, E: Target>(
     alloc: Global,
     name: &str,
@@ -258,7 +261,7 @@ pub fn tell_unopened<W, E: Target>(
     }
 }
 
-/// Returns what the line of a file begins with whose name is no text.
+/// Returns the prefix of the line for a file whose name is not UTF-8.
 fn untext_prefix(alloc: Global, name: &[u8]) -> Result<Vec<u8>, AllocError>
     ensures { IfOk result (λ prefix. prefix.items ≡ untext_prefix name.now) }
 {
@@ -268,7 +271,7 @@ fn untext_prefix(alloc: Global, name: &[u8]) -> Result<Vec<u8>, AllocError>
     Ok(prefix)
 }
 
-/// Returns the line that tells that a file whose name is no text can't be opened.
+/// Returns the line for a file that cannot be opened and whose name is not UTF-8.
 fn untext_line(alloc: Global, name: &[u8]) -> Result<Vec<u8>, AllocError>
     ensures { IfOk result (λ line. line.items ≡ untext_line name.now) }
 {
@@ -279,7 +282,7 @@ fn untext_line(alloc: Global, name: &[u8]) -> Result<Vec<u8>, AllocError>
     Ok(line)
 }
 
-/// Tells the errors that a file whose name is no text can't be opened.
+/// Prints that a file whose name is not UTF-8 cannot be opened.
 pub fn tell_untext<W, E: Target>(alloc: Global, name: &[u8], so_far: SoFar<W, E>) -> SoFar<W, E>
     ensures told { IsTold (untext_line name.now) (E.state so_far.errors) (E.state result.errors)
         ⊎ IsTold (fault_line CommandFault.OutOfMemory) (E.state so_far.errors) (E.state result.errors) }

@@ -1,10 +1,10 @@
-//! The commands over more than one file.
+//! Commands over more than one file.
 //!
-//! [`file::run_next`] carries out a job over one file among others, and [`names::Names`] reads a list of their names.
-//! [`prefixed::Prefixed`] is a target that begins each line with a prefix.
+//! [`file::run_next`] runs a job over one file of several, and [`names::Names`] reads a list of
+//! their names. [`prefixed::Prefixed`] is a target that begins each line with a prefix.
 //!
-//! Stands on `iim_commands`, whose `run` it calls for each file, and on the crates below it. The command `iimwire` stands on it, which
-//! opens the files.
+//! Depends on `iim_commands`, whose `run` it calls for each file, and on the crates below it. The
+//! command `iimwire` depends on it, and opens the files.
 #![tactic(auto)]
 
 pub mod file;

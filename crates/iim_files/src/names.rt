@@ -1,4 +1,4 @@
-//! Lists of names of files.
+//! Lists of file names.
 
 ghost use Rattle.std.specs.Prelude.{◌≡◌, ◌<◌, ◌≤◌, IfOk, length, true};
 
@@ -6,28 +6,28 @@ use iim_commands::fault::CommandFault;
 use iim_dataset::octets::LF;
 use iim_dataset::{BLOCK, Source, take};
 
-/// What ends a name, if it is not an LF.
+/// The octet that ends a name, if LF does not.
 const NUL: u8 = 0;
 
-/// The names of a list, one after the other. Each ends in LF, or each in NUL: what comes first in the list decides. The last one may end
-/// with the list. Empty names are skipped.
+/// Reads the names of a list, one after the other. Each name ends in LF, or each in NUL: the first
+/// of these in the list decides. The last name may end with the list. Empty names are skipped.
 #[derive(Drop)]
 pub struct Names<R> {
-    /// What the list comes from.
+    /// The reader of the list.
     reader: R,
-    /// Octets of the list.
+    /// Buffered octets of the list.
     block: [u8; BLOCK],
-    /// How many of them were used.
+    /// The number of buffered octets that were consumed.
     at: usize,
-    /// How many there are.
+    /// The number of buffered octets.
     end: usize,
-    /// What ends a name, once one has ended.
+    /// The octet that ends a name, once a name has ended.
     separator: Option<u8>,
     ghost within: { at ≤ end × end ≤ 4096 },
 }
 
 impl<R: Source> Names<R> {
-    /// Makes one that has read nothing.
+    /// Creates a list from which nothing was read.
     pub fn new(reader: R) -> Names<R> {
         Names {
             reader,
@@ -38,7 +38,7 @@ impl<R: Source> Names<R> {
         }
     }
 
-    /// Reads the next octets.
+    /// Reads the next octets into the buffer.
     fn fill(&mut self) -> Result<(), CommandFault> {
         match take(&mut self.reader, &mut self.block) {
             Ok(count) => {
@@ -50,7 +50,7 @@ impl<R: Source> Names<R> {
         }
     }
 
-    /// Returns the next octet of the list, if there is one.
+    /// Returns the next octet of the list, or `None` at its end.
     fn next_octet(&mut self) -> Result<Option<u8>, CommandFault> {
         if self.at == self.end {
             self.fill()?;
@@ -63,7 +63,8 @@ impl<R: Source> Names<R> {
         Ok(Some(octet))
     }
 
-    /// Checks whether an octet ends a name. The first LF or NUL decides which of them does.
+    /// Checks whether an octet ends a name. The first LF or NUL decides which of the two ends the
+    /// names.
     fn ends_name(&mut self, octet: u8) -> bool {
         match self.separator {
             Some(separator) => octet == separator,
@@ -77,7 +78,7 @@ impl<R: Source> Names<R> {
         }
     }
 
-    /// Puts the next name in place of the one that is given. Returns whether there is one.
+    /// Replaces `name` by the next name. Returns whether there is one.
     pub fn next_name(&mut self, name: &mut Vec<u8>) -> Result<bool, CommandFault>
         ensures { IfOk result (λ more. more ≡ true → 0 < length name.new.items) }
     {

@@ -7,38 +7,39 @@ use iim_dataset::internals::ReservedOctets;
 use iim_dataset::octets::LF;
 use iim_dataset::{IoFault, Target, put};
 
-/// Begins each line that it writes to a target with a prefix. Contracts see it as a device that takes the text alone: after the octets
-/// that stood there before, with their number in front. Once a write has failed it writes nothing more.
+/// Writes lines to a target, each with a prefix. Contracts see it as a target of the text alone,
+/// after the earlier octets of the target, which are preceded by their number. After a failed
+/// write it writes nothing more.
 #[derive(Drop)]
 pub struct Prefixed<'p, W> {
-    /// What the lines go to.
+    /// The target of the lines.
     writer: W,
-    /// What each line begins with.
+    /// The prefix of each line.
     prefix: &'p [u8],
-    /// Lines while they are laid out.
+    /// A buffer in which lines are built.
     block: ReservedOctets,
-    /// Whether a line begins next.
+    /// Whether the next octet begins a line.
     fresh: bool,
-    /// Whether a write has failed.
+    /// Whether a write failed.
     broken: bool,
-    /// How many octets of a prefix are out where a write failed inside it.
+    /// The number of octets of a prefix that were written, if a write failed inside it.
     cut: usize,
-    /// How many octets are out since it was made.
+    /// The number of octets written since the value was created.
     count: u64,
-    /// How often a write has failed.
+    /// The number of failed writes.
     failures: u64,
     ghost room: { length prefix.now < block.room },
 }
 
-/// Returns the prefix, if a line begins.
+/// Returns the prefix if a line begins, otherwise nothing.
 fn front_of(prefix: &[u8], fresh: bool) -> &[u8]
     ensures { result.now ≡ front prefix.now fresh }
 {
     if fresh { prefix } else { &[] }
 }
 
-/// Adds a piece to an empty block, each line with its prefix, as far as there is room. Returns how many octets of the piece it has
-/// added, and whether a line begins after them.
+/// Appends a chunk to an empty block, each line with its prefix, as far as it fits. Returns how
+/// many octets of the chunk were appended, and whether a line begins after them.
 fn lay_out(block: &mut ReservedOctets, prefix: &[u8], fresh: bool, piece: &[u8]) -> (usize, bool)
     requires empty { block.old.items ≡ [] }
     requires room { length prefix.now < block.old.room }
@@ -63,8 +64,9 @@ fn lay_out(block: &mut ReservedOctets, prefix: &[u8], fresh: bool, piece: &[u8])
     (taken, begins)
 }
 
-/// Returns how many octets of a piece are whole in the first `out` octets of it with prefixes, and how many octets of a prefix follow
-/// them there; and whether a line begins after the whole ones.
+/// Finds how much of a chunk is within its first `out` octets with prefixes. Returns the number of
+/// complete octets of the chunk, the number of octets of a prefix after them, and whether a line
+/// begins after the complete ones.
 fn whole_in(prefix: &[u8], fresh: bool, piece: &[u8], out: usize) -> (usize, usize, bool)
     requires { out ≤ length (prefixed prefix.now fresh piece.now) }
     ensures within { result.0 ≤ length piece.now × result.1 ≤ length prefix.now }
@@ -94,7 +96,8 @@ impl<'p, W: Target> Prefixed<'p, W> {
     ghost use Rattle.iim_dataset.specs.States.Devices.{Accepted, Faulted};
     ghost use Rattle.iim_files.specs.States.Seen.{fresh_device, seen, IsFinished, IsParted, IsSameButFailures};
 
-    /// Makes one that has written nothing, with room for the prefix and an octet at least.
+    /// Creates a target to which nothing was written. `block` must have the capacity for the
+    /// prefix and one more octet.
     pub fn new(writer: W, prefix: &'p [u8], block: ReservedOctets) -> Prefixed<'p, W>
         requires { length prefix.now < block.room }
         ensures { seen W.state result ≡ fresh_device prefix.entry.now (W.state writer) }
@@ -111,7 +114,7 @@ impl<'p, W: Target> Prefixed<'p, W> {
         }
     }
 
-    /// Returns the target, and whether a write has failed.
+    /// Returns the target, and whether a write failed.
     fn into_parts(self) -> (W, bool)
         ensures parts { IsParted (seen W.state self.entry).octets self.entry.fresh (W.state result.0).octets result.1 }
         ensures broken { result.1 ≡ self.entry.broken }
@@ -129,7 +132,8 @@ impl<'p, W: Target> Prefixed<'p, W> {
         (writer, broken)
     }
 
-    /// Ends the last line, and returns the target, and whether a write has failed.
+    /// Ends the last line with LF, if it is not ended. Returns the target, and whether a write
+    /// failed.
     pub fn finish(self) -> (W, bool)
         ensures { IsFinished (seen W.state self.entry).octets (W.state result.0).octets result.1 }
     {
@@ -146,7 +150,7 @@ impl<'p, W: Target> Prefixed<'p, W> {
         }
     }
 
-    /// Counts a failure.
+    /// Counts a failure, and returns the error.
     fn refuse(&mut self) -> IoFault
         ensures fault { result ≡ IoFault.Failed }
         ensures same { IsSameButFailures self.old self.new }
@@ -156,7 +160,7 @@ impl<'p, W: Target> Prefixed<'p, W> {
         IoFault::Failed
     }
 
-    /// Takes octets of a piece that is not empty.
+    /// Writes octets of a non-empty chunk. Returns how many were written.
     fn write_some(&mut self, piece: &[u8]) -> Result<usize, IoFault>
         requires { 0 < length piece.now }
         ensures ok { IfOk result (Accepted (seen W.state self.old) (seen W.state self.new) piece.now) }

@@ -5,7 +5,7 @@ use mathlib.Core.Bool.{beq}
 use Rattle.iim_dataset.specs.{Format.Octets.lf, States.Devices.Device}
 use Rattle.iim_files.specs.Format.{begins_line, prefixed}
 
--- the octets without those of prefixes: the first `skip` are such, and the first `size` after each LF
+-- the octets without prefixes: the first `skip` belong to one, and the first `size` after each LF
 abbrev pub stripped : ℕ → ℕ → List ℕ → List ℕ
 stripped size skip [] = []
 stripped size zero (octet ∷ octets) = octet ∷ stripped size (if octet == lf then size else 0) octets
@@ -22,26 +22,28 @@ before count octets = take (length octets - count) octets
 abbrev pub text_of : ℕ → ℕ → List ℕ → List ℕ
 text_of size count octets = stripped size size (own count octets)
 
--- The prefix and the octets, each after its length: what contracts see where nothing was written yet.
+-- The prefix and the octets, each after its length: what contracts see if nothing was written yet.
 abbrev pub started : List ℕ → List ℕ → List ℕ
 started prefix octets = length prefix ∷ (prefix ++ (length octets ∷ octets))
 
--- What contracts see of octets of which the last `count` have a prefix in each line: those before them, and then their text.
+-- What contracts see of octets of which the last `count` have a prefix in each line: those before
+-- them, and then their text.
 abbrev pub seen_octets : List ℕ → ℕ → List ℕ → List ℕ
 seen_octets prefix count octets = started prefix (before count octets) ++ text_of (length prefix) count octets
 
--- The last `count` octets are a text with this prefix in each line, and then the first `cut` octets of the prefix; a line begins after the
--- text, or not. There are such only where it is broken.
+-- The last `count` octets are a text with this prefix in each line, and then the first `cut`
+-- octets of the prefix; `fresh` is whether a line begins after the text. `cut` is not 0 only after
+-- a failed write.
 abbrev pub is_laid : List ℕ → ℕ → ℕ → Bool → Bool → List ℕ → Bool
 is_laid prefix count cut fresh broken octets =
     bytes_eq (own count octets) (prefixed prefix true (text_of (length prefix) count octets) ++ take cut prefix)
     && (beq fresh (begins_line true (text_of (length prefix) count octets)) && (broken || cut == 0))
 
--- what contracts see of the octets: nothing where these are no such lines
+-- what contracts see of the octets: nothing if they are not such lines
 abbrev pub seen_of : List ℕ → ℕ → ℕ → Bool → Bool → List ℕ → Option (List ℕ)
 seen_of prefix count cut fresh broken octets =
     if is_laid prefix count cut fresh broken octets then Some (seen_octets prefix count octets) else None
 
--- the text, with an LF after its last line where that has none
+-- the text, with an LF after its last line if that is not ended
 abbrev pub ended : List ℕ → List ℕ
 ended text = text ++ (if begins_line true text then [] else lf ∷ [])
