@@ -1,4 +1,4 @@
--- Faults as they are printed.
+-- Errors as they are printed.
 use Rattle.std.proofs.Common.{◌≡◌, false, inl, inr}
 use Rattle.clap.specs.declared.error.Error.{Error}
 use Rattle.iim_request.specs.declared.request.UsageFault.{UsageFault}

@@ -1,2 +1,2 @@
--- What octets are, and what is said of them.
+-- What octets are, and the definitions that public contracts cite.
 pub mod Format

@@ -1,9 +1,10 @@
-//! The command `iimwire`: checks files of envelopes, shows their parts, writes their stories, audits them, and packs scripts.
+//! The command `iimwire`: checks files of envelopes, shows their parts, writes their stories,
+//! audits them, and packs scripts.
 //!
-//! Stands on `iim_commands`, which reads the words and carries out what they ask for, on `iim_files`, which does so over more than one
-//! file, on the crates below them for their types and definitions, and on `clap`.
-//! [`serve::serve`] does the work, over any source and targets of octets; what is here gives it the words, files and streams
-//! of a process.
+//! Depends on `iim_commands`, which parses the arguments and runs requests, on `iim_files`, which
+//! runs them over more than one file, on the crates below them for their types and definitions,
+//! and on `clap`. [`serve::serve`] does the work, over any source and targets. The functions here
+//! provide the arguments, files and streams of a process.
 #![tactic(auto)]
 
 mod serve;
@@ -45,12 +46,12 @@ fn main(rt: HostRuntime) -> ExitCode {
     }
 }
 
-/// The words of the command line.
+/// Returns the arguments of the command line.
 fn given_words(rt: &HostRuntime) -> io::Result<Vec<String>> {
     Ok(env::args(rt)?.collect(rt.alloc())?)
 }
 
-/// Reads the files that are asked for: one, or standard input, or more.
+/// Runs a job over the requested files: one, standard input, or more.
 fn begin(rt: &HostRuntime, request: FilesRequest<'_>) -> ExitCode
     ensures standard { request.entry.files ≡ Files.One None
         → (old : Devices) × (new : Devices) × Ran request.entry.job old new (exit_status result) }
@@ -63,7 +64,7 @@ fn begin(rt: &HostRuntime, request: FilesRequest<'_>) -> ExitCode
     }
 }
 
-/// Opens the file that the request names, or else takes standard input.
+/// Opens the file that the request names, or takes standard input, and runs the request.
 fn begin_one(rt: &HostRuntime, request: Request<'_>) -> ExitCode
     ensures standard { request.entry.file ≡ None
         → (old : Devices) × (new : Devices) × Ran request.entry.job old new (exit_status result) }
@@ -80,7 +81,7 @@ fn begin_one(rt: &HostRuntime, request: Request<'_>) -> ExitCode
     }
 }
 
-/// Carries out a job over the next file, of this name, unless a write has failed.
+/// Runs a job over the next file, which has this name, unless a write failed.
 fn over_file<W: Target, E: Target>(
     rt: &HostRuntime,
     job: Job,
@@ -96,14 +97,14 @@ fn over_file<W: Target, E: Target>(
     }
 }
 
-/// Checks whether an error says that memory was refused.
+/// Checks whether an error is a failed allocation.
 fn is_memory(error: &io::Error) -> bool
     ensures { result ≡ true → error_kind error.now ≡ ErrorKind.OutOfMemory }
 {
     matches!(error.kind(), ErrorKind::OutOfMemory)
 }
 
-/// Carries out a job over files that are named as arguments.
+/// Runs a job over files that are named as arguments.
 fn over_names(rt: &HostRuntime, job: Job, names: &[&str]) -> ExitCode {
     let output = FromWrite::new(rt.stdout());
     let errors = FromWrite::new(rt.stderr());
@@ -114,7 +115,8 @@ fn over_names(rt: &HostRuntime, job: Job, names: &[&str]) -> ExitCode {
     ended(so_far)
 }
 
-/// Carries out a job over the files that a list names: the file of this name, or standard input if it is `-`.
+/// Runs a job over the files in a list. The list is the file with this name, or standard input for
+/// `-`.
 fn over_list(rt: &HostRuntime, job: Job, list: &str) -> ExitCode {
     if list == "-" {
         return over_listed(rt, job, FromRead::new(rt.stdin()));
@@ -125,7 +127,7 @@ fn over_list(rt: &HostRuntime, job: Job, list: &str) -> ExitCode {
     }
 }
 
-/// Carries out a job over the files whose names a reader gives.
+/// Runs a job over the files whose names a reader has.
 fn over_listed<R: Source + Drop>(rt: &HostRuntime, job: Job, reader: R) -> ExitCode {
     let output = FromWrite::new(rt.stdout());
     let errors = FromWrite::new(rt.stderr());
@@ -145,7 +147,7 @@ fn over_listed<R: Source + Drop>(rt: &HostRuntime, job: Job, reader: R) -> ExitC
     ended(so_far)
 }
 
-/// Carries out a job over the next file, whose name is these octets.
+/// Runs a job over the next file, whose name has these octets.
 fn over_listed_file<W: Target, E: Target>(
     rt: &HostRuntime,
     job: Job,
@@ -158,7 +160,7 @@ fn over_listed_file<W: Target, E: Target>(
     }
 }
 
-/// Returns the status that a command over files ends with.
+/// Returns the exit status of a command over files.
 fn ended<W: Drop, E: Drop>(so_far: SoFar<W, E>) -> ExitCode
     ensures { exit_status result ≡ so_far.status }
 {
@@ -171,7 +173,7 @@ fn ended<W: Drop, E: Drop>(so_far: SoFar<W, E>) -> ExitCode
     ExitCode::from(status)
 }
 
-/// Refused memory is told as that, and any other error as the given fault.
+/// Returns the error of a run: the failed allocation, or else the given one.
 fn fault_of<'a>(error: &io::Error, other: RunFault<'a>) -> RunFault<'a>
     ensures memory { error_kind error.now ≡ ErrorKind.OutOfMemory → result ≡ RunFault.OutOfMemory }
     ensures other { error_kind error.now ≢ ErrorKind.OutOfMemory → result ≡ other.entry }
@@ -182,7 +184,7 @@ fn fault_of<'a>(error: &io::Error, other: RunFault<'a>) -> RunFault<'a>
     }
 }
 
-/// Carries out a request between a reader and the standard streams.
+/// Runs a request with a reader and the standard streams.
 fn carry_out<R: Read + Drop>(rt: &HostRuntime, request: Request<'_>, reader: R) -> ExitCode
     ensures { (old : Devices) × (new : Devices) × Ran request.entry.job old new (exit_status result) }
 {
@@ -193,7 +195,7 @@ fn carry_out<R: Read + Drop>(rt: &HostRuntime, request: Request<'_>, reader: R) 
     ExitCode::from(status)
 }
 
-/// Tells on the standard streams why there is nothing to carry out.
+/// Prints to the standard streams why a run cannot begin.
 fn give_up(rt: &HostRuntime, fault: RunFault<'_>) -> ExitCode
     ensures { (exit_status result ≡ status_of_start fault.entry) ⊎ (exit_status result ≡ status_failed) }
 {

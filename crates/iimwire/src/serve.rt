@@ -1,4 +1,4 @@
-//! All that the program does once it has its words and its input.
+//! The program, after it has its arguments and its input.
 
 ghost use Rattle.iimwire.specs.Format.{Served};
 
@@ -7,8 +7,8 @@ use iim_commands::{Request, run};
 use iim_dataset::{Source, Target};
 use std::alloc::Global;
 
-/// Carries out a request over its reader; or shows the text that is asked for, or tells why there is no request. Returns the status, and
-/// both writers.
+/// Runs a request over its reader. If there is no request, prints the requested text or the
+/// reason. Returns the status and both writers.
 pub fn serve<R: Source + Drop, W: Target, E: Target>(
     alloc: Global,
     begun: Result<(Request<'_>, R), RunFault<'_>>,

@@ -1,4 +1,4 @@
-//! Why a run can't begin.
+//! Errors before a run.
 
 ghost use Rattle.std.specs.Prelude.{◌≡◌, ◌++◌, IfOk, codes};
 
@@ -12,16 +12,16 @@ use iim_commands::status::{ACCEPTED, FAILED, USAGE};
 use iim_dataset::{Target, put};
 use std::alloc::{AllocError, Global};
 
-/// Why there is nothing to run.
+/// The reason why a run cannot begin.
 #[derive(Drop)]
 pub enum RunFault<'a> {
-    /// The words ask for nothing.
+    /// The arguments are invalid, or they request help or the version.
     Usage(UsageFault),
-    /// The arguments are no text.
+    /// The arguments are not UTF-8.
     NoText,
-    /// The file of this name can't be opened.
+    /// The file with this name cannot be opened.
     CannotOpen(&'a str),
-    /// Memory was refused.
+    /// An allocation failed.
     OutOfMemory,
 }
 
@@ -38,7 +38,7 @@ pub fn asks_for_text(error: &Error) -> bool
     }
 }
 
-/// Checks whether the arguments ask for the text of `--help` or `--version` alone.
+/// Checks whether the arguments only request the text of `--help` or `--version`.
 fn is_text_asked(fault: &RunFault<'_>) -> bool
     ensures { result ≡ is_text_asked fault.now }
 {
@@ -58,7 +58,7 @@ fn words_status(error: &Error) -> u8
     }
 }
 
-/// The status for a fault of the words.
+/// Returns the status for a usage error.
 fn usage_status(fault: &UsageFault) -> u8
     ensures { result ≡ status_of_start (RunFault.Usage fault.now) }
 {
@@ -69,7 +69,7 @@ fn usage_status(fault: &UsageFault) -> u8
     }
 }
 
-/// The status for it.
+/// Returns the status for an error.
 fn status(fault: &RunFault<'_>) -> u8
     ensures { result ≡ status_of_start fault.now }
 {
@@ -80,7 +80,7 @@ fn status(fault: &RunFault<'_>) -> u8
     }
 }
 
-/// The text that tells a fault of the words.
+/// Returns the text of a usage error.
 fn usage_text(alloc: Global, fault: &UsageFault) -> Result<Vec<u8>, AllocError>
     ensures { IfOk result (λ text. TellsRunFault (RunFault.Usage fault.now) text.items) }
 {
@@ -97,7 +97,7 @@ fn usage_text(alloc: Global, fault: &UsageFault) -> Result<Vec<u8>, AllocError>
     }
 }
 
-/// The text that tells that the file of this name can't be opened.
+/// Returns the text that the file with this name cannot be opened.
 fn cannot_open(alloc: Global, name: &str) -> Result<Vec<u8>, AllocError>
     ensures { IfOk result (λ text. text.items ≡ codes "cannot open " ++ (shown_name name.now ++ codes "\n")) }
 {
@@ -107,7 +107,7 @@ fn cannot_open(alloc: Global, name: &str) -> Result<Vec<u8>, AllocError>
     Ok(text)
 }
 
-/// The text that tells it.
+/// Returns the text of an error.
 fn text(alloc: Global, fault: &RunFault<'_>) -> Result<Vec<u8>, AllocError>
     ensures { IfOk result (λ text. TellsRunFault fault.now text.items) }
 {
@@ -121,7 +121,7 @@ fn text(alloc: Global, fault: &RunFault<'_>) -> Result<Vec<u8>, AllocError>
     }
 }
 
-/// Tells why a run can't begin, and answers the status.
+/// Prints why a run cannot begin, and returns the status.
 fn hinder<E: Target>(alloc: Global, fault: RunFault<'_>, errors: &mut E) -> u8
     ensures { IsHindered fault.entry (E.state errors.old) (E.state errors.new) result }
 {
@@ -131,7 +131,8 @@ fn hinder<E: Target>(alloc: Global, fault: RunFault<'_>, errors: &mut E) -> u8
     }
 }
 
-/// Writes a text to the output, and returns the wanted status. If the output fails, the errors are told that it can't be written.
+/// Writes a text to the output, and returns `status`. If the write fails, prints that to the
+/// errors, and returns the status of a failure.
 fn show<W: Target, E: Target>(text: &[u8], status: u8, output: &mut W, errors: &mut E) -> u8
     ensures { IsShown text.now status (W.state output.old, E.state errors.old) (W.state output.new, E.state errors.new)
         result }
@@ -158,7 +159,8 @@ fn show_text<W: Target, E: Target>(
     }
 }
 
-/// Shows the text that the arguments ask for, or tells why a run can't begin. Returns the status.
+/// Writes the text that the arguments request, or prints why a run cannot begin. Returns the
+/// status.
 pub fn answer<W: Target, E: Target>(
     alloc: Global,
     fault: RunFault<'_>,

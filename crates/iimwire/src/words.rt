@@ -1,4 +1,4 @@
-//! The words of the command line, as what `clap` says of them is printed.
+//! Usage errors as they are printed.
 
 ghost use Rattle.std.specs.Prelude.{◌≡◌, IfOk, IsUtf8, string_bytes};
 ghost use Rattle.iim_request.specs.Format.{shown_name};
@@ -10,7 +10,8 @@ use iim_commands::shown::push_name;
 use iim_commands::{UsageFault, parse_files};
 use std::alloc::{AllocError, Global};
 
-/// A word without its control characters and backslashes. What is shown of a text is a text; if it were none, the word is as it was.
+/// Returns an argument with its control characters and backslashes escaped. The result is UTF-8;
+/// if it were not, the argument would be unchanged.
 fn shown_word(alloc: Global, word: &str) -> Result<String, AllocError>
     ensures { IfOk result (λ shown. IsUtf8 (shown_name word.now) → string_bytes shown ≡ shown_name word.now) }
 {
@@ -22,7 +23,7 @@ fn shown_word(alloc: Global, word: &str) -> Result<String, AllocError>
     }
 }
 
-/// The words without their control characters and backslashes.
+/// Returns the arguments with their control characters and backslashes escaped.
 fn shown_words(alloc: Global, words: &[String]) -> Result<Vec<String>, AllocError> {
     let mut shown = Vec::new(alloc);
     for word in words {
@@ -31,7 +32,7 @@ fn shown_words(alloc: Global, words: &[String]) -> Result<Vec<String>, AllocErro
     Ok(shown)
 }
 
-/// Returns the other error, or this one if the other is a text that is asked for.
+/// Returns `other`, or `error` if `other` is the text of `--help` or `--version`.
 fn mistake_or(other: Error, error: Error) -> UsageFault
     ensures { IsMistakeOf error result }
 {
@@ -41,7 +42,7 @@ fn mistake_or(other: Error, error: Error) -> UsageFault
     UsageFault::Words(other)
 }
 
-/// Returns a mistake in the words as it is printed: what `clap` says of them, it says of the words as they are shown.
+/// Returns a usage error as it is printed: the error that `clap` has for the escaped arguments.
 fn printed_mistake(alloc: Global, words: &[String], error: Error) -> UsageFault
     ensures { IsMistakeOf error result }
 {
@@ -55,7 +56,7 @@ fn printed_mistake(alloc: Global, words: &[String], error: Error) -> UsageFault
     }
 }
 
-/// Returns what `clap` says of the words as it is printed: a text that is asked for as it is.
+/// Returns an error of `clap` as it is printed: a requested text is unchanged.
 fn printed_error(alloc: Global, words: &[String], error: Error) -> UsageFault
     ensures { IsPrintedAs (UsageFault.Words error) result }
 {
@@ -65,7 +66,8 @@ fn printed_error(alloc: Global, words: &[String], error: Error) -> UsageFault
     printed_mistake(alloc, words, error)
 }
 
-/// The fault of the words as it is printed: of a mistake, what `clap` says of the words as they are shown.
+/// Returns a usage error as it is printed. An error of `clap` is replaced by the one for the
+/// escaped arguments.
 pub fn printed_fault(alloc: Global, words: &[String], fault: UsageFault) -> UsageFault
     ensures { IsPrintedAs fault result }
 {
