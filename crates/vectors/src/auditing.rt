@@ -1,4 +1,4 @@
-//! Streams of envelopes, audited.
+//! Questions about audits.
 
 use iim_audit::{AuditFault, Report, audit, report_text};
 use iim_dataset::FromRead;
@@ -28,7 +28,7 @@ fn print_report(out: &mut Answers, alloc: Global, report: &Report) {
     }
 }
 
-/// Prints the number of the envelope that is refused, and what is told then.
+/// Prints the number of the envelope that is rejected, and its refusal.
 fn print_fault(out: &mut Answers, fault: AuditFault) {
     out.put("  ");
     out.show(&fault.envelope);
@@ -37,7 +37,7 @@ fn print_fault(out: &mut Answers, fault: AuditFault) {
     out.end();
 }
 
-/// Prints the report of an intake, or why there is none.
+/// Prints the report of an intake, or why there is no report.
 fn print_audit(
     out: &mut Answers,
     alloc: Global,
@@ -50,7 +50,7 @@ fn print_audit(
     }
 }
 
-/// Prints the reports of octets that are audited so many times, from one intake.
+/// Prints the reports of octets that are audited `times` times, from one intake.
 fn print_audits(out: &mut Answers, alloc: Global, octets: &[u8], now: Timestamp, times: u8) {
     let mut intake = Intake::new(FromRead::new(octets));
     for _ in 0..times {
@@ -58,7 +58,8 @@ fn print_audits(out: &mut Answers, alloc: Global, octets: &[u8], now: Timestamp,
     }
 }
 
-/// Prints the reports of the octets that the next words tell, at the instant that they tell, as jiff reads it.
+/// Prints the reports of the octets in the next words, at the instant before them, which `jiff`
+/// parses.
 fn print_next(out: &mut Answers, alloc: Global, names: &Names, words: &mut Words, times: u8) {
     let now = words.text().parse();
     let octets = words.octets(names);
@@ -68,7 +69,7 @@ fn print_next(out: &mut Answers, alloc: Global, names: &Names, words: &mut Words
     }
 }
 
-/// Answers the words of audits; false where the word is none of them.
+/// Replies to a question about audits. Returns false if the word is not one of them.
 pub(crate) fn answer(
     out: &mut Answers,
     alloc: Global,

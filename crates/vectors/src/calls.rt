@@ -7,7 +7,7 @@ use iim_pack::Packer;
 use std::alloc::Global;
 use vectors_layers::{Answers, Names, Words};
 
-/// A packer, or what is out once it has ended.
+/// A packer, or its output after it has ended.
 #[derive(Drop)]
 pub(crate) enum Begun {
     Whole(Packer<Memory>),
@@ -15,24 +15,24 @@ pub(crate) enum Begun {
     Ended(Vec<u8>),
 }
 
-/// The packer that is asked.
+/// The packer that questions are about.
 #[derive(Drop)]
 pub(crate) struct Calls {
     alloc: Global,
     begun: Option<Begun>,
 }
 
-/// What is said where there is no packer.
+/// The error if there is no packer.
 const NO_PACKER: &str = "there is no packer";
 
-/// Begins a line: why something was refused, and how many octets are out.
+/// Begins a line with a cause and the number of octets written.
 fn tell_cause(out: &mut Answers, cause: PackCause, written: u64) {
     out.put("  ");
     out.show(&cause);
     out.number(" written ", written);
 }
 
-/// Tells why nothing was packed, and what is out.
+/// Prints why nothing was packed, and the octets written.
 pub(crate) fn tell_fault<K: Keeps>(alloc: Global, out: &mut Answers, fault: StartFault<K>) {
     let StartFault {
         cause,
@@ -45,7 +45,8 @@ pub(crate) fn tell_fault<K: Keeps>(alloc: Global, out: &mut Answers, fault: Star
     out.end();
 }
 
-/// Tells what a call of a packer answered, and how many octets are out where it was refused.
+/// Prints the result of a call of a packer. If it failed, prints also the number of octets
+/// written.
 fn tell_call(out: &mut Answers, answer: Result<(), PackCause>, written: u64) {
     match answer {
         Ok(()) => out.line("ok"),
@@ -56,7 +57,7 @@ fn tell_call(out: &mut Answers, answer: Result<(), PackCause>, written: u64) {
     }
 }
 
-/// What is there once a packer over this writer has ended; None where memory was refused.
+/// Returns the state after a packer over this writer has ended, or `None` if an allocation failed.
 fn ended<K: Keeps>(alloc: Global, out: &mut Answers, writer: K) -> Option<Begun> {
     match writer.kept(alloc) {
         Some(octets) => Some(Begun::Ended(octets)),
@@ -67,7 +68,7 @@ fn ended<K: Keeps>(alloc: Global, out: &mut Answers, writer: K) -> Option<Begun>
     }
 }
 
-/// Ends a packer, and tells what it answered: what is there afterwards.
+/// Ends a packer, prints the result, and returns the state afterwards.
 fn end<K: Keeps>(
     alloc: Global,
     out: &mut Answers,
@@ -86,7 +87,7 @@ fn end<K: Keeps>(
     }
 }
 
-/// Begins a packer, and tells so; None where that is refused.
+/// Starts a packer, and prints the result. Returns `None` if it failed.
 fn started<K: Keeps>(
     alloc: Global,
     out: &mut Answers,
@@ -107,7 +108,7 @@ fn started<K: Keeps>(
 }
 
 impl Begun {
-    /// Gives the packer text, and tells what it answered.
+    /// Passes text to the packer, and prints the result.
     fn text(&mut self, out: &mut Answers, octets: &[u8]) {
         match self {
             Begun::Whole(packer) => tell_call(out, packer.text(octets), packer.written()),
@@ -116,7 +117,7 @@ impl Begun {
         }
     }
 
-    /// Gives the packer the end of a line, and tells what it answered.
+    /// Passes the end of a line to the packer, and prints the result.
     fn line_end(&mut self, out: &mut Answers) {
         match self {
             Begun::Whole(packer) => tell_call(out, packer.line_end(), packer.written()),
@@ -125,7 +126,7 @@ impl Begun {
         }
     }
 
-    /// How many octets are out.
+    /// Returns the number of octets written.
     fn written(&self) -> u64 {
         match self {
             Begun::Whole(packer) => packer.written(),
@@ -134,7 +135,7 @@ impl Begun {
         }
     }
 
-    /// Tells what is out. The packer is given up for it.
+    /// Prints the octets written. This consumes the packer.
     fn tell_out(self, alloc: Global, out: &mut Answers) {
         match self {
             Begun::Whole(packer) => tell_kept(alloc, out, packer.into_writer()),
@@ -143,7 +144,7 @@ impl Begun {
         }
     }
 
-    /// Ends the packer, and tells what it answered: what is there afterwards.
+    /// Ends the packer, prints the result, and returns the state afterwards.
     fn finish(self, alloc: Global, out: &mut Answers, trailer: &[u8]) -> Option<Begun> {
         match self {
             Begun::Whole(packer) => end(alloc, out, packer, trailer),
@@ -157,12 +158,12 @@ impl Begun {
 }
 
 impl Calls {
-    /// No packer.
+    /// Creates the value without a packer.
     pub(crate) fn new(alloc: Global) -> Calls {
         Calls { alloc, begun: None }
     }
 
-    /// Begins a packer, over memory where the words tell no other writer.
+    /// Starts a packer, which writes into memory unless the words name another writer.
     pub(crate) fn start(
         &mut self,
         out: &mut Answers,
@@ -176,7 +177,8 @@ impl Calls {
         };
     }
 
-    /// Answers the words of a packer's calls; false where the word is none of them.
+    /// Replies to a question about the calls of a packer. Returns false if the word is not one of
+    /// them.
     pub(crate) fn answer(
         &mut self,
         out: &mut Answers,
@@ -195,7 +197,7 @@ impl Calls {
         true
     }
 
-    /// Gives the packer text.
+    /// Passes text to the packer.
     fn text(&mut self, out: &mut Answers, octets: &[u8]) {
         match &mut self.begun {
             Some(begun) => begun.text(out, octets),
@@ -203,7 +205,7 @@ impl Calls {
         }
     }
 
-    /// Gives the packer the end of a line.
+    /// Passes the end of a line to the packer.
     fn line_end(&mut self, out: &mut Answers) {
         match &mut self.begun {
             Some(begun) => begun.line_end(out),
@@ -211,7 +213,7 @@ impl Calls {
         }
     }
 
-    /// Ends the packer, where it lets itself be ended.
+    /// Ends the packer, if it can be ended.
     fn finish(&mut self, out: &mut Answers, trailer: &[u8]) {
         match self.begun.take() {
             Some(begun) => self.begun = begun.finish(self.alloc, out, trailer),
@@ -219,7 +221,7 @@ impl Calls {
         }
     }
 
-    /// Tells how many octets are out.
+    /// Prints the number of octets written.
     fn tell_written(&self, out: &mut Answers) {
         match &self.begun {
             Some(begun) => out.number_line("  ", begun.written()),
@@ -227,7 +229,7 @@ impl Calls {
         }
     }
 
-    /// Tells what is out. The packer is given up for it.
+    /// Prints the octets written. This consumes the packer.
     fn tell_out(&mut self, out: &mut Answers) {
         out.put("  ");
         match self.begun.take() {

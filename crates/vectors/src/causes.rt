@@ -1,4 +1,4 @@
-//! Each layer and each cause, as they are printed.
+//! Prints the layers and the causes.
 
 use iim_fields::FieldCause;
 use iim_object::SizeCause;
@@ -51,7 +51,7 @@ pub(crate) fn print_layers(out: &mut Answers) {
     }
 }
 
-/// Prints each cause: its number and its name, and how the layer that it is of prints it.
+/// Prints each cause: its number and its name, and the same as its layer prints it.
 pub(crate) fn print_causes(out: &mut Answers) {
     for cause in CAUSES {
         out.put("  ");
@@ -64,7 +64,7 @@ pub(crate) fn print_causes(out: &mut Answers) {
     }
 }
 
-/// Adds a cause as its layer prints it.
+/// Appends a cause as its layer prints it.
 fn show_of_layer(out: &mut Answers, cause: Cause) {
     match cause {
         Cause::Field(cause) => out.show(&cause),

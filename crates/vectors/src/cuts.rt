@@ -1,12 +1,13 @@
-//! Octets in pieces.
+//! Splits octets into chunks.
 
 use iim_unpack::{Progress, Refusal, Unpacker};
 use wire_story::StorySink;
 
-/// The longest of the pieces.
+/// The length of the longest chunk.
 pub(crate) const LONGEST: usize = 64;
 
-/// How long the pieces are: all alike, or random numbers by a linear congruence modulo 2^64, with Knuth's factor.
+/// The lengths of chunks: all equal, or pseudo-random. The generator is a linear congruence modulo
+/// 2^64, with Knuth's factor.
 #[derive(Clone, Copy)]
 pub(crate) struct Cuts {
     least: usize,
@@ -15,7 +16,7 @@ pub(crate) struct Cuts {
 }
 
 impl Cuts {
-    /// Pieces of `size` octets.
+    /// Returns chunks of `size` octets.
     pub(crate) fn of(size: usize) -> Cuts {
         Cuts {
             least: size,
@@ -24,7 +25,7 @@ impl Cuts {
         }
     }
 
-    /// Pieces of 1 to 64 octets, the same for the same seed.
+    /// Returns chunks of 1 to 64 octets, the same for the same seed.
     pub(crate) fn random(seed: u64) -> Cuts {
         Cuts {
             least: 1,
@@ -33,7 +34,7 @@ impl Cuts {
         }
     }
 
-    /// The length of the next piece.
+    /// Returns the length of the next chunk.
     fn next(&mut self) -> usize {
         let next = self.state.wrapping_mul(6_364_136_223_846_793_005);
         self.state = next.wrapping_add(1_442_695_040_888_963_407);
@@ -42,7 +43,7 @@ impl Cuts {
     }
 }
 
-/// Feeds an empty piece, and then this one where that is not the end.
+/// Feeds an empty chunk and, if that is not the end, then this one.
 fn feed_piece<S: StorySink>(
     unpacker: &mut Unpacker,
     piece: &[u8],
@@ -54,8 +55,8 @@ fn feed_piece<S: StorySink>(
     }
 }
 
-/// Feeds octets in pieces, with an empty one before each, up to the first answer that is not More: Done with the sum of the octets
-/// that were used.
+/// Feeds octets in chunks, with an empty one before each, up to the first result that is not
+/// `More`. Returns `Done` with the sum of the octets consumed.
 pub(crate) fn feed_cut<S: StorySink>(
     unpacker: &mut Unpacker,
     octets: &[u8],

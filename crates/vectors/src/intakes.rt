@@ -1,4 +1,4 @@
-//! One envelope after another, from octets that an intake reads.
+//! Reads one envelope after another with an intake.
 
 use crate::values::limits_of;
 use iim_dataset::FromRead;
@@ -8,14 +8,14 @@ use std::alloc::Global;
 use vectors_layers::{Answers, Names, Words};
 use wire_story::Discard;
 
-/// Prints how many octets an envelope and its object have.
+/// Prints the length of an envelope and of its object.
 fn print_sums(out: &mut Answers, octets: u64, total: u64) {
     out.number("  ", octets);
     out.number(" octets, ", total);
     out.put(" total\n");
 }
 
-/// Prints what an intake answered, and whether it gave an envelope.
+/// Prints the result of an intake. Returns whether it has an envelope.
 fn print_answer(
     out: &mut Answers,
     answer: Result<Option<Unpacked>, IntakeFault>,
@@ -32,7 +32,8 @@ fn print_answer(
     false
 }
 
-/// Prints what an intake answers to a new unpacker, and answers whether it gave an envelope.
+/// Reads the next envelope with a new unpacker, and prints the result. Returns whether there was
+/// one.
 fn print_envelope(
     out: &mut Answers,
     alloc: Global,
@@ -47,7 +48,7 @@ fn print_envelope(
     print_answer(out, answer, intake.octets())
 }
 
-/// Prints all envelopes of the octets, up to their end or to what is refused.
+/// Prints all envelopes of the octets, up to their end or to the first refusal.
 pub(crate) fn print_envelopes(out: &mut Answers, alloc: Global, names: &Names, words: &mut Words) {
     let limits = limits_of(words);
     let octets = words.octets(names);
@@ -59,7 +60,8 @@ pub(crate) fn print_envelopes(out: &mut Answers, alloc: Global, names: &Names, w
     }
 }
 
-/// Prints what an intake over the octets answers to an unpacker that may have taken some, and to two new ones after it.
+/// Prints the results of an intake with an unpacker that may have consumed octets, and then with
+/// two new ones.
 pub(crate) fn print_next(
     out: &mut Answers,
     alloc: Global,

@@ -1,12 +1,12 @@
-//! The lines of a story, as they are printed.
+//! Prints the lines of a story.
 
 use vectors_layers::Answers;
 use wire_story::Lines;
 
-/// The most octets of a line that are printed one by one where they are all alike.
+/// The longest line whose octets are printed one by one if they are all equal.
 const LONG: usize = 100;
 
-/// Whether all octets of a line are the same.
+/// Checks whether all octets of a line are equal.
 fn are_alike(line: &[u8]) -> bool {
     let [first, others @ ..] = line else {
         return true;
@@ -19,7 +19,7 @@ fn are_alike(line: &[u8]) -> bool {
     true
 }
 
-/// Prints a line of one octet again and again, as in a question: `("a")*101`.
+/// Prints a line of one repeated octet as a question has it: `("a")*101`.
 fn print_repeated(out: &mut Answers, line: &[u8]) {
     out.put("(");
     out.octets(line.get(..1).unwrap_or(&[]));

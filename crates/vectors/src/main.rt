@@ -1,8 +1,9 @@
-//! Answers questions about octets, a line each, so that a row of a table costs a line and no proof.
+//! Replies to questions about octets, one a line. So a row of a table costs a line, and no proof.
 //!
-//! An empty line, and one that begins with `#`, is printed as it is. Any other line is a question: a word and its arguments. It is
-//! printed, and then its answers, each after two spaces. `docs/VECTORS.md` has the words. The questions are in `stdin`; `stdout` has
-//! them with their answers, which are worked out from the format.
+//! An empty line, and one that begins with `#`, is printed unchanged. Any other line is a
+//! question: a word and its arguments. The question is printed, and then the reply, each line
+//! after two spaces. `docs/VECTORS.md` lists the words. The questions are in `stdin`; `stdout` has
+//! them with their replies, which follow from the format.
 #![tactic(auto)]
 
 mod auditing;
@@ -33,7 +34,7 @@ use streams::print_stream;
 use unpacking::Bench;
 use vectors_layers::{Answers, Names, Words};
 
-/// What the questions so far have made.
+/// The results of earlier questions.
 #[derive(Drop)]
 struct Vectors {
     alloc: Global,
@@ -44,7 +45,7 @@ struct Vectors {
 }
 
 impl Vectors {
-    /// Nothing yet; None where memory was refused.
+    /// Creates the value without results. Returns `None` if an allocation failed.
     fn new(alloc: Global) -> Option<Vectors> {
         Some(Vectors {
             alloc,
@@ -55,7 +56,7 @@ impl Vectors {
         })
     }
 
-    /// Answers a word of a question; false where it is none.
+    /// Replies to a question with this word. Returns false if there is no such word.
     fn answer_word(&mut self, answers: &mut Answers, word: &str, words: &mut Words) -> bool {
         if matches!(word, "let") {
             self.names.name(words);
@@ -68,7 +69,7 @@ impl Vectors {
             || self.packing.answer(answers, names, word, words)
     }
 
-    /// Answers a question.
+    /// Replies to a question.
     fn answer(&mut self, answers: &mut Answers, question: &[u8]) {
         let mut words = Words::new(question);
         let word = words.text();
@@ -81,7 +82,7 @@ impl Vectors {
     }
 }
 
-/// Answers the words of streams; false where the word is none of them.
+/// Replies to a question about streams. Returns false if the word is not one of them.
 fn answer_streams(
     out: &mut Answers,
     alloc: Global,
@@ -98,7 +99,7 @@ fn answer_streams(
     true
 }
 
-/// Answers the words that ask for no more than names; false where the word is none of them.
+/// Replies to a question that needs only names. Returns false if the word is not one of them.
 fn answer_alone(
     answers: &mut Answers,
     alloc: Global,
@@ -111,7 +112,7 @@ fn answer_alone(
         || auditing::answer(answers, alloc, names, word, words)
 }
 
-/// Prints the answers to a question. It is an error if one can't be told.
+/// Prints the reply to a question. Returns an error if the reply has one.
 fn print_answers(rt: &impl Print, vectors: &mut Vectors, question: &[u8]) -> io::Result<()> {
     let mut answers = Answers::new(vectors.alloc);
     vectors.answer(&mut answers, question);
@@ -122,7 +123,7 @@ fn print_answers(rt: &impl Print, vectors: &mut Vectors, question: &[u8]) -> io:
     }
 }
 
-/// Prints a line, and its answers where it is a question.
+/// Prints a line, and the reply if it is a question.
 fn pass(rt: &impl Print, vectors: &mut Vectors, line: &str) -> io::Result<()> {
     rt.println(line)?;
     let question = line.as_bytes();
@@ -132,7 +133,7 @@ fn pass(rt: &impl Print, vectors: &mut Vectors, line: &str) -> io::Result<()> {
     print_answers(rt, vectors, question)
 }
 
-/// Passes each line of the input.
+/// Prints each line of the input, with replies.
 fn pass_lines(rt: &(impl Input + Print), alloc: Global, vectors: &mut Vectors) -> io::Result<()> {
     for line in BufReader::new(alloc, rt.reader())?.lines(alloc) {
         pass(rt, vectors, line?.as_str())?;

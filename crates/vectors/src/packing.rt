@@ -1,4 +1,4 @@
-//! Envelopes packed: the value that a script told, at once and in pieces.
+//! Questions about packing: the value of a script, packed at once and in chunks.
 
 use crate::calls::{Calls, tell_fault};
 use crate::plans::{tell_bound, told_plan};
@@ -11,7 +11,7 @@ use std::alloc::Global;
 use vectors_layers::{Answers, Names, Words};
 use wire_story::Lines;
 
-/// The value that is packed, and a packer that is asked call by call.
+/// The value to pack, and a packer for single calls.
 #[derive(Drop)]
 pub(crate) struct Packing {
     alloc: Global,
@@ -20,7 +20,7 @@ pub(crate) struct Packing {
 }
 
 impl Packing {
-    /// No value, and no packer.
+    /// Creates the state without a value or a packer.
     pub(crate) fn new(alloc: Global) -> Packing {
         Packing {
             alloc,
@@ -29,7 +29,8 @@ impl Packing {
         }
     }
 
-    /// Answers the words of scripts and of packing; false where the word is none of them.
+    /// Replies to a question about scripts and packing. Returns false if the word is not one of
+    /// them.
     pub(crate) fn answer(
         &mut self,
         out: &mut Answers,
@@ -50,12 +51,12 @@ impl Packing {
         true
     }
 
-    /// Reads a script, and tells what it tells.
+    /// Reads a script, and prints its content.
     fn read(&mut self, out: &mut Answers, octets: &[u8]) {
         self.told = told(self.alloc, out, octets);
     }
 
-    /// The value that a script told; None where none has, which is an error.
+    /// Returns the value of the last script, or `None` and an error if there is no value.
     fn script(&self, out: &mut Answers) -> Option<&Value> {
         if self.told.is_none() {
             out.fail(NO_VALUE);
@@ -63,7 +64,7 @@ impl Packing {
         self.told.as_ref()
     }
 
-    /// Gives the value another trailer, whatever octets that is.
+    /// Replaces the trailer of the value by any octets.
     fn set_trailer(&mut self, out: &mut Answers, octets: Vec<u8>) {
         match &mut self.told {
             Some(script) => script.trailer = octets,
@@ -71,7 +72,7 @@ impl Packing {
         }
     }
 
-    /// Tells how many octets the object has.
+    /// Prints the length of the object.
     fn tell_size(&self, out: &mut Answers) {
         if let Some(script) = self.script(out) {
             let trailer = script.trailer.as_slice();
@@ -93,8 +94,8 @@ impl Packing {
         }
     }
 
-    /// Packs the value with its text in pieces, by pieces of each length up to the one that is given, and tells each result that
-    /// is not the one before.
+    /// Packs the value with its text in chunks of each length up to the given one. Prints each
+    /// result that differs from the one before.
     fn pack_in_pieces(&self, out: &mut Answers, words: &mut Words) {
         let most = words.number();
         let Some(script) = self.script(out) else {
@@ -105,7 +106,7 @@ impl Packing {
         }
     }
 
-    /// Begins a packer of the value.
+    /// Starts a packer of the value.
     fn start(&mut self, out: &mut Answers, words: &mut Words) {
         let Some(script) = &self.told else {
             out.fail(NO_VALUE);
@@ -117,10 +118,10 @@ impl Packing {
     }
 }
 
-/// What is said where there is nothing to pack.
+/// The error if there is nothing to pack.
 const NO_VALUE: &str = "no script has told a value";
 
-/// Packs the value of a script at once, and tells what was packed, or why it was not.
+/// Packs the value of a script at once, and prints the packed form or the error.
 fn pack_over<K: Keeps>(alloc: Global, out: &mut Answers, script: &Value, plan: Plan, writer: K) {
     let trailer = script.trailer.as_slice();
     let packed = pack(
@@ -142,19 +143,19 @@ fn pack_over<K: Keeps>(alloc: Global, out: &mut Answers, script: &Value, plan: P
     }
 }
 
-/// Tells what was packed in pieces of a length.
+/// Prints the result for chunks of a length.
 fn tell_pieces(out: &mut Answers, length: u64, octets: &[u8]) {
     out.number("  pieces of ", length);
     out.octets_line(" packed ", octets);
 }
 
-/// Tells that pieces of a length are refused.
+/// Prints that chunks of a length are rejected.
 fn tell_refused(out: &mut Answers, length: u64) {
     out.number("  pieces of ", length);
     out.put(" refused\n");
 }
 
-/// Packs the value of a script in pieces of each length up to `most`, as long as they are not refused.
+/// Packs the value of a script in chunks of each length up to `most`, until they are rejected.
 fn tell_lengths(alloc: Global, out: &mut Answers, script: &Value, plan: Plan, most: u64) {
     let mut before = Vec::new(alloc);
     for length in 1..most.saturating_add(1) {
@@ -169,7 +170,7 @@ fn tell_lengths(alloc: Global, out: &mut Answers, script: &Value, plan: Plan, mo
     }
 }
 
-/// Takes a line in pieces of `most` octets at most, each after an empty piece.
+/// Passes a line in chunks of up to `most` octets, each after an empty chunk.
 fn take_line<W: Target>(packer: &mut Packer<W>, line: &[u8], most: u64) -> Result<(), PackCause> {
     for piece in line.chunks((most as usize).max(1)) {
         packer.text(b"")?;
@@ -178,7 +179,7 @@ fn take_line<W: Target>(packer: &mut Packer<W>, line: &[u8], most: u64) -> Resul
     Ok(())
 }
 
-/// Takes lines in such pieces.
+/// Passes lines in such chunks.
 fn take_lines<W: Target>(
     packer: &mut Packer<W>,
     lines: &Lines,
@@ -195,7 +196,7 @@ fn take_lines<W: Target>(
     Ok(())
 }
 
-/// Packs the value of a script in such pieces; None where one is refused.
+/// Packs the value of a script in such chunks. Returns `None` if one is rejected.
 fn in_pieces(alloc: Global, script: &Value, plan: Plan, most: u64) -> Option<Vec<u8>> {
     let writer = memory(alloc);
     let mut packer = Packer::start(alloc, &script.envelope, &script.head, plan, writer).ok()?;

@@ -3,7 +3,7 @@
 use iim_object::{Plan, Size};
 use vectors_layers::{Answers, Words, number_of};
 
-/// What a word says of a size: `known:N`, `unknown` or `unknown:M`.
+/// Parses a size: `known:N`, `unknown` or `unknown:M`.
 fn size_of(word: &[u8]) -> Option<Size> {
     if matches!(word, b"unknown") {
         return Some(Size::Unknown(None));
@@ -15,7 +15,8 @@ fn size_of(word: &[u8]) -> Option<Size> {
     Some(Size::Unknown(Some(most)))
 }
 
-/// The plan that the next two words tell, the octets of a full subfile and what is said of the size. None where it is no plan.
+/// Parses a plan from the next two words: the octets of a full subfile, and the size. Returns
+/// `None` if it is invalid.
 fn plan_of(words: &mut Words) -> Option<Plan> {
     let subfile = words.number();
     let size = size_of(words.word());
@@ -25,7 +26,7 @@ fn plan_of(words: &mut Words) -> Option<Plan> {
     Plan::new(subfile, size?)
 }
 
-/// The plan that the next two words tell. Where it is no plan, tells so.
+/// Parses a plan from the next two words. If it is invalid, prints that.
 pub(crate) fn told_plan(out: &mut Answers, words: &mut Words) -> Option<Plan> {
     let plan = plan_of(words);
     if plan.is_none() {
@@ -34,7 +35,7 @@ pub(crate) fn told_plan(out: &mut Answers, words: &mut Words) -> Option<Plan> {
     plan
 }
 
-/// Tells the bound of a plan.
+/// Prints the bound of a plan.
 pub(crate) fn tell_bound(out: &mut Answers, words: &mut Words) {
     if let Some(plan) = told_plan(out, words) {
         out.tell(&plan.bound());

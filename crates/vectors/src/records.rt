@@ -1,4 +1,4 @@
-//! Records checked, envelopes read and built.
+//! Questions about records that are checked, and envelopes that are read and built.
 
 ghost use Rattle.std.specs.Prelude.{◌≢◌, length, OnOk};
 ghost use Rattle.iim_fields.specs.States.Standing.{IsBetween, IsInside, TakesHead};
@@ -11,7 +11,7 @@ use std::alloc::Global;
 use std::cmp::Ordering;
 use vectors_layers::{Answers, Names, Words};
 
-/// A dataset at the front of some octets, and those after it. The data may be cut short.
+/// A dataset at the beginning of octets, and the octets after it. The data may be incomplete.
 #[derive(Clone, Copy)]
 struct Front<'o> {
     head: Head,
@@ -20,13 +20,13 @@ struct Front<'o> {
 }
 
 impl Front<'_> {
-    /// Whether all of its data are there.
+    /// Checks whether the data are complete.
     fn is_whole(&self) -> bool {
         self.head.rec == 8 || self.data.len() as u64 == self.head.count
     }
 }
 
-/// The head at the front, whose count has two octets, and the octets after it.
+/// Parses a tag with a count of two octets. Returns its head and the remaining octets.
 fn split_head(octets: &[u8]) -> Option<(Head, &[u8])> {
     let [0x1c, rec, set, high, low, after @ ..] = octets else {
         return None;
@@ -39,7 +39,8 @@ fn split_head(octets: &[u8]) -> Option<(Head, &[u8])> {
     Some((head, after))
 }
 
-/// The dataset at the front; None where no octets are left, or none of a tag. A subfile has no data here.
+/// Parses the first dataset. Returns `None` if there are no octets, or they do not begin with a
+/// tag. The data of a subfile are not in the octets.
 fn split_front<'o>(text: &mut Answers, octets: &'o [u8]) -> Option<Front<'o>> {
     if octets.is_empty() {
         return None;
@@ -57,7 +58,7 @@ fn split_front<'o>(text: &mut Answers, octets: &'o [u8]) -> Option<Front<'o>> {
     Some(Front { head, data, rest })
 }
 
-/// The dataset at the front, with all of its data; None where no octets are left, or too few.
+/// Parses the first dataset with all of its data. Returns `None` if there are too few octets.
 fn split_whole<'o>(text: &mut Answers, octets: &'o [u8]) -> Option<Front<'o>> {
     let front = split_front(text, octets)?;
     if front.is_whole() {
@@ -67,7 +68,7 @@ fn split_whole<'o>(text: &mut Answers, octets: &'o [u8]) -> Option<Front<'o>> {
     None
 }
 
-/// Writes a fault.
+/// Prints an error.
 fn tell_fault(text: &mut Answers, fault: FieldFault) {
     text.dataset("  refused ", fault.rec, fault.set);
     text.put(" ");
@@ -75,13 +76,13 @@ fn tell_fault(text: &mut Answers, fault: FieldFault) {
     text.end();
 }
 
-/// Writes the number that a dataset tells.
+/// Prints the number that a dataset encodes.
 fn tell_number(text: &mut Answers, head: Head, number: u64) {
     text.dataset("  ", head.rec, head.set);
     text.number_line(" is ", number);
 }
 
-/// Gives all octets of the begun dataset, in one piece or one by one.
+/// Passes all octets of the dataset in progress, in one chunk or one by one.
 fn give(fields: &mut Fields, head: Head, octets: &[u8], one_by_one: bool)
     requires inside { IsInside fields.old head (length octets.now) }
     requires value { head.rec ≢ 8 }
@@ -96,7 +97,7 @@ fn give(fields: &mut Fields, head: Head, octets: &[u8], one_by_one: bool)
     }
 }
 
-/// Passes a dataset with these data, and answers the number that it tells.
+/// Passes a dataset with these data. Returns the number that it encodes.
 fn pass(
     fields: &mut Fields,
     head: Head,
@@ -117,7 +118,7 @@ fn pass(
     fields.close()
 }
 
-/// Gives octets of the begun dataset, where they are no more than its head tells.
+/// Passes octets of the dataset in progress, if they are not more than its head allows.
 fn give_some(fields: &mut Fields, head: Head, octets: &[u8])
     requires inside { IsInside fields.old head head.count }
     requires value { head.rec ≢ 8 }
@@ -127,7 +128,7 @@ fn give_some(fields: &mut Fields, head: Head, octets: &[u8])
     }
 }
 
-/// Begins a dataset of which only these data have come, and answers its fault.
+/// Begins a dataset of which only these data were received. Returns its error.
 fn begin(fields: &mut Fields, head: Head, data: &[u8]) -> Option<FieldFault>
     requires { IsBetween fields.old }
 {
@@ -140,7 +141,7 @@ fn begin(fields: &mut Fields, head: Head, data: &[u8]) -> Option<FieldFault>
     None
 }
 
-/// Passes the datasets that the octets spell, and writes what they tell, up to the first fault.
+/// Passes the datasets that the octets encode, and prints their numbers, up to the first error.
 fn pass_datasets(text: &mut Answers, fields: &mut Fields, octets: &[u8], one_by_one: bool)
     requires { IsBetween fields.old }
 {
@@ -172,14 +173,14 @@ fn pass_datasets(text: &mut Answers, fields: &mut Fields, octets: &[u8], one_by_
     }
 }
 
-/// Writes the head of a begun dataset, and its data so far.
+/// Prints the head of a partial dataset, and its data so far.
 fn tell_begun(text: &mut Answers, head: Head, data: &[u8]) {
     text.dataset(", in ", head.rec, head.set);
     text.number(" of ", head.count);
     text.each(&[data]);
 }
 
-/// Writes where a reader of records stands.
+/// Prints the state of a reader of records.
 fn tell_place(text: &mut Answers, fields: &Fields) {
     text.put("  record ");
     text.show(&fields.section());
@@ -191,7 +192,8 @@ fn tell_place(text: &mut Answers, fields: &Fields) {
     text.end();
 }
 
-/// Reads these datasets, and writes what the reader says of them; None where memory was refused.
+/// Reads these datasets, and prints the state of the reader. Returns `None` if an allocation
+/// failed.
 fn read_fields(
     text: &mut Answers,
     alloc: Global,
@@ -208,7 +210,7 @@ fn read_fields(
     Some(fields)
 }
 
-/// Checks a dataset with these data, and answers the number that it tells.
+/// Checks a dataset with these data. Returns the number that it encodes.
 fn check(check: &mut RecordCheck, head: Head, data: &[u8]) -> Result<Option<u64>, FieldFault>
     requires { TakesHead check.old }
     ensures { OnOk result (TakesHead check.new) }
@@ -222,7 +224,7 @@ fn check(check: &mut RecordCheck, head: Head, data: &[u8]) -> Result<Option<u64>
     check.value(data)
 }
 
-/// Checks the datasets that the octets spell, and writes what they tell, up to the first fault.
+/// Checks the datasets that the octets encode, and prints their numbers, up to the first error.
 fn check_datasets(text: &mut Answers, records: &mut RecordCheck, octets: &[u8])
     requires { TakesHead records.old }
 {
@@ -250,7 +252,7 @@ fn check_datasets(text: &mut Answers, records: &mut RecordCheck, octets: &[u8])
     }
 }
 
-/// Prints what a check alone says of these datasets.
+/// Prints the result of a check of these datasets, without a reader.
 fn print_check(out: &mut Answers, octets: &[u8]) {
     let mut records = RecordCheck::new();
     check_datasets(out, &mut records, octets);
@@ -263,7 +265,7 @@ fn print_check(out: &mut Answers, octets: &[u8]) {
     });
 }
 
-/// Adds the datasets that the octets spell, and writes the first fault.
+/// Adds the datasets that the octets encode, and prints the first error.
 fn add_datasets(text: &mut Answers, builder: &mut EnvelopeBuilder, octets: &[u8]) {
     let mut rest = octets;
     for _ in 0..octets.len() {
@@ -286,7 +288,7 @@ fn add_datasets(text: &mut Answers, builder: &mut EnvelopeBuilder, octets: &[u8]
     text.line("added");
 }
 
-/// Prints the limit that so many octets and fields pass, or `none`.
+/// Prints the limit that these numbers of octets and fields exceed, or `none`.
 fn print_passed(out: &mut Answers, words: &mut Words) {
     let limits = limits_of(words);
     let octets = words.number();
@@ -305,12 +307,12 @@ pub(crate) struct Envelopes {
     alloc: Global,
     builder: Option<EnvelopeBuilder>,
     fields: Option<Fields>,
-    /// The last of them is the one that is viewed.
+    /// The last envelope is the one that is viewed.
     envelopes: Vec<Envelope>,
 }
 
 impl Envelopes {
-    /// No envelopes.
+    /// Creates the value without envelopes.
     pub(crate) fn new(alloc: Global) -> Envelopes {
         Envelopes {
             alloc,
@@ -320,7 +322,7 @@ impl Envelopes {
         }
     }
 
-    /// Reads datasets in one piece each, and octet by octet, and keeps the reader.
+    /// Reads datasets in one chunk each, and octet by octet, and stores the reader.
     fn read(&mut self, out: &mut Answers, limits: Limits, octets: &[u8]) {
         let mut each = Answers::new(self.alloc);
         let _ = read_fields(&mut each, self.alloc, limits, octets, true);
@@ -333,7 +335,7 @@ impl Envelopes {
         }
     }
 
-    /// Prints the datasets that the reader has kept.
+    /// Prints the datasets that the reader has stored.
     fn print_kept(&self, out: &mut Answers) {
         match &self.fields {
             Some(fields) => print_fields(out, fields.kept()),
@@ -341,7 +343,7 @@ impl Envelopes {
         }
     }
 
-    /// Keeps an envelope, and says so.
+    /// Stores an envelope, and prints `said`.
     fn keep(&mut self, out: &mut Answers, envelope: Envelope, said: &str) {
         if self.envelopes.push(envelope).is_ok() {
             out.line(said);
@@ -373,7 +375,7 @@ impl Envelopes {
         }
     }
 
-    /// Takes the envelope of the builder, and prints what is missing where there is none.
+    /// Takes the envelope of the builder, or prints what is missing.
     fn finish(&mut self, out: &mut Answers) {
         let Some(builder) = self.builder.take() else {
             out.fail("nothing is built");
@@ -388,7 +390,7 @@ impl Envelopes {
         }
     }
 
-    /// The last envelope; None where there is none, which is an error.
+    /// Returns the last envelope, or `None` and an error if there is no envelope.
     fn last(&self, out: &mut Answers) -> Option<&Envelope> {
         let last = self.envelopes.last();
         if last.is_none() {
@@ -397,14 +399,14 @@ impl Envelopes {
         last
     }
 
-    /// Reads the datasets that the next words tell.
+    /// Reads the datasets in the next words.
     fn read_next(&mut self, out: &mut Answers, names: &Names, words: &mut Words) {
         let limits = limits_of(words);
         let octets = words.octets(names);
         self.read(out, limits, octets.as_slice())
     }
 
-    /// Begins a builder, and forgets the one before.
+    /// Creates a builder, which replaces the previous one.
     fn build(&mut self, out: &mut Answers, words: &mut Words) {
         match EnvelopeBuilder::new(self.alloc, limits_of(words)) {
             Ok(builder) => self.builder = Some(builder),
@@ -412,7 +414,7 @@ impl Envelopes {
         }
     }
 
-    /// Prints the first dataset of a number in the last envelope, or `none`.
+    /// Prints the first dataset with a number in the last envelope, or `none`.
     fn print_first(&self, out: &mut Answers, words: &mut Words) {
         let rec = words.octet();
         let set = words.octet();
@@ -425,7 +427,7 @@ impl Envelopes {
         }
     }
 
-    /// Prints all datasets of a number in the last envelope.
+    /// Prints all datasets with a number in the last envelope.
     fn print_all(&self, out: &mut Answers, words: &mut Words) {
         let rec = words.octet();
         let set = words.octet();
@@ -434,7 +436,7 @@ impl Envelopes {
         }
     }
 
-    /// Prints what the last envelope shows.
+    /// Prints the views of the last envelope.
     fn print_views(&self, out: &mut Answers) {
         if let Some(envelope) = self.last(out) {
             print_views(out, envelope);
@@ -448,12 +450,13 @@ impl Envelopes {
         }
     }
 
-    /// Forgets all envelopes.
+    /// Drops all envelopes.
     fn forget(&mut self) {
         self.envelopes = Vec::new(self.alloc);
     }
 
-    /// Answers the words of readers and builders; false where the word is none of them.
+    /// Replies to a question about readers and builders. Returns false if the word is not one of
+    /// them.
     pub(crate) fn answer(
         &mut self,
         out: &mut Answers,
@@ -475,7 +478,7 @@ impl Envelopes {
         true
     }
 
-    /// Answers the words of envelopes; false where the word is none of them.
+    /// Replies to a question about envelopes. Returns false if the word is not one of them.
     fn answer_views(&mut self, out: &mut Answers, word: &str, words: &mut Words) -> bool {
         match word {
             "views" => self.print_views(out),
@@ -491,7 +494,7 @@ impl Envelopes {
     }
 }
 
-/// How an id stands to another: before it, at the same place, or after it.
+/// Compares two ids: less, equal or greater.
 fn order_sign(id: &EnvelopeId, other: &EnvelopeId) -> &'static str {
     let order = id.cmp(other);
     if id.partial_cmp(other) != Some(order) || (id == other) != order.is_eq() {
@@ -504,7 +507,7 @@ fn order_sign(id: &EnvelopeId, other: &EnvelopeId) -> &'static str {
     }
 }
 
-/// Prints how an id stands to those of the envelopes.
+/// Prints how an id compares to those of the envelopes.
 fn print_order(out: &mut Answers, id: &EnvelopeId, envelopes: &[Envelope]) {
     out.put(" ");
     for other in envelopes {
@@ -513,7 +516,7 @@ fn print_order(out: &mut Answers, id: &EnvelopeId, envelopes: &[Envelope]) {
     out.end();
 }
 
-/// Prints an id, and how it stands to those of the envelopes: before, at the same place, or after.
+/// Prints an id, and how it compares to those of the envelopes.
 fn print_id(out: &mut Answers, envelope: &Envelope, envelopes: &[Envelope]) {
     let Ok(id) = envelope.id().clone() else {
         out.lack_memory();
@@ -524,14 +527,14 @@ fn print_id(out: &mut Answers, envelope: &Envelope, envelopes: &[Envelope]) {
     print_order(out, &id, envelopes);
 }
 
-/// Prints the id of each envelope, and how it stands to each.
+/// Prints the id of each envelope, and how it compares to each.
 fn print_ids(out: &mut Answers, envelopes: &[Envelope]) {
     for envelope in envelopes {
         print_id(out, envelope, envelopes);
     }
 }
 
-/// Prints of which envelopes this one is the same.
+/// Prints which envelopes are equal to this one.
 fn print_sames(out: &mut Answers, envelope: &Envelope, envelopes: &[Envelope]) {
     out.put("  ");
     for other in envelopes {
@@ -540,7 +543,7 @@ fn print_sames(out: &mut Answers, envelope: &Envelope, envelopes: &[Envelope]) {
     out.end();
 }
 
-/// Prints of each envelope which ones are the same.
+/// Prints for each envelope which ones are equal to it.
 fn print_same(out: &mut Answers, envelopes: &[Envelope]) {
     for envelope in envelopes {
         print_sames(out, envelope, envelopes);

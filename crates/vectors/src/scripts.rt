@@ -1,4 +1,4 @@
-//! What scripts tell.
+//! The content of scripts.
 
 use iim_fields::{Envelope, Limits};
 use iim_script::{Script, ScriptFault, read_script};
@@ -7,7 +7,7 @@ use vectors_layers::{Answers, tell_header, tell_lines};
 use wire_message::MessageHead;
 use wire_story::{Lines, TextReader};
 
-/// What a script tells, the lines of its story collected.
+/// The content of a script, with the lines of its story collected.
 #[derive(Drop)]
 pub(crate) struct Value {
     pub(crate) envelope: Envelope,
@@ -17,14 +17,14 @@ pub(crate) struct Value {
     text_line: u64,
 }
 
-/// The lines of a text; None where memory was refused.
+/// Returns the lines of a text, or `None` if an allocation failed.
 fn lines_of(alloc: Global, text: &[u8]) -> Option<Lines> {
     let mut lines = Lines::new(alloc);
     TextReader::new().run(text, &mut lines).ok()?;
     Some(lines)
 }
 
-/// What a script tells, with its lines.
+/// Returns the content of a script, with its lines.
 fn collected(alloc: Global, script: Script<'_>) -> Option<Value> {
     Some(Value {
         lines: lines_of(alloc, script.text)?,
@@ -35,7 +35,7 @@ fn collected(alloc: Global, script: Script<'_>) -> Option<Value> {
     })
 }
 
-/// Tells what a script tells, and answers it with its lines.
+/// Prints the content of a script, and returns it with its lines.
 fn told_script(alloc: Global, out: &mut Answers, script: Script<'_>) -> Option<Value> {
     let told = collected(alloc, script);
     match &told {
@@ -45,7 +45,7 @@ fn told_script(alloc: Global, out: &mut Answers, script: Script<'_>) -> Option<V
     told
 }
 
-/// Tells what a script tells, and answers it; or its fault.
+/// Prints the content of a script, and returns it; or prints its error.
 pub(crate) fn told(alloc: Global, out: &mut Answers, octets: &[u8]) -> Option<Value> {
     match read_script(alloc, Limits::WIRE, octets) {
         Ok(script) => told_script(alloc, out, script),
@@ -56,7 +56,7 @@ pub(crate) fn told(alloc: Global, out: &mut Answers, octets: &[u8]) -> Option<Va
     }
 }
 
-/// Tells the fault of a script.
+/// Prints the error of a script.
 fn tell_fault(out: &mut Answers, fault: ScriptFault) {
     out.number("  line ", fault.line);
     out.put(" cause ");
@@ -66,7 +66,7 @@ fn tell_fault(out: &mut Answers, fault: ScriptFault) {
     out.end();
 }
 
-/// Tells all that a script tells.
+/// Prints the content of a script.
 fn tell(out: &mut Answers, script: &Value) {
     for (rec, set, octets) in script.envelope.fields() {
         out.field_line("  field ", rec, set, octets);

@@ -1,4 +1,4 @@
-//! A stream and its one answer: in one piece, in pieces, and continued from the tickets of its places.
+//! A stream and its one result: in one chunk, in several, and continued from saved states.
 
 use crate::cuts::{Cuts, LONGEST, feed_cut};
 use crate::lines::print_line;
@@ -12,24 +12,24 @@ use std::alloc::Global;
 use vectors_layers::{Answers, Names, Words};
 use wire_story::{Discard, Lines};
 
-/// How many places a stream is saved at, or a few more.
+/// The approximate number of states at which a stream is saved.
 const PLACES: usize = 400;
 
-/// A stream, and the limits that it is taken under.
+/// A stream, and the limits under which it is read.
 #[derive(Clone, Copy)]
 struct Stream<'o> {
-    /// Where memory comes from.
+    /// The allocator.
     alloc: Global,
-    /// What records 1 and 2 may have.
+    /// The limits on records 1 and 2.
     limits: Limits,
     /// The octets.
     octets: &'o [u8],
 }
 
-/// What a stream comes to.
+/// The result for a stream.
 #[derive(Drop)]
 struct Told {
-    /// How many octets the envelope has, or why they are refused; truncated ones are.
+    /// The length of the envelope, or the refusal. A truncated stream is a refusal.
     answer: Result<u64, Refusal>,
     /// The lines of the text, with an LF after each.
     text: Vec<u8>,
@@ -38,7 +38,7 @@ struct Told {
 }
 
 impl Told {
-    /// Whether it came to this value.
+    /// Checks whether the result has this value.
     fn has(&self, got: &Unpacked) -> bool {
         match &self.value {
             Some(value) => are_same(got, value),
@@ -46,7 +46,7 @@ impl Told {
         }
     }
 
-    /// Whether another came to the same value, or to none as well.
+    /// Checks whether another result has the same value, or neither has one.
     fn has_value_of(&self, other: &Told) -> bool {
         match &other.value {
             Some(value) => self.has(value),
@@ -54,14 +54,14 @@ impl Told {
         }
     }
 
-    /// Whether another came to the same.
+    /// Checks whether another result is equal.
     fn is(&self, other: &Told) -> bool {
         self.has_value_of(other)
             && self.answer == other.answer
             && self.text.as_slice() == other.text.as_slice()
     }
 
-    /// Whether it was refused before its first octet.
+    /// Checks whether the first octet was rejected.
     fn is_unbegun(&self) -> bool {
         match self.answer {
             Ok(_) => false,
@@ -69,7 +69,8 @@ impl Told {
         }
     }
 
-    /// Whether an intake came to the same: what it answered, after how many octets, and whether it was given none.
+    /// Checks whether an intake had the same result: its envelope or error, the number of octets,
+    /// and whether it was given no octets.
     fn is_given(
         &self,
         answer: Result<Option<Unpacked>, IntakeFault>,
@@ -85,7 +86,7 @@ impl Told {
     }
 }
 
-/// How many octets there are before the first LF.
+/// Returns the number of octets before the first LF.
 fn line_len(text: &[u8]) -> usize {
     let mut len = 0usize;
     for octet in text {
@@ -97,7 +98,7 @@ fn line_len(text: &[u8]) -> usize {
     len
 }
 
-/// Prints the lines of a text, each of which an LF ends.
+/// Prints the lines of a text, each of which ends in LF.
 fn print_text(out: &mut Answers, text: &[u8]) {
     let mut rest = text;
     for _ in 0..text.len() {
@@ -110,7 +111,8 @@ fn print_text(out: &mut Answers, text: &[u8]) {
     }
 }
 
-/// Adds lines to a text that ends in the midst of one, or is empty, with an LF after each; None where memory was refused.
+/// Appends lines to a text that is empty or ends inside a line, with an LF after each. Returns
+/// `None` if an allocation failed.
 fn push_lines(text: &mut Vec<u8>, lines: &Lines) -> Option<()> {
     if matches!(text.last(), Some(b'\n')) {
         text.truncate(text.len().saturating_sub(1));
@@ -122,7 +124,8 @@ fn push_lines(text: &mut Vec<u8>, lines: &Lines) -> Option<()> {
     Some(())
 }
 
-/// The lines of a text, those before a ticket and those after it, with an LF after each; None where memory was refused.
+/// Returns the lines of a text, those before a ticket and those after it, with an LF after each.
+/// Returns `None` if an allocation failed.
 fn text_of(alloc: Global, before: &Lines, lines: &Lines) -> Option<Vec<u8>> {
     let mut text = Vec::new(alloc);
     push_lines(&mut text, before)?;
@@ -130,7 +133,7 @@ fn text_of(alloc: Global, before: &Lines, lines: &Lines) -> Option<Vec<u8>> {
     Some(text)
 }
 
-/// That something holds of so many octets. Where it does not, the answers say of how many, and fail.
+/// Reports an error, with this number of octets, if a check does not hold.
 fn hold(out: &mut Answers, octets: u64, holds: bool, fault: &'static str) {
     if !holds {
         out.number_line("  not at ", octets);
@@ -138,7 +141,8 @@ fn hold(out: &mut Answers, octets: u64, holds: bool, fault: &'static str) {
     }
 }
 
-/// That an unpacker which refused something says so from then on, at the same octet, and has no ticket.
+/// Checks that an unpacker that rejected an octet rejects every call from then on, with the same
+/// octet, and has no ticket.
 fn check_failed(out: &mut Answers, alloc: Global, unpacker: &mut Unpacker, refusal: Refusal) {
     let at = refusal.octet;
     let failed = Refusal {
@@ -167,7 +171,8 @@ fn check_failed(out: &mut Answers, alloc: Global, unpacker: &mut Unpacker, refus
     hold(out, at, has_failed, "a ticket after a refusal")
 }
 
-/// Whether two unpackers have taken as many octets, both are done or have failed or neither, and say the same of the end of input.
+/// Checks whether two unpackers have consumed the same number of octets, are both done or failed
+/// or neither, and have the same result at the end of input.
 fn answer_alike(one: &Unpacker, other: &Unpacker) -> bool {
     one.octets() == other.octets()
         && one.is_done() == other.is_done()
@@ -175,7 +180,7 @@ fn answer_alike(one: &Unpacker, other: &Unpacker) -> bool {
         && one.end_of_input() == other.end_of_input()
 }
 
-/// Whether an unpacker has a ticket.
+/// Checks whether an unpacker has a ticket.
 fn has_ticket(alloc: Global, unpacker: &Unpacker, ticket: &[u8]) -> bool {
     match unpacker.save(alloc) {
         Ok(saved) => saved.as_slice() == ticket,
@@ -183,8 +188,8 @@ fn has_ticket(alloc: Global, unpacker: &Unpacker, ticket: &[u8]) -> bool {
     }
 }
 
-/// What an unpacker answers where no octets follow those that it was given last, before which `at` came: how many the envelope has,
-/// or why they are refused.
+/// Returns the final result of an unpacker, if no octets follow: the length of the envelope, or
+/// the refusal. `at` is the number of octets before the last call.
 fn settled(
     out: &mut Answers,
     alloc: Global,
@@ -212,8 +217,8 @@ fn settled(
     Ok(used)
 }
 
-/// What an unpacker comes to that answered so: its text has the lines before a ticket and those after it. None where memory was
-/// refused.
+/// Returns the result of an unpacker with this answer: its text has the lines before a ticket and
+/// those after it. Returns `None` if an allocation failed.
 fn told_by(
     alloc: Global,
     unpacker: Unpacker,
@@ -228,7 +233,7 @@ fn told_by(
     })
 }
 
-/// Prints how many octets the envelope has or why they are refused, and the lines of the text.
+/// Prints the length of the envelope or the refusal, and the lines of the text.
 fn print_told(out: &mut Answers, whole: &Told) {
     match whole.answer {
         Ok(used) => print_done(out, used),
@@ -237,7 +242,7 @@ fn print_told(out: &mut Answers, whole: &Told) {
     print_text(out, whole.text.as_slice());
 }
 
-/// Prints how many tickets came to the same.
+/// Prints how many tickets had the same result.
 fn print_places(out: &mut Answers, places: u64) {
     out.number("  the same in pieces of 1 to ", LONGEST as u64);
     out.number(", and from ", places);
@@ -245,7 +250,7 @@ fn print_places(out: &mut Answers, places: u64) {
 }
 
 impl Stream<'_> {
-    /// Feeds all at once, or in pieces of a size with an empty one before each.
+    /// Feeds all octets at once, or in chunks of a size with an empty one before each.
     fn feed(
         self,
         out: &mut Answers,
@@ -260,7 +265,8 @@ impl Stream<'_> {
         settled(out, self.alloc, unpacker, 0, answer)
     }
 
-    /// What the octets come to, at once or in such pieces; None where memory was refused.
+    /// Returns the result for the octets, at once or in such chunks, or `None` if an allocation
+    /// failed.
     fn told(self, out: &mut Answers, size: Option<usize>) -> Option<Told> {
         let mut unpacker = Unpacker::new(self.alloc, self.limits).ok()?;
         let mut lines = Lines::new(self.alloc);
@@ -269,7 +275,7 @@ impl Stream<'_> {
         told_by(self.alloc, unpacker, &before, &lines, answer)
     }
 
-    /// That pieces of each size come to the same as the whole.
+    /// Checks that chunks of each size have the same result as the whole.
     fn check_pieces(self, out: &mut Answers, whole: &Told) {
         for size in 1..=LONGEST {
             let is_same = match self.told(out, Some(size)) {
@@ -280,8 +286,8 @@ impl Stream<'_> {
         }
     }
 
-    /// The unpacker that is restored from the ticket of another. It answers as that one, and has the same ticket. None where there is no
-    /// ticket, or it is not restored.
+    /// Returns the unpacker that is restored from the ticket of another. It must answer as that
+    /// one, and have the same ticket. Returns `None` if there is no ticket, or it is not restored.
     fn restored(self, out: &mut Answers, saved: &Unpacker) -> Option<Unpacker> {
         let at = saved.octets();
         let ticket = saved.save(self.alloc).ok()?;
@@ -293,7 +299,8 @@ impl Stream<'_> {
         Some(unpacker)
     }
 
-    /// What the rest of the octets comes to, from the ticket of an unpacker that took those before it; None where it has none.
+    /// Returns the result for the remaining octets, from the ticket of an unpacker that consumed
+    /// those before them, or `None` if it has no ticket.
     fn continued(
         self,
         out: &mut Answers,
@@ -308,7 +315,8 @@ impl Stream<'_> {
         told_by(self.alloc, unpacker, before, &lines, answer)
     }
 
-    /// That the rest of the octets comes to the same as the whole by an intake, from the ticket of an unpacker that is not done.
+    /// Checks that the remaining octets have the same result as the whole by an intake, from the
+    /// ticket of an unpacker that is not done.
     fn check_intake(self, out: &mut Answers, saved: &Unpacker, rest: &[u8], whole: &Told) {
         let Some(unpacker) = self.restored(out, saved) else {
             out.fail("no ticket");
@@ -325,7 +333,8 @@ impl Stream<'_> {
         hold(out, at, is_same, "another answer by an intake")
     }
 
-    /// That the rest of the octets comes to the same as the whole, from the ticket of an unpacker that took those before it.
+    /// Checks that the remaining octets have the same result as the whole, from the ticket of an
+    /// unpacker that consumed those before them.
     fn check_rest(
         self,
         out: &mut Answers,
@@ -347,7 +356,8 @@ impl Stream<'_> {
         self.check_intake(out, saved, rest, whole)
     }
 
-    /// Saves the octets at each place after so many, and checks what follows. Answers how many places.
+    /// Saves the state after every `size` octets, and checks the result from each. Returns the
+    /// number of states.
     fn check_places(
         self,
         out: &mut Answers,
@@ -370,7 +380,8 @@ impl Stream<'_> {
         places
     }
 
-    /// Saves the octets at up to 400 places, each of them where they are few, and checks what follows. Answers how many places.
+    /// Saves up to 400 states, or each of them if they are few, and checks the result from each.
+    /// Returns the number of states.
     fn check_tickets(self, out: &mut Answers, whole: &Told) -> u64 {
         let size = (self.octets.len() / PLACES).saturating_add(1);
         let Ok(mut saved) = Unpacker::new(self.alloc, self.limits) else {
@@ -381,7 +392,8 @@ impl Stream<'_> {
         self.check_places(out, size, &mut saved, &mut before, whole)
     }
 
-    /// Prints what the octets come to at once. It is an error if they come to something else in pieces, or from a ticket.
+    /// Prints the result for the octets at once. Reports an error if chunks or a ticket have
+    /// another result.
     fn print(self, out: &mut Answers) {
         let Some(whole) = self.told(out, None) else {
             out.lack_memory();
@@ -394,7 +406,7 @@ impl Stream<'_> {
     }
 }
 
-/// Prints what the octets of a stream come to.
+/// Prints the result for a stream.
 pub(crate) fn print_stream(out: &mut Answers, alloc: Global, names: &Names, words: &mut Words) {
     let limits = limits_of(words);
     let octets = words.octets(names);

@@ -1,4 +1,4 @@
-//! Tickets of begun envelopes, as they are told.
+//! Questions about tickets of partial envelopes.
 
 use crate::values::limits_of;
 use iim_fields::Limits;
@@ -6,14 +6,14 @@ use iim_unpack::{TicketFault, TicketFields, TicketParts, TicketPhase, Unpacker, 
 use std::alloc::Global;
 use vectors_layers::{Answers, MOST_ARGUMENTS, Names, Words};
 
-/// Adds the number and the name of a cause after some text.
+/// Appends the number and the name of a cause after a label.
 fn put_cause(out: &mut Answers, label: &str, number: u8, name: &str) {
     out.number(label, u64::from(number));
     out.put(" ");
     out.put(name);
 }
 
-/// Prints the number and the name of a fault.
+/// Prints the number and the name of an error.
 pub(crate) fn print_fault(out: &mut Answers, fault: TicketFault) {
     put_cause(out, "  ", fault.number(), fault.name());
     out.end();
@@ -26,7 +26,7 @@ fn print_hexadecimal(out: &mut Answers, octets: &[u8]) {
     out.end();
 }
 
-/// Prints a ticket; only `yes` where it is the one that was wanted.
+/// Prints a ticket, or `yes` if it is the expected one.
 fn print_saved(out: &mut Answers, ticket: &[u8], wanted: Option<&[u8]>) {
     match wanted {
         Some(wanted) if wanted == ticket => out.line("yes"),
@@ -34,7 +34,7 @@ fn print_saved(out: &mut Answers, ticket: &[u8], wanted: Option<&[u8]>) {
     }
 }
 
-/// Prints the ticket of an unpacker, or why it has none; only `yes` where it is the one that was wanted.
+/// Prints the ticket of an unpacker, or why it has none. Prints `yes` if it is the expected one.
 pub(crate) fn print_ticket(
     out: &mut Answers,
     alloc: Global,
@@ -50,7 +50,7 @@ pub(crate) fn print_ticket(
     }
 }
 
-/// Prints `restored`, and the ticket of the unpacker where it is not the one that was wanted.
+/// Prints `restored`, and the ticket of the unpacker if it is not the expected one.
 fn print_again(out: &mut Answers, alloc: Global, unpacker: &Unpacker, wanted: &[u8]) {
     out.line("restored");
     if unpacker.is_failed() || unpacker.octets() != 0 {
@@ -65,7 +65,8 @@ fn print_again(out: &mut Answers, alloc: Global, unpacker: &Unpacker, wanted: &[
     }
 }
 
-/// Restores a ticket and saves it again. Prints `restored`, and the ticket where it is not the one that was wanted; or the fault.
+/// Restores a ticket and saves it again. Prints `restored`, and the ticket if it is not the
+/// expected one; or the error.
 fn print_restored(out: &mut Answers, alloc: Global, limits: Limits, ticket: &[u8], wanted: &[u8]) {
     match Unpacker::restore(alloc, limits, ticket, 0) {
         Ok(unpacker) => print_again(out, alloc, &unpacker, wanted),
@@ -73,7 +74,7 @@ fn print_restored(out: &mut Answers, alloc: Global, limits: Limits, ticket: &[u8
     }
 }
 
-/// Adds whether a ticket is restored: `restored`, or the number and the name of the fault.
+/// Appends whether a ticket is restored: `restored`, or the number and the name of the error.
 fn put_restored(out: &mut Answers, alloc: Global, limits: Limits, ticket: &[u8]) {
     match Unpacker::restore(alloc, limits, ticket, 0) {
         Ok(_) => out.put("restored"),
@@ -81,17 +82,18 @@ fn put_restored(out: &mut Answers, alloc: Global, limits: Limits, ticket: &[u8])
     }
 }
 
-/// A ticket but for the number of octets of the object that have come.
+/// A ticket without the number of octets of the object that were received.
 #[derive(Clone, Copy)]
 struct OpenTicket<'t> {
-    /// What comes before the number.
+    /// The octets before the number.
     front: &'t [u8],
-    /// What comes after it.
+    /// The octets after it.
     back: &'t [u8],
 }
 
 impl OpenTicket<'_> {
-    /// The ticket of a number, which has four octets in version 1, and eight in version 2; None where memory was refused.
+    /// Returns the ticket with a number, which has four octets in version 1, and eight in version
+    /// 2. Returns `None` if an allocation failed.
     fn with(self, alloc: Global, number: u64) -> Option<Vec<u8>> {
         let octets = number.to_be_bytes();
         let is_first = matches!(self.front.get(4), Some(1));
@@ -105,7 +107,7 @@ impl OpenTicket<'_> {
         Some(ticket)
     }
 
-    /// Prints whether the ticket of a number is restored.
+    /// Prints whether the ticket with a number is restored.
     fn print(self, out: &mut Answers, alloc: Global, limits: Limits, number: u64) {
         let Some(ticket) = self.with(alloc, number) else {
             out.lack_memory();
@@ -117,7 +119,7 @@ impl OpenTicket<'_> {
         out.end();
     }
 
-    /// Prints that of each number that is left.
+    /// Prints whether the ticket is restored with each of the remaining numbers.
     fn print_each(self, out: &mut Answers, alloc: Global, limits: Limits, words: &mut Words) {
         for _ in 0..MOST_ARGUMENTS {
             if !words.has_more() {
@@ -128,7 +130,7 @@ impl OpenTicket<'_> {
     }
 }
 
-/// Prints the data of a dataset that is begun.
+/// Prints the data of a partial dataset.
 fn print_data(out: &mut Answers, set: u8, count: u64, left: u64, taken: &[u8]) {
     out.number("  data ", u64::from(set));
     out.number(" count ", count);
@@ -136,7 +138,7 @@ fn print_data(out: &mut Answers, set: u8, count: u64, left: u64, taken: &[u8]) {
     out.octets_line(" taken ", taken);
 }
 
-/// Prints what is begun.
+/// Prints what is in progress.
 fn print_phase(out: &mut Answers, phase: &TicketPhase) {
     match phase {
         TicketPhase::Tag(held) => out.octets_line("  tag ", held),
@@ -150,7 +152,7 @@ fn print_phase(out: &mut Answers, phase: &TicketPhase) {
     }
 }
 
-/// Prints the numbers of record 7, and what has come of the object.
+/// Prints the numbers of record 7, and how much of the object was received.
 fn print_object(out: &mut Answers, numbers: [Option<u64>; 4], taken: u64, heads: u64) {
     out.put("  numbers");
     for number in numbers {
@@ -161,7 +163,7 @@ fn print_object(out: &mut Answers, numbers: [Option<u64>; 4], taken: u64, heads:
     out.put(" heads\n");
 }
 
-/// Prints what is told of the message.
+/// Prints the state of the message.
 fn print_message(out: &mut Answers, part: u8, counter: u8, flag: u8, texts: [&[u8]; 7]) {
     out.number("  message part ", u64::from(part));
     out.number(" counter ", u64::from(counter));
@@ -171,7 +173,7 @@ fn print_message(out: &mut Answers, part: u8, counter: u8, flag: u8, texts: [&[u
     out.end();
 }
 
-/// Prints the datasets of a ticket of so many octets.
+/// Prints the datasets of a ticket of `len` octets.
 fn print_fields(out: &mut Answers, fields: &mut TicketFields, len: usize) {
     for _ in 0..len {
         let Some((rec, set, octets)) = fields.next() else {
@@ -181,7 +183,7 @@ fn print_fields(out: &mut Answers, fields: &mut TicketFields, len: usize) {
     }
 }
 
-/// Prints the parts of a ticket of so many octets.
+/// Prints the parts of a ticket of `len` octets.
 fn print_all(out: &mut Answers, mut parts: TicketParts, len: usize) {
     out.number("  version ", u64::from(parts.version));
     out.number_line(" section ", u64::from(parts.section));
@@ -191,7 +193,7 @@ fn print_all(out: &mut Answers, mut parts: TicketParts, len: usize) {
     print_message(out, parts.part, parts.counter, parts.flag, parts.texts)
 }
 
-/// Prints the parts of a ticket, or why it has none.
+/// Prints the parts of a ticket, or the error.
 fn print_parts(out: &mut Answers, ticket: &[u8]) {
     match split_ticket(ticket) {
         Ok(parts) => print_all(out, parts, ticket.len()),
@@ -199,7 +201,7 @@ fn print_parts(out: &mut Answers, ticket: &[u8]) {
     }
 }
 
-/// Prints which numbers of octets of the object a ticket is restored with.
+/// Prints with which numbers of octets of the object a ticket is restored.
 fn print_counts(out: &mut Answers, alloc: Global, names: &Names, words: &mut Words) {
     let limits = limits_of(words);
     let front = words.octets(names);
@@ -211,7 +213,8 @@ fn print_counts(out: &mut Answers, alloc: Global, names: &Names, words: &mut Wor
     ticket.print_each(out, alloc, limits, words)
 }
 
-/// Restores a ticket, and saves it again: as the next argument, or as itself where there is none.
+/// Restores a ticket, and saves it again. The expected ticket is the next argument or, without
+/// one, the same ticket.
 fn print_next(out: &mut Answers, alloc: Global, names: &Names, words: &mut Words) {
     let limits = limits_of(words);
     let ticket = words.octets(names);
@@ -223,7 +226,7 @@ fn print_next(out: &mut Answers, alloc: Global, names: &Names, words: &mut Words
     }
 }
 
-/// Answers the words of tickets alone; false where the word is none of them.
+/// Replies to a question about tickets alone. Returns false if the word is not one of them.
 pub(crate) fn answer(
     out: &mut Answers,
     alloc: Global,

@@ -1,4 +1,4 @@
-//! An envelope that is taken apart in pieces: what was fed so far, and what is asked of it.
+//! Questions about an envelope that is unpacked in chunks.
 
 use crate::causes::{print_causes, print_layers};
 use crate::cuts::{Cuts, feed_cut};
@@ -13,7 +13,7 @@ use std::mem;
 use vectors_layers::{Answers, Names, Words};
 use wire_story::Lines;
 
-/// An envelope that is being taken apart.
+/// An envelope that is being unpacked.
 #[derive(Drop)]
 pub(crate) struct Bench {
     alloc: Global,
@@ -22,7 +22,7 @@ pub(crate) struct Bench {
     lines: Lines,
 }
 
-/// Prints what was answered to octets.
+/// Prints the result for octets.
 fn print_progress(out: &mut Answers, answer: Result<Progress, Refusal>) {
     match answer {
         Ok(Progress::More) => out.line("more"),
@@ -32,7 +32,8 @@ fn print_progress(out: &mut Answers, answer: Result<Progress, Refusal>) {
 }
 
 impl Bench {
-    /// A new envelope, under the program's limits; None where memory was refused.
+    /// Creates the state for a new envelope, under the program's limits. Returns `None` if an
+    /// allocation failed.
     pub(crate) fn new(alloc: Global) -> Option<Bench> {
         Some(Bench {
             alloc,
@@ -42,7 +43,8 @@ impl Bench {
         })
     }
 
-    /// The unpacker. A new one takes its place. None where memory was refused.
+    /// Takes the unpacker, and puts a new one in its place. Returns `None` if an allocation
+    /// failed.
     fn take_unpacker(&mut self, out: &mut Answers) -> Option<Unpacker> {
         match Unpacker::new(self.alloc, self.limits) {
             Ok(next) => Some(mem::replace(&mut self.unpacker, next)),
@@ -53,7 +55,7 @@ impl Bench {
         }
     }
 
-    /// A new envelope, under limits.
+    /// Begins a new envelope, under these limits.
     fn renew(&mut self, out: &mut Answers, limits: Limits) {
         match Unpacker::new(self.alloc, limits) {
             Ok(unpacker) => self.unpacker = unpacker,
@@ -63,7 +65,7 @@ impl Bench {
         self.lines = Lines::new(self.alloc);
     }
 
-    /// The next envelope of the same unpacker.
+    /// Begins the next envelope with the same unpacker.
     fn again(&mut self) {
         self.unpacker.again();
         self.lines = Lines::new(self.alloc);
@@ -76,14 +78,15 @@ impl Bench {
         print_progress(out, answer);
     }
 
-    /// Feeds the octets of the next word in pieces.
+    /// Feeds the octets of the next word in chunks.
     fn cut(&mut self, out: &mut Answers, names: &Names, words: &mut Words, cuts: Cuts) {
         let octets = words.octets(names);
         let answer = feed_cut(&mut self.unpacker, octets.as_slice(), cuts, &mut self.lines);
         print_progress(out, answer);
     }
 
-    /// Puts an unpacker that is restored from the ticket of the present one in its place; None where that can't be.
+    /// Replaces the unpacker by one that is restored from its ticket. Returns `None` if that
+    /// fails.
     fn carry_over(&mut self) -> Option<()> {
         let at = self.unpacker.octets();
         let ticket = self.unpacker.save(self.alloc).ok()?;
@@ -92,7 +95,8 @@ impl Bench {
         Some(())
     }
 
-    /// Feeds octet by octet, each to an unpacker that is restored from the ticket of the one before it.
+    /// Feeds octet by octet, each to an unpacker that is restored from the ticket of the one
+    /// before it.
     fn carry_octets(&mut self, out: &mut Answers, octets: &[u8]) -> Result<Progress, Refusal> {
         let mut sum = 0usize;
         for octet in octets {
@@ -109,7 +113,7 @@ impl Bench {
         Ok(Progress::More)
     }
 
-    /// Feeds the octets of the next word so.
+    /// Feeds the octets of the next word in this way.
     fn carry(&mut self, out: &mut Answers, names: &Names, words: &mut Words) {
         let octets = words.octets(names);
         let answer = self.carry_octets(out, octets.as_slice());
@@ -130,7 +134,7 @@ impl Bench {
         }
     }
 
-    /// Puts a restored unpacker in the place of the present one.
+    /// Replaces the unpacker by a restored one.
     fn restore(&mut self, out: &mut Answers, limits: Limits, at: u64, ticket: &[u8]) {
         match Unpacker::restore(self.alloc, limits, ticket, at) {
             Ok(unpacker) => {
@@ -142,7 +146,7 @@ impl Bench {
         }
     }
 
-    /// Restores the ticket that the next words tell.
+    /// Restores the ticket in the next words.
     fn restore_next(&mut self, out: &mut Answers, names: &Names, words: &mut Words) {
         let limits = limits_of(words);
         let at = words.number();
@@ -150,13 +154,13 @@ impl Bench {
         self.restore(out, limits, at, ticket.as_slice());
     }
 
-    /// Prints whether the ticket is the one that the next word tells.
+    /// Prints whether the ticket is the one in the next word.
     fn print_wanted(&self, out: &mut Answers, names: &Names, words: &mut Words) {
         let wanted = words.octets(names);
         print_ticket(out, self.alloc, &self.unpacker, Some(wanted.as_slice()));
     }
 
-    /// Prints what the unpacker says where no octets follow.
+    /// Prints the result of the unpacker if no octets follow.
     fn print_end(&self, out: &mut Answers) {
         match self.unpacker.end_of_input() {
             Some(refusal) => out.tell(&refusal),
@@ -164,7 +168,7 @@ impl Bench {
         }
     }
 
-    /// Prints how many octets the unpacker took, and whether it is done or has failed.
+    /// Prints how many octets the unpacker consumed, and whether it is done or has failed.
     fn print_state(&self, out: &mut Answers) {
         out.number("  octets ", self.unpacker.octets());
         out.holds(" done ", self.unpacker.is_done());
@@ -172,7 +176,7 @@ impl Bench {
         out.end();
     }
 
-    /// Prints what comes next of an input.
+    /// Prints the next envelope of an input.
     fn print_next(&mut self, out: &mut Answers, names: &Names, words: &mut Words) {
         let octets = words.octets(names);
         if let Some(unpacker) = self.take_unpacker(out) {
@@ -180,7 +184,7 @@ impl Bench {
         }
     }
 
-    /// Answers the words of unpacking; false where the word is none of them.
+    /// Replies to a question about unpacking. Returns false if the word is not one of them.
     pub(crate) fn answer(
         &mut self,
         out: &mut Answers,
@@ -205,7 +209,8 @@ impl Bench {
         true
     }
 
-    /// Answers the words of what was fed, and of all layers and causes; false where the word is none of them.
+    /// Replies to a question about the fed octets, or about all layers and causes. Returns false
+    /// if the word is not one of them.
     fn answer_told(
         &mut self,
         out: &mut Answers,

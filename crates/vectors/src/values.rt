@@ -1,17 +1,17 @@
-//! Limits, and the value of an envelope, as they are told and printed.
+//! Parses limits, and prints the value of an envelope.
 
 use iim_fields::Limits;
 use iim_unpack::Unpacked;
 use vectors_layers::{Answers, Words, print_sizes, tell_header};
 use wire_message::MessageHead;
 
-/// The limits that the next word tells, as `65536/512`.
+/// Parses limits from the next word, such as `65536/512`.
 pub(crate) fn limits_of(words: &mut Words) -> Limits {
     let (octets, fields) = words.pair();
     Limits { octets, fields }
 }
 
-/// Prints that an envelope is done, and how many octets it has.
+/// Prints that an envelope is complete, and its length.
 pub(crate) fn print_done(out: &mut Answers, octets: u64) {
     out.number_line("  done ", octets);
 }
@@ -26,7 +26,7 @@ pub(crate) fn print_value(out: &mut Answers, got: &Unpacked) {
     print_sizes(out, &got.sizes)
 }
 
-/// Whether two headers have the same parts.
+/// Checks whether two headers have the same parts.
 fn are_same_headers(one: &MessageHead, other: &MessageHead) -> bool {
     one.source() == other.source()
         && one.number() == other.number()
@@ -36,7 +36,7 @@ fn are_same_headers(one: &MessageHead, other: &MessageHead) -> bool {
         && one.info() == other.info()
 }
 
-/// Whether two envelopes have the same datasets, header, trailer and sizes.
+/// Checks whether two envelopes have the same datasets, header, trailer and sizes.
 pub(crate) fn are_same(one: &Unpacked, other: &Unpacked) -> bool {
     one.envelope.same(&other.envelope)
         && are_same_headers(&one.head, &other.head)

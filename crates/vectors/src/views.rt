@@ -1,4 +1,4 @@
-//! What an envelope shows.
+//! Prints the views of an envelope.
 
 use iim_fields::{DataIter, Envelope, FieldIter};
 use jiff::Timestamp;
@@ -41,7 +41,7 @@ fn print_instant(out: &mut Answers, name: &str, instant: Option<Timestamp>) {
     }
 }
 
-/// Prints the octets of a walk, in order.
+/// Prints the octets of an iteration, in order.
 pub(crate) fn print_walk(out: &mut Answers, name: &str, walk: DataIter<'_>) {
     let mut is_none = true;
     out.put("  ");
@@ -56,7 +56,7 @@ pub(crate) fn print_walk(out: &mut Answers, name: &str, walk: DataIter<'_>) {
     out.end();
 }
 
-/// Prints what is always there.
+/// Prints the mandatory views.
 fn print_mandatory(out: &mut Answers, envelope: &Envelope) {
     print_octets(out, "service", envelope.service());
     print_octets(out, "number", envelope.number());
@@ -69,7 +69,7 @@ fn print_mandatory(out: &mut Answers, envelope: &Envelope) {
     out.end();
 }
 
-/// Prints what may be absent.
+/// Prints the views that may be absent.
 fn print_optional(out: &mut Answers, envelope: &Envelope) {
     print_instant(out, "sent", envelope.sent());
     print_instant(out, "release", envelope.release());
@@ -85,7 +85,7 @@ fn print_optional(out: &mut Answers, envelope: &Envelope) {
     print_some(out, "headline", envelope.headline())
 }
 
-/// Prints what may be there more than once.
+/// Prints the views that may be repeated.
 fn print_repeated(out: &mut Answers, envelope: &Envelope) {
     print_walk(out, "destinations", envelope.destinations());
     print_walk(out, "products", envelope.products());

@@ -1,4 +1,4 @@
-//! What is packed into: memory, or a writer that fails.
+//! The targets of a packer: memory, or a writer that fails.
 
 use crate::calls::Begun;
 use iim_dataset::{FromWrite, Target};
@@ -10,20 +10,20 @@ use vectors_layers::{Answers, Words};
 /// Memory.
 pub(crate) type Memory = FromWrite<Vec<u8>>;
 
-/// Memory that is empty.
+/// Creates an empty target in memory.
 pub(crate) fn memory(alloc: Global) -> Memory {
     FromWrite::new(Vec::new(alloc))
 }
 
-/// A writer that takes an octet a call, up to 512, and meets trouble after some.
+/// A writer that accepts one octet a call, up to 512, and has trouble after some of them.
 pub(crate) type Trial = TrialWriter<512>;
 
-/// A target that keeps what it took.
+/// A target that stores what it accepted.
 pub(crate) trait Keeps: Target + Drop {
-    /// What it took; None where memory was refused.
+    /// Returns the octets that it accepted, or `None` if an allocation failed.
     fn kept(self, alloc: Global) -> Option<Vec<u8>>;
 
-    /// A packer over it, as one of those that are asked.
+    /// Returns a packer over this target as a packer for single calls.
     fn begun(packer: Packer<Self>) -> Begun;
 }
 
@@ -49,7 +49,7 @@ impl Keeps for Trial {
     }
 }
 
-/// Tells what a target took.
+/// Prints the octets that a target accepted.
 pub(crate) fn tell_kept<K: Keeps>(alloc: Global, out: &mut Answers, target: K) {
     match target.kept(alloc) {
         Some(octets) => out.octets(octets.as_slice()),
@@ -57,7 +57,7 @@ pub(crate) fn tell_kept<K: Keeps>(alloc: Global, out: &mut Answers, target: K) {
     }
 }
 
-/// The writer that is interrupted after so many octets, as often as the next word tells.
+/// Returns the writer that is interrupted after `good` octets, as many times as the next word has.
 fn interrupted(words: &mut Words, good: u64) -> Option<Trial> {
     match u32::try_from(words.number()) {
         Ok(times) => Some(TrialWriter::new(good, Trouble::Interruptions(times))),
@@ -68,8 +68,8 @@ fn interrupted(words: &mut Words, good: u64) -> Option<Trial> {
     }
 }
 
-/// The writer that fails as the next words tell: `failing K` after K octets, `interrupted K TIMES` there so many times. None where
-/// there are no more words.
+/// Parses a writer that fails from the next words: `failing K` after K octets, `interrupted K
+/// TIMES` there TIMES times. Returns `None` if there are no more words.
 pub(crate) fn trial_of(words: &mut Words) -> Option<Trial> {
     if !words.has_more() {
         return None;
