@@ -1,28 +1,28 @@
-//! The answers to a question.
+//! The reply to a question.
 
 use iim_dataset::{DatasetName, push_shown};
 use std::alloc::Global;
 use std::fmt::{Debug, Display};
 use std::io::Write;
 
-/// The answers to a question. Where one can't be told, as for want of memory, they say so once they are asked for: what answers need not
-/// ask at each line.
+/// The reply to a question. Errors, such as a failed allocation, are stored and reported at the
+/// end. So the code for a question need not check for them at each line.
 #[derive(Drop)]
 pub struct Answers {
     text: Vec<u8>,
     fault: Option<&'static str>,
 }
 
-/// What is said where memory was refused.
+/// The error if an allocation failed.
 const NO_MEMORY: &str = "memory was refused";
 
-/// The digit of upper case of a number below 16.
+/// Returns the hexadecimal digit, in upper case, of a number below 16.
 fn digit_of(number: u8) -> u8 {
     let zero = if number < 10 { b'0' } else { b'A' - 10 };
     zero.saturating_add(number)
 }
 
-/// Whether octets stand for themselves in quotes: all are printable ASCII, and none is a quote.
+/// Checks whether octets can be printed in quotes: all are printable ASCII, and none is a quote.
 fn are_plain(octets: &[u8]) -> bool {
     for octet in octets {
         if !matches!(*octet, b' '..=b'!' | b'#'..=b'~') {
@@ -33,7 +33,7 @@ fn are_plain(octets: &[u8]) -> bool {
 }
 
 impl Answers {
-    /// No answers.
+    /// Creates an empty reply.
     pub fn new(alloc: Global) -> Answers {
         Answers {
             text: Vec::new(alloc),
@@ -41,71 +41,71 @@ impl Answers {
         }
     }
 
-    /// The text of the answers, up to what can't be told.
+    /// Returns the text of the reply, up to the first error.
     pub fn text(&self) -> &[u8] {
         self.text.as_slice()
     }
 
-    /// What went wrong first.
+    /// Returns the first error.
     pub fn fault(&self) -> Option<&'static str> {
         self.fault
     }
 
-    /// That something went wrong. What came first counts.
+    /// Reports an error. Only the first one is stored.
     pub fn fail(&mut self, fault: &'static str) {
         if self.fault.is_none() {
             self.fault = Some(fault);
         }
     }
 
-    /// That memory was refused.
+    /// Reports that an allocation failed.
     pub fn lack_memory(&mut self) {
         self.fail(NO_MEMORY);
     }
 
-    /// Whether the answers are those.
+    /// Checks whether two replies have the same text.
     pub fn are(&self, others: &Answers) -> bool {
         self.text.as_slice() == others.text.as_slice()
     }
 
-    /// Whether a line is begun.
+    /// Checks whether the last line is incomplete.
     pub fn is_begun(&self) -> bool {
         !matches!(self.text.last(), None | Some(b'\n'))
     }
 
-    /// Adds octets as they are.
+    /// Appends octets unchanged.
     pub fn add(&mut self, octets: &[u8]) {
         if self.text.extend_from_slice(octets).is_err() {
             self.lack_memory();
         }
     }
 
-    /// Adds text.
+    /// Appends text.
     pub fn put(&mut self, text: &str) {
         self.add(text.as_bytes());
     }
 
-    /// Adds a value.
+    /// Appends a value.
     pub fn show<T: Display>(&mut self, value: &T) {
         if write!(self.text, "{value}").is_err() {
             self.lack_memory();
         }
     }
 
-    /// Adds the name of a choice.
+    /// Appends the name of a choice.
     pub fn name<T: Debug>(&mut self, choice: &T) {
         if write!(self.text, "{choice:?}").is_err() {
             self.lack_memory();
         }
     }
 
-    /// Adds text, and a number after it.
+    /// Appends a label and a number.
     pub fn number(&mut self, label: &str, number: u64) {
         self.put(label);
         self.show(&number);
     }
 
-    /// Adds text, and after it a number or a dash.
+    /// Appends a label, and a number or a dash.
     pub fn number_or_dash(&mut self, label: &str, number: Option<u64>) {
         self.put(label);
         match number {
@@ -114,31 +114,32 @@ impl Answers {
         }
     }
 
-    /// Adds text, and `true` or `false` after it.
+    /// Appends a label, and `true` or `false`.
     pub fn holds(&mut self, label: &str, holds: bool) {
         self.put(label);
         self.put(if holds { "true" } else { "false" });
     }
 
-    /// Adds text, and the name of a dataset after it.
+    /// Appends a label and the name of a dataset.
     pub fn dataset(&mut self, label: &str, rec: u8, set: u8) {
         self.put(label);
         self.show(&DatasetName { rec, set });
     }
 
-    /// Adds an octet in hexadecimal digits.
+    /// Appends an octet in hexadecimal digits.
     pub fn digits(&mut self, octet: u8) {
         self.add(&[digit_of(octet >> 4), digit_of(octet & 15)]);
     }
 
-    /// Adds octets in hexadecimal digits.
+    /// Appends octets in hexadecimal digits.
     pub fn hexadecimal(&mut self, octets: &[u8]) {
         for octet in octets {
             self.digits(*octet);
         }
     }
 
-    /// Adds octets: `-` for none, text in quotes where each is printable ASCII and none a quote, else hexadecimal digits.
+    /// Appends octets: `-` for the empty slice, text in quotes if all are printable ASCII and none
+    /// is a quote, otherwise hexadecimal digits.
     pub fn octets(&mut self, octets: &[u8]) {
         if octets.is_empty() {
             self.put("-");
@@ -151,7 +152,7 @@ impl Answers {
         }
     }
 
-    /// Adds octets, each after a space.
+    /// Appends octets, each item after a space.
     pub fn each(&mut self, all: &[&[u8]]) {
         for octets in all {
             self.put(" ");
@@ -159,7 +160,7 @@ impl Answers {
         }
     }
 
-    /// Adds octets as the libraries show them.
+    /// Appends octets as the libraries escape them.
     pub fn shown(&mut self, octets: &[u8]) {
         if push_shown(&mut self.text, octets).is_err() {
             self.lack_memory();
@@ -171,41 +172,41 @@ impl Answers {
         self.put("\n");
     }
 
-    /// Adds a line of text.
+    /// Appends a line of text.
     pub fn line(&mut self, line: &str) {
         self.put("  ");
         self.put(line);
         self.end();
     }
 
-    /// Adds a line of text with octets after it.
+    /// Appends a line with a label and octets.
     pub fn octets_line(&mut self, label: &str, octets: &[u8]) {
         self.put(label);
         self.octets(octets);
         self.end();
     }
 
-    /// Adds a line of text with a number after it.
+    /// Appends a line with a label and a number.
     pub fn number_line(&mut self, label: &str, number: u64) {
         self.number(label, number);
         self.end();
     }
 
-    /// Adds a line of text with a dataset after it: its name and its octets.
+    /// Appends a line with a label and a dataset: its name and its octets.
     pub fn field_line(&mut self, label: &str, rec: u8, set: u8, octets: &[u8]) {
         self.dataset(label, rec, set);
         self.each(&[octets]);
         self.end();
     }
 
-    /// Adds a line that a format writes.
+    /// Appends a line with a displayed value.
     pub fn tell<T: Display>(&mut self, line: &T) {
         self.put("  ");
         self.show(line);
         self.end();
     }
 
-    /// Adds a line: a value, or `none`.
+    /// Appends a line with a value, or `none`.
     pub fn found<T: Display + Drop>(&mut self, found: Option<T>) {
         match found {
             Some(value) => self.tell(&value),
@@ -213,12 +214,12 @@ impl Answers {
         }
     }
 
-    /// Adds a line: whether something holds.
+    /// Appends a line: `yes` if something holds, otherwise `no`.
     pub fn truth(&mut self, holds: bool) {
         self.line(if holds { "yes" } else { "no" });
     }
 
-    /// Adds other answers.
+    /// Appends another reply.
     pub fn join(&mut self, others: &Answers) {
         self.add(others.text.as_slice());
         if let Some(fault) = others.fault {

@@ -1,4 +1,5 @@
-//! Answers questions about datasets: tags written, and datasets read in any cut.
+//! Questions about datasets: tags that are written, and datasets that are read in all splits into
+//! chunks.
 
 ghost use Rattle.std.specs.Prelude.{◌≡◌, ◌≢◌, ⊤, Some};
 
@@ -11,17 +12,18 @@ use iim_dataset::{
 };
 use std::alloc::Global;
 
-/// Writes down what it is told, and counts the runs.
+/// A sink that logs what it receives, and counts the slices of data.
 #[derive(Drop)]
 struct Record {
     answers: Answers,
     runs: u64,
-    /// How many datasets are to come, the last one too; None without an end.
+    /// The number of datasets that are still expected, the last one included, or `None` if there
+    /// is no end.
     left: Option<u64>,
     refused: bool,
 }
 
-/// Tells octets of data.
+/// Logs octets of data.
 fn tell_data(answers: &mut Answers, data: &[u8]) {
     for octet in data {
         answers.put(" ");
@@ -71,14 +73,14 @@ impl DatasetSink for Record {
 }
 
 impl Record {
-    /// Ends a line that was begun.
+    /// Ends a partial line.
     fn end_line(&mut self) {
         if self.answers.is_begun() {
             self.answers.end();
         }
     }
 
-    /// Tells which octet is refused and why.
+    /// Logs which octet is rejected, and why.
     fn refuse(&mut self, at: usize, cause: FaultCause) {
         self.refused = true;
         self.end_line();
@@ -88,21 +90,22 @@ impl Record {
         self.answers.end();
     }
 
-    /// Tells how many octets were used.
+    /// Logs the number of octets consumed.
     fn use_up(&mut self, used: usize) {
         self.end_line();
         self.answers.number_line("  used ", used as u64);
     }
 }
 
-/// A reading of datasets, of which the last one may be known by its number.
+/// A reading of datasets. `last` is the number of datasets after which it ends, if there is one.
 #[derive(Drop)]
 struct Datasets {
     alloc: Global,
     last: Option<u64>,
 }
 
-/// Feeds the pieces up to the end of the last dataset, or to a refused octet, and tells how many octets were used.
+/// Feeds the chunks up to the end of the last dataset, or to a rejected octet, and logs the number
+/// of octets consumed.
 fn feed_pieces(reader: &mut HeadReader, record: &mut Record, octets: &[u8], cut: Cut) {
     let mut used = 0;
     for number in 0..Cut::most_pieces(octets) {
@@ -122,7 +125,7 @@ fn feed_pieces(reader: &mut HeadReader, record: &mut Record, octets: &[u8], cut:
     }
 }
 
-/// Tells the number of the dataset that is begun.
+/// Prints the number of the dataset in progress.
 fn tell_named(answers: &mut Answers, reader: &HeadReader) {
     let (rec, set) = reader.named();
     answers.dataset("  named ", rec, set);
@@ -130,7 +133,7 @@ fn tell_named(answers: &mut Answers, reader: &HeadReader) {
 }
 
 impl Datasets {
-    /// Reads the octets in these pieces.
+    /// Reads the octets in these chunks.
     fn record(&self, octets: &[u8], cut: Cut) -> Record {
         let mut reader = HeadReader::new();
         let mut record = Record {
@@ -144,7 +147,8 @@ impl Datasets {
         record
     }
 
-    /// Tells what the octets are read as, and how many runs of data there are in one piece.
+    /// Prints the datasets that the octets encode, and the number of slices of data if they are
+    /// read in one chunk.
     fn tell(&self, answers: &mut Answers, octets: &[u8]) {
         tell_reading(answers, self, octets);
         answers.number_line("  runs ", self.record(octets, Cut::Whole).runs);
@@ -157,7 +161,7 @@ impl Reading for Datasets {
     }
 }
 
-/// The octets that may follow some others in datasets.
+/// The octets that may follow others in datasets.
 #[derive(Drop)]
 struct Next<'o> {
     alloc: Global,
@@ -181,7 +185,7 @@ impl Class for Next<'_> {
     }
 }
 
-/// Tells where a reader stands.
+/// Prints the state of a reader.
 fn tell_place(answers: &mut Answers, reader: &HeadReader) {
     match reader.place() {
         None => answers.put("  failed"),
@@ -198,7 +202,7 @@ fn tell_place(answers: &mut Answers, reader: &HeadReader) {
     tell_named(answers, reader);
 }
 
-/// Tells where a reader stands that is put at a place, or `none`.
+/// Prints the state of a reader that is created in a state, or `none`.
 fn tell_put(answers: &mut Answers, place: DatasetPlace) {
     match HeadReader::at(place) {
         Some(reader) => tell_place(answers, &reader),
@@ -206,7 +210,7 @@ fn tell_put(answers: &mut Answers, place: DatasetPlace) {
     }
 }
 
-/// The head that the next three words tell.
+/// Parses a head from the next three words.
 fn head_of(words: &mut Words) -> Head {
     let rec = words.octet();
     let set = words.octet();
@@ -214,12 +218,12 @@ fn head_of(words: &mut Words) -> Head {
     Head { rec, set, count }
 }
 
-/// Tells the canonical tag of a head.
+/// Prints the canonical tag of a head.
 fn tell_tag(answers: &mut Answers, head: Head) {
     answers.octets_line("  ", head_bytes(head).as_slice());
 }
 
-/// Tells where a reader stands that holds these octets of a tag, or `none`.
+/// Prints the state of a reader with these pending octets of a tag, or `none`.
 fn tell_held(answers: &mut Answers, words: &mut Words, octets: &[u8]) {
     let mut held = ArrayVec::new();
     if held.try_extend_from_slice(octets).is_err() {
@@ -228,7 +232,7 @@ fn tell_held(answers: &mut Answers, words: &mut Words, octets: &[u8]) {
     tell_put(answers, DatasetPlace::Tag(held));
 }
 
-/// Answers the words of datasets; false where the word is none of them.
+/// Replies to a question about datasets. Returns false if the word is not one of them.
 pub(crate) fn answer(
     answers: &mut Answers,
     alloc: Global,

@@ -1,7 +1,9 @@
-//! Questions about octets and their answers, and those of the layers below the unpacker: tables, datasets, objects, stories and messages.
+//! Replies to questions about octets for the layers below the unpacker: tables, datasets, objects,
+//! stories and messages.
 //!
-//! Stands on `wire_message`, `wire_story`, `iim_object`, `iim_tables`, `iim_dataset` and `arrayvec`. `docs/VECTORS.md` says how
-//! questions and answers are written. The program `vectors` reads and answers its own by these.
+//! Depends on `wire_message`, `wire_story`, `iim_object`, `iim_tables`, `iim_dataset` and
+//! `arrayvec`. `docs/VECTORS.md` defines the form of questions and replies. The program `vectors`
+//! parses its questions and writes its replies with this crate, too.
 #![tactic(auto)]
 
 mod answers;
@@ -20,7 +22,8 @@ pub use octets::{MOST_ARGUMENTS, Names, Words, number_of};
 use std::alloc::Global;
 pub use stories::tell_lines;
 
-/// Answers the words of the layers below whole envelopes; false where the word is none of them.
+/// Replies to a question about the layers below complete envelopes. Returns false if the word is
+/// not one of them.
 pub fn answer(
     answers: &mut Answers,
     alloc: Global,

@@ -1,4 +1,4 @@
-//! Answers questions about messages: read in any cut, and written.
+//! Questions about messages, which are read in all splits into chunks, and written.
 
 use crate::answers::Answers;
 use crate::octets::{Names, Words};
@@ -12,7 +12,7 @@ use wire_message::{
 };
 use wire_story::{Discard, Lines, StorySink};
 
-/// Feeds a piece, and answers which octet of it is refused and why.
+/// Feeds a chunk. Returns which octet of it is rejected, and why.
 fn feed<S: StorySink>(
     reader: &mut MessageReader,
     piece: &[u8],
@@ -24,7 +24,7 @@ fn feed<S: StorySink>(
     reader.feed(piece, sink).err()
 }
 
-/// Makes a reader again of its place, and answers whether octets lead there.
+/// Replaces a reader by one in its state. Returns whether octets reach that state.
 fn put_back(reader: &mut MessageReader) -> bool {
     if reader.is_failed() {
         return true;
@@ -38,7 +38,8 @@ fn put_back(reader: &mut MessageReader) -> bool {
     }
 }
 
-/// Feeds the pieces, up to a refused octet: which it is and why. The reader is put back at its place before each piece.
+/// Feeds the chunks, up to a rejected octet. Returns which one it is, and why. The reader is
+/// replaced by one in its state before each chunk.
 fn feed_pieces<S: StorySink>(
     reader: &mut MessageReader,
     octets: &[u8],
@@ -61,7 +62,7 @@ fn feed_pieces<S: StorySink>(
     None
 }
 
-/// Takes the end of an object of so many octets, and answers why it is refused.
+/// Closes an object of `len` octets. Returns why it is rejected.
 fn close(reader: &mut MessageReader, len: usize) -> Option<MessageFault> {
     if reader.is_failed() {
         return None;
@@ -75,7 +76,7 @@ fn close(reader: &mut MessageReader, len: usize) -> Option<MessageFault> {
     }
 }
 
-/// The parts of a header, in the order sent.
+/// Returns the parts of a header, in the order sent.
 fn header_parts(head: &MessageHead) -> [&[u8]; 6] {
     [
         head.source(),
@@ -87,7 +88,7 @@ fn header_parts(head: &MessageHead) -> [&[u8]; 6] {
     ]
 }
 
-/// Writes the parts of a header, after a word.
+/// Prints a word and the parts of a header.
 pub fn tell_header(text: &mut Answers, word: &str, head: &MessageHead) {
     text.put("  ");
     text.put(word);
@@ -95,7 +96,7 @@ pub fn tell_header(text: &mut Answers, word: &str, head: &MessageHead) {
     text.end();
 }
 
-/// Writes the header and the trailer of a reader, as far as they have come.
+/// Prints the header and the trailer of a reader, as far as they were received.
 fn tell_reader(text: &mut Answers, reader: &MessageReader) {
     match reader.head() {
         Some(head) => tell_header(text, "header", head),
@@ -104,7 +105,7 @@ fn tell_reader(text: &mut Answers, reader: &MessageReader) {
     text.octets_line("  trailer ", reader.trailer());
 }
 
-/// Ends a line with which octet is refused and why.
+/// Ends a line with the rejected octet and the cause.
 fn tell_refused(text: &mut Answers, fault: MessageFault) {
     text.number(" refused at ", fault.taken as u64);
     text.put(" ");
@@ -112,7 +113,7 @@ fn tell_refused(text: &mut Answers, fault: MessageFault) {
     text.end();
 }
 
-/// Writes which octet is refused and why.
+/// Prints the rejected octet and the cause.
 fn tell_fault(text: &mut Answers, fault: MessageFault, reader: &MessageReader) {
     text.put(" ");
     tell_refused(text, fault);
@@ -142,7 +143,8 @@ impl Reading for Objects {
     }
 }
 
-/// Writes a place: its part, its counter and its flag, and the texts of its header and trailer so far.
+/// Prints a state: its part, its counter and its flag, and the texts of its header and trailer so
+/// far.
 fn tell_place(text: &mut Answers, place: &MessagePlace) {
     text.put("  ");
     text.name(&place.part);
@@ -161,7 +163,7 @@ fn tell_place(text: &mut Answers, place: &MessagePlace) {
     text.end();
 }
 
-/// Writes where a reader stands, and how many octets lead there.
+/// Prints the state of a reader, and the number of octets that reach it.
 fn tell_stand(text: &mut Answers, reader: &MessageReader) {
     if reader.is_failed() {
         text.line("failed");
@@ -172,7 +174,7 @@ fn tell_stand(text: &mut Answers, reader: &MessageReader) {
     tell_lengths(text, least, greatest);
 }
 
-/// Writes how many octets lead to a place, at least and at most.
+/// Prints the least and the greatest number of octets that reach a state.
 fn tell_lengths(text: &mut Answers, least: u64, greatest: Option<u64>) {
     text.number("  after ", least);
     if let Some(greatest) = greatest {
@@ -202,7 +204,7 @@ impl Reading for Begun {
     }
 }
 
-/// The part of a header of this name.
+/// Returns the part of a header with this name.
 fn place_in_header(word: &str) -> Option<MessagePart> {
     Some(match word {
         "Number" => MessagePart::Number,
@@ -215,7 +217,7 @@ fn place_in_header(word: &str) -> Option<MessagePart> {
     })
 }
 
-/// The part of this name.
+/// Returns the part with this name.
 fn part_of(word: &str) -> Option<MessagePart> {
     Some(match word {
         "Filler" => MessagePart::Filler,
@@ -228,7 +230,7 @@ fn part_of(word: &str) -> Option<MessagePart> {
     })
 }
 
-/// The next word, octets that a place can have.
+/// Parses the octets of a state from the next word.
 fn saved(names: &Names, words: &mut Words) -> ArrayVec<u8, 64> {
     let octets = words.octets(names);
     let mut kept = ArrayVec::new();
@@ -238,7 +240,7 @@ fn saved(names: &Names, words: &mut Words) -> ArrayVec<u8, 64> {
     kept
 }
 
-/// The place that the next words tell.
+/// Parses a state from the next words.
 fn place_of(names: &Names, words: &mut Words) -> MessagePlace {
     let part = part_of(words.text());
     if part.is_none() {
@@ -258,7 +260,7 @@ fn place_of(names: &Names, words: &mut Words) -> MessagePlace {
     }
 }
 
-/// Prints where a reader stands that is put at a place, or `none`.
+/// Prints the state of a reader that is created in a state, or `none`.
 fn print_put(out: &mut Answers, place: MessagePlace) {
     let Some(reader) = MessageReader::at(place) else {
         out.line("none");
@@ -267,14 +269,14 @@ fn print_put(out: &mut Answers, place: MessagePlace) {
     tell_stand(out, &reader);
 }
 
-/// Reads an object in one piece, and answers which octet is refused and why.
+/// Reads an object in one chunk. Returns which octet is rejected, and why.
 fn read_whole(octets: &[u8]) -> Option<MessageFault> {
     let mut reader = MessageReader::new();
     let refused = feed(&mut reader, octets, &mut Discard);
     refused.or(close(&mut reader, octets.len()))
 }
 
-/// Reads an object octet by octet, and answers which one is refused and why.
+/// Reads an object octet by octet. Returns which one is rejected, and why.
 fn read_each(octets: &[u8]) -> Option<MessageFault> {
     let mut reader = MessageReader::new();
     let mut at = 0usize;
@@ -288,7 +290,7 @@ fn read_each(octets: &[u8]) -> Option<MessageFault> {
     close(&mut reader, octets.len())
 }
 
-/// An octet between others; None where memory was refused.
+/// Returns an octet between others, or `None` if an allocation failed.
 fn joined(alloc: Global, front: &[u8], octet: u8, back: &[u8]) -> Option<Vec<u8>> {
     let mut octets = Vec::new(alloc);
     octets.extend_from_slice(front).ok()?;
@@ -297,7 +299,7 @@ fn joined(alloc: Global, front: &[u8], octet: u8, back: &[u8]) -> Option<Vec<u8>
     Some(octets)
 }
 
-/// Prints the octets from first to last, and what each of them makes of the octets around it.
+/// Prints a range of octets with their common result between the octets around them.
 fn print_run(out: &mut Answers, first: u8, last: u8, fault: Option<MessageFault>) {
     out.put("  ");
     out.digits(first);
@@ -311,7 +313,8 @@ fn print_run(out: &mut Answers, first: u8, last: u8, fault: Option<MessageFault>
     }
 }
 
-/// What an octet between others makes of them, in one piece. Prints where it differs octet by octet.
+/// Returns the result for an octet between others, in one chunk. Prints it if it differs octet by
+/// octet.
 fn read_between(
     out: &mut Answers,
     alloc: Global,
@@ -332,7 +335,7 @@ fn read_between(
     here
 }
 
-/// Prints what each octet between others makes of them, in one piece and octet by octet.
+/// Prints the result for each octet between others, in one chunk and octet by octet.
 fn print_between(out: &mut Answers, alloc: Global, front: &[u8], back: &[u8]) {
     let mut first = 0;
     let mut before = read_between(out, alloc, front, 0, back);
@@ -347,14 +350,14 @@ fn print_between(out: &mut Answers, alloc: Global, front: &[u8], back: &[u8]) {
     print_run(out, first, 255, before)
 }
 
-/// Prints what each octet between those of the next two words makes of them.
+/// Prints the result for each octet between those of the next two words.
 fn print_next_between(out: &mut Answers, alloc: Global, names: &Names, words: &mut Words) {
     let front = words.octets(names);
     let back = words.octets(names);
     print_between(out, alloc, front.as_slice(), back.as_slice())
 }
 
-/// Parts of a message, each with an octet of its own.
+/// The parts of a message that can have one octet.
 #[derive(Clone, Copy)]
 enum Part {
     Source,
@@ -385,7 +388,7 @@ impl Class for Part {
     }
 }
 
-/// The part of a header of this name, or the trailer.
+/// Returns the part of a header with this name, or the trailer.
 fn header_part_of(word: &str) -> Option<Part> {
     Some(match word {
         "source" => Part::Source,
@@ -399,7 +402,7 @@ fn header_part_of(word: &str) -> Option<Part> {
     })
 }
 
-/// Prints the octets of a header of the parts that the next words tell, or `none`.
+/// Prints the octets of a header with the parts in the next words, or `none`.
 fn print_header(out: &mut Answers, names: &Names, words: &mut Words) {
     let source = words.octets(names);
     let number = words.octets(names);
@@ -425,7 +428,7 @@ fn print_tail(out: &mut Answers, trailer: &[u8]) {
     }
 }
 
-/// Prints the octets that alone are the part that the next word names.
+/// Prints which single octets are valid for the part that the next word names.
 fn print_part(out: &mut Answers, words: &mut Words) {
     match header_part_of(words.text()) {
         Some(part) => tell_class(out, &part, 255, Digits::Octets),
@@ -433,7 +436,7 @@ fn print_part(out: &mut Answers, words: &mut Words) {
     }
 }
 
-/// Answers the words of messages; false where the word is none of them.
+/// Replies to a question about messages. Returns false if the word is not one of them.
 pub(crate) fn answer(
     out: &mut Answers,
     alloc: Global,

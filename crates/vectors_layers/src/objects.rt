@@ -1,4 +1,4 @@
-//! Answers questions about objects: read token by token, planned and written.
+//! Questions about objects, which are read token by token, planned and written.
 
 ghost use Rattle.std.specs.Prelude.{⊤};
 
@@ -11,7 +11,7 @@ use iim_object::{
 };
 use std::alloc::Global;
 
-/// Collects the octets of an object.
+/// A sink that collects the octets of an object.
 #[derive(Drop)]
 struct Joined {
     octets: Vec<u8>,
@@ -47,7 +47,7 @@ impl ObjectSink for Joined {
     }
 }
 
-/// The number in record 7 that a word names.
+/// Returns the number in record 7 that a word names.
 fn set_of(word: &str) -> Option<u8> {
     match word {
         "7:10" => Some(10),
@@ -58,7 +58,7 @@ fn set_of(word: &str) -> Option<u8> {
     }
 }
 
-/// Takes the number of record 7 that a word names and the next one tells.
+/// Passes a number of record 7: a word names it, and the next one has its value.
 fn take_number(
     reader: &mut ObjectReader,
     word: &str,
@@ -77,7 +77,7 @@ fn take_number(
     }
 }
 
-/// Takes the token that a word and the next one tell.
+/// Passes the token in a word and the next one.
 fn take(
     reader: &mut ObjectReader,
     sink: &mut Joined,
@@ -98,7 +98,7 @@ fn take(
     }
 }
 
-/// Prints what a reader of objects has.
+/// Prints the state of a reader of objects.
 fn print_numbers(out: &mut Answers, reader: &ObjectReader) {
     if reader.is_failed() {
         out.line("failed");
@@ -112,7 +112,7 @@ fn print_numbers(out: &mut Answers, reader: &ObjectReader) {
     out.number_line(", total ", reader.total());
 }
 
-/// Prints what records 7 to 9 say of a whole object.
+/// Prints the sizes of a complete object, from records 7 to 9.
 pub fn print_sizes(out: &mut Answers, sizes: &Sizes) {
     out.holds("  sizes known ", sizes.known);
     out.number(" subfile ", sizes.subfile);
@@ -122,7 +122,7 @@ pub fn print_sizes(out: &mut Answers, sizes: &Sizes) {
     out.number_line(" total ", sizes.total);
 }
 
-/// Prints the octets of an object, where some came.
+/// Prints the octets of an object, if it is non-empty.
 fn print_joined(out: &mut Answers, sink: &Joined) {
     if sink.octets.is_empty() {
         return;
@@ -132,7 +132,7 @@ fn print_joined(out: &mut Answers, sink: &Joined) {
     out.put(if sink.ended { ", ended\n" } else { "\n" });
 }
 
-/// Prints why a token is refused, after so many.
+/// Prints why a token is rejected, after `taken` tokens.
 fn print_refused(out: &mut Answers, taken: u64, cause: SizeCause) {
     out.number("  refused after ", taken);
     out.put(": ");
@@ -140,7 +140,7 @@ fn print_refused(out: &mut Answers, taken: u64, cause: SizeCause) {
     out.end();
 }
 
-/// Prints the fault of a token, after so many. The sink stops where memory is refused alone.
+/// Prints the error of a token, after `taken` tokens. The sink stops only if an allocation fails.
 fn print_fault(out: &mut Answers, taken: u64, fault: ObjectFault) {
     match fault {
         ObjectFault::Size { cause } => print_refused(out, taken, cause),
@@ -148,7 +148,8 @@ fn print_fault(out: &mut Answers, taken: u64, fault: ObjectFault) {
     }
 }
 
-/// Reads tokens up to the first refusal, which is printed. Answers whether the last was the number of 9:10.
+/// Reads tokens up to the first refusal, and prints that. Returns whether the last token was the
+/// number of 9:10.
 fn read_tokens(
     out: &mut Answers,
     names: &Names,
@@ -171,7 +172,7 @@ fn read_tokens(
     is_confirmed
 }
 
-/// Reads tokens, and prints the first refusal and what the reader has.
+/// Reads tokens, and prints the first refusal and the state of the reader.
 fn print_tokens(
     out: &mut Answers,
     alloc: Global,
@@ -191,8 +192,9 @@ fn print_tokens(
     print_joined(out, &sink)
 }
 
-/// The reader at the place that the next words tell: the numbers of 7:10, 7:20, 7:90 and 7:95, the octets that have come, the
-/// count of a begun subfile and its octets to come, and how many subfiles there are. None where no tokens lead there.
+/// Parses the state of a reader from the next words: the numbers of 7:10, 7:20, 7:90 and 7:95, the
+/// octets received, the count of a partial subfile and its remaining octets, and the number of
+/// subfiles. Returns `None` if no tokens reach it.
 fn reader_at(words: &mut Words) -> Option<ObjectReader> {
     let mode = words.number_or_none();
     let subfile = words.number_or_none();
@@ -210,7 +212,7 @@ fn reader_at(words: &mut Words) -> Option<ObjectReader> {
     ObjectReader::at(numbers, taken, begun, heads)
 }
 
-/// Reads tokens from the place that the next words tell on.
+/// Reads tokens from the state in the next words on.
 fn print_tokens_at(out: &mut Answers, alloc: Global, names: &Names, words: &mut Words) {
     match reader_at(words) {
         Some(reader) => print_tokens(out, alloc, names, words, reader),
@@ -218,7 +220,7 @@ fn print_tokens_at(out: &mut Answers, alloc: Global, names: &Names, words: &mut 
     }
 }
 
-/// The size of a plan that the next two words tell.
+/// Parses the size of a plan from the next two words.
 fn size_of(words: &mut Words) -> Size {
     let word = words.text();
     let number = words.number_or_none();
@@ -232,13 +234,13 @@ fn size_of(words: &mut Words) -> Size {
     }
 }
 
-/// The plan that the next three words tell.
+/// Parses a plan from the next three words.
 fn plan_of(words: &mut Words) -> Option<Plan> {
     let subfile = words.number();
     Plan::new(subfile, size_of(words))
 }
 
-/// Prints the bound of the plan that the next words tell, or that it is none.
+/// Prints the bound of the plan in the next words, or that it is invalid.
 fn print_plan(out: &mut Answers, words: &mut Words) {
     match plan_of(words) {
         Some(plan) => out.tell(&plan.bound()),
@@ -249,13 +251,13 @@ fn print_plan(out: &mut Answers, words: &mut Words) {
 /// A writer of an object into memory.
 type MemoryWriter = SubfileWriter<FromWrite<Vec<u8>>>;
 
-/// A writer that has written nothing; None where memory was refused.
+/// Creates a writer, or returns `None` if an allocation failed.
 fn writer_of(alloc: Global, plan: Plan) -> Option<MemoryWriter> {
     let buffer = SubfileBuffer::reserve(alloc, plan).ok()?;
     SubfileWriter::start(buffer, FromWrite::new(Vec::new(alloc))).ok()
 }
 
-/// Writes why a piece that stands after so many octets is refused.
+/// Prints why the chunk after `at` octets is rejected.
 fn tell_unwritten(text: &mut Answers, at: usize, cause: PackCause, is_same: bool) {
     text.number("  after ", at as u64);
     text.put(": ");
@@ -263,7 +265,8 @@ fn tell_unwritten(text: &mut Answers, at: usize, cause: PackCause, is_same: bool
     tell_unchanged(text, is_same);
 }
 
-/// Hands over a piece that stands after so many octets, after an empty one. Answers whether it was taken, and else writes why not.
+/// Writes the chunk after `at` octets, with an empty one before it. Returns whether it was
+/// accepted, and otherwise prints why not.
 fn write_piece(text: &mut Answers, writer: &mut MemoryWriter, at: usize, piece: &[u8]) -> bool {
     let before = writer.written();
     if writer.write(&[]).is_err() {
@@ -278,7 +281,7 @@ fn write_piece(text: &mut Answers, writer: &mut MemoryWriter, at: usize, piece: 
     }
 }
 
-/// Hands over an object, so many octets at a time, up to what refuses it.
+/// Writes an object in chunks of `cut` octets, up to a refusal.
 fn write_pieces(text: &mut Answers, writer: &mut MemoryWriter, object: &[u8], cut: usize) {
     let mut at = 0usize;
     for piece in object.chunks(cut.max(1)) {
@@ -289,7 +292,7 @@ fn write_pieces(text: &mut Answers, writer: &mut MemoryWriter, object: &[u8], cu
     }
 }
 
-/// Writes an object by a plan, of which so many octets are handed over at a time, or what refuses it.
+/// Writes an object by a plan in chunks of `cut` octets. Returns the octets or the refusal.
 fn written(alloc: Global, plan: Plan, object: &[u8], cut: usize) -> Answers {
     let mut text = Answers::new(alloc);
     match writer_of(alloc, plan) {
@@ -302,13 +305,13 @@ fn written(alloc: Global, plan: Plan, object: &[u8], cut: usize) -> Answers {
     text
 }
 
-/// Ends a line with whether what was refused has changed nothing.
+/// Ends a line with whether a rejected call changed nothing.
 fn tell_unchanged(text: &mut Answers, is_same: bool) {
     text.holds(", unchanged ", is_same);
     text.end();
 }
 
-/// Writes the octets of a whole object.
+/// Prints the octets of a complete object.
 fn tell_whole(text: &mut Answers, octets: &[u8], total: u64) {
     text.put("  ");
     text.octets(octets);
@@ -317,7 +320,7 @@ fn tell_whole(text: &mut Answers, octets: &[u8], total: u64) {
     text.put(" octets\n");
 }
 
-/// Writes what refuses the end of an object that had so many octets.
+/// Prints why the end of an object of `total` octets is rejected.
 fn tell_unended(text: &mut Answers, writer: &MemoryWriter, cause: PackCause, total: u64) {
     text.put("  end: ");
     text.show(&cause);
@@ -325,7 +328,7 @@ fn tell_unended(text: &mut Answers, writer: &MemoryWriter, cause: PackCause, tot
     tell_unchanged(text, writer.total() == total);
 }
 
-/// Ends an object, and writes its octets, or what refuses the end.
+/// Ends an object, and prints its octets, or why the end is rejected.
 fn tell_end(text: &mut Answers, writer: MemoryWriter) {
     let total = writer.total();
     match writer.finish() {
@@ -334,7 +337,8 @@ fn tell_end(text: &mut Answers, writer: MemoryWriter) {
     }
 }
 
-/// Prints what is written of an object at once, and what is where it is handed over in pieces, if that differs.
+/// Prints the octets of an object that is written at once, and those of the same object in chunks,
+/// if they differ.
 fn print_written(out: &mut Answers, alloc: Global, plan: Plan, object: &[u8]) {
     let whole = written(alloc, plan, object, usize::MAX);
     out.join(&whole);
@@ -347,7 +351,7 @@ fn print_written(out: &mut Answers, alloc: Global, plan: Plan, object: &[u8]) {
     }
 }
 
-/// Prints what is written by the plan and of the object that the next words tell.
+/// Prints the octets that are written for the plan and the object in the next words.
 fn print_subfiles(out: &mut Answers, alloc: Global, names: &Names, words: &mut Words) {
     let plan = plan_of(words);
     let object = words.octets(names);
@@ -392,7 +396,7 @@ fn print_pack_causes(out: &mut Answers) {
     }
 }
 
-/// Answers the words of objects; false where the word is none of them.
+/// Replies to a question about objects. Returns false if the word is not one of them.
 pub(crate) fn answer(
     out: &mut Answers,
     alloc: Global,

@@ -1,14 +1,14 @@
-//! The words of a question, and octets as they are written there.
+//! Parses the words of a question, and the octets in them.
 
 use std::alloc::Global;
 
-/// The most octets that a question may have repeated.
+/// The largest number of octets that a question may repeat.
 const MOST: u64 = 1_000_000;
 
-/// The most arguments of a question that may have any number of them.
+/// The largest number of arguments of a question that takes any number of them.
 pub const MOST_ARGUMENTS: u32 = 1_000;
 
-/// The value of a hexadecimal digit of upper case.
+/// Returns the value of a hexadecimal digit in upper case.
 fn digit(octet: u8) -> Option<u8> {
     match octet {
         b'0'..=b'9' => octet.checked_sub(b'0'),
@@ -17,7 +17,7 @@ fn digit(octet: u8) -> Option<u8> {
     }
 }
 
-/// The decimal number that octets spell.
+/// Parses a decimal number.
 pub fn number_of(digits: &[u8]) -> Option<u64> {
     if digits.is_empty() {
         return None;
@@ -33,7 +33,7 @@ pub fn number_of(digits: &[u8]) -> Option<u64> {
     Some(number)
 }
 
-/// The octets before a place, and those from it on.
+/// Splits octets at an index.
 fn parted(octets: &[u8], at: usize) -> (&[u8], &[u8]) {
     (
         octets.get(..at).unwrap_or(octets),
@@ -41,7 +41,7 @@ fn parted(octets: &[u8], at: usize) -> (&[u8], &[u8]) {
     )
 }
 
-/// How many octets there are before the first `end`.
+/// Returns the number of octets before the first `end`.
 fn len_before(octets: &[u8], end: u8) -> usize {
     let mut len = 0usize;
     for octet in octets {
@@ -53,7 +53,7 @@ fn len_before(octets: &[u8], end: u8) -> usize {
     len
 }
 
-/// The octets before the first `end`, and those after it; None where there is none.
+/// Splits octets at the first `end`, which is dropped. Returns `None` if there is no such octet.
 fn cut_at(octets: &[u8], end: u8) -> Option<(&[u8], &[u8])> {
     match parted(octets, len_before(octets, end)) {
         (before, [_, after @ ..]) => Some((before, after)),
@@ -61,12 +61,12 @@ fn cut_at(octets: &[u8], end: u8) -> Option<(&[u8], &[u8])> {
     }
 }
 
-/// Whether a name can have an octet.
+/// Checks whether a name may have an octet.
 fn is_in_name(octet: u8) -> bool {
     octet == b'_' || octet.is_ascii_lowercase()
 }
 
-/// How many octets there are before the first that a name can't have.
+/// Returns the number of octets before the first that a name may not have.
 fn name_len(octets: &[u8]) -> usize {
     let mut len = 0usize;
     for octet in octets {
@@ -78,7 +78,7 @@ fn name_len(octets: &[u8]) -> usize {
     len
 }
 
-/// How many octets there are before the first that is no decimal digit.
+/// Returns the number of octets before the first that is not a decimal digit.
 fn digits_len(octets: &[u8]) -> usize {
     let mut len = 0usize;
     for octet in octets {
@@ -90,14 +90,15 @@ fn digits_len(octets: &[u8]) -> usize {
     len
 }
 
-/// The words of a question that have not been read. A word that has not its form is taken for nothing, and told at the end.
+/// The words of a question that were not read yet. An invalid word is replaced by a default, and
+/// the error is reported at the end.
 #[derive(Clone, Copy)]
 pub struct Words<'q> {
     rest: &'q [u8],
     is_wrong: bool,
 }
 
-/// How many octets the first word has: up to a space outside of quotes.
+/// Returns the length of the first word, which ends at a space outside quotes.
 fn word_len(octets: &[u8]) -> usize {
     let mut is_quoted = false;
     let mut len = 0usize;
@@ -114,7 +115,7 @@ fn word_len(octets: &[u8]) -> usize {
 }
 
 impl<'q> Words<'q> {
-    /// All words of a question.
+    /// Creates the reader of a question's words.
     pub fn new(question: &'q [u8]) -> Words<'q> {
         Words {
             rest: question,
@@ -122,7 +123,7 @@ impl<'q> Words<'q> {
         }
     }
 
-    /// The next word.
+    /// Returns the next word.
     pub fn word(&mut self) -> &'q [u8] {
         let (word, rest) = parted(self.rest, word_len(self.rest));
         self.is_wrong |= word.is_empty();
@@ -130,7 +131,7 @@ impl<'q> Words<'q> {
         word
     }
 
-    /// The next word, as text.
+    /// Returns the next word, as text.
     pub fn text(&mut self) -> &'q str {
         match str::from_utf8(self.word()) {
             Ok(text) => text,
@@ -141,24 +142,24 @@ impl<'q> Words<'q> {
         }
     }
 
-    /// Whether there are words left.
+    /// Checks whether there are more words.
     pub fn has_more(&self) -> bool {
         !self.rest.is_empty()
     }
 
-    /// That a word had not its form.
+    /// Reports that a word is invalid.
     pub fn refuse(&mut self) {
         self.is_wrong = true;
     }
 
-    /// The next word, a decimal number.
+    /// Parses the next word as a decimal number.
     pub fn number(&mut self) -> u64 {
         let number = number_of(self.word());
         self.is_wrong |= number.is_none();
         number.unwrap_or(0)
     }
 
-    /// The next word, a number of one octet.
+    /// Parses the next word as a number of one octet.
     pub fn octet(&mut self) -> u8 {
         match u8::try_from(self.number()) {
             Ok(octet) => octet,
@@ -169,7 +170,7 @@ impl<'q> Words<'q> {
         }
     }
 
-    /// The next word, a number or `-` for none.
+    /// Parses the next word as a number, or `-` for `None`.
     pub fn number_or_none(&mut self) -> Option<u64> {
         let word = self.word();
         if matches!(word, b"-") {
@@ -180,38 +181,38 @@ impl<'q> Words<'q> {
         number
     }
 
-    /// The next word, two numbers of four octets at most with a stroke between them.
+    /// Parses the next word as two numbers below 2^32 with a slash between them.
     pub fn pair(&mut self) -> (u32, u32) {
         let pair = pair_of(self.word());
         self.is_wrong |= pair.is_none();
         pair.unwrap_or((0, 0))
     }
 
-    /// The next word, octets.
+    /// Parses the next word as octets.
     pub fn octets(&mut self, names: &Names) -> Vec<u8> {
         let octets = names.octets_of(self.word());
         self.is_wrong |= octets.is_none();
         octets.unwrap_or(Vec::new(names.alloc))
     }
 
-    /// Whether each word had its form, and none is left.
+    /// Checks whether all words were valid, and were read.
     pub fn are_right(&self) -> bool {
         !self.is_wrong && self.rest.is_empty()
     }
 }
 
-/// The decimal number of four octets at most that octets spell.
+/// Parses a decimal number below 2^32.
 fn short_number_of(digits: &[u8]) -> Option<u32> {
     u32::try_from(number_of(digits)?).ok()
 }
 
-/// Two numbers with a stroke between them.
+/// Parses two numbers with a slash between them.
 fn pair_of(word: &[u8]) -> Option<(u32, u32)> {
     let (first, second) = cut_at(word, b'/')?;
     Some((short_number_of(first)?, short_number_of(second)?))
 }
 
-/// A name, and the octets that it stands for.
+/// A name, and its octets.
 #[derive(Drop)]
 struct Named {
     name: Vec<u8>,
@@ -226,7 +227,7 @@ pub struct Names {
 }
 
 impl Names {
-    /// No names.
+    /// Creates the value without names.
     pub fn new(alloc: Global) -> Names {
         Names {
             alloc,
@@ -234,7 +235,7 @@ impl Names {
         }
     }
 
-    /// Names octets: the name and the octets are the next words.
+    /// Names octets: the next words are the name and the octets.
     pub fn name(&mut self, words: &mut Words) {
         let word = words.word();
         let octets = words.octets(self);
@@ -247,7 +248,7 @@ impl Names {
         }
     }
 
-    /// What a name stands for: what it was given last.
+    /// Returns the octets that a name was given last.
     fn find(&self, name: &[u8]) -> Option<&[u8]> {
         let mut found = None;
         for named in self.named.as_slice() {
@@ -258,7 +259,7 @@ impl Names {
         found
     }
 
-    /// The octets that a word writes.
+    /// Parses the octets in a word.
     fn octets_of(&self, word: &[u8]) -> Option<Vec<u8>> {
         let mut octets = Vec::new(self.alloc);
         if matches!(word, b"-") {
@@ -275,7 +276,8 @@ impl Names {
         Some(octets)
     }
 
-    /// Adds items as often as the number after them says, and answers what follows.
+    /// Appends items as many times as the number after them. Returns the remaining octets of the
+    /// word.
     fn push_repeated<'w>(&self, octets: &mut Vec<u8>, rest: &'w [u8]) -> Option<&'w [u8]> {
         let Some((items, [b'*', more @ ..])) = cut_at(rest, b')') else {
             return None;
@@ -289,7 +291,7 @@ impl Names {
         Some(more)
     }
 
-    /// Adds items of which none is repeated.
+    /// Appends items without repetition.
     fn push_items(&self, octets: &mut Vec<u8>, items: &[u8]) -> Option<()> {
         let mut rest = items;
         for _ in 0..items.len() {
@@ -301,7 +303,7 @@ impl Names {
         Some(())
     }
 
-    /// Adds the first item, and answers what follows.
+    /// Appends the first item. Returns the remaining octets of the word.
     fn push_item<'w>(&self, octets: &mut Vec<u8>, rest: &'w [u8]) -> Option<&'w [u8]> {
         match rest {
             [b'.', more @ ..] => Some(more),
@@ -315,7 +317,8 @@ impl Names {
         }
     }
 
-    /// Adds octets that have a name, all or those between two places, and answers what follows.
+    /// Appends named octets, all or those between two indices. Returns the remaining octets of the
+    /// word.
     fn push_named<'w>(&self, octets: &mut Vec<u8>, rest: &'w [u8]) -> Option<&'w [u8]> {
         let (name, more) = parted(rest, name_len(rest));
         let named = self.find(name)?;
@@ -329,14 +332,14 @@ impl Names {
     }
 }
 
-/// Adds the octets up to a quote, and answers what follows it.
+/// Appends the octets up to a quote. Returns the octets after it.
 fn push_text<'w>(octets: &mut Vec<u8>, rest: &'w [u8]) -> Option<&'w [u8]> {
     let (text, more) = cut_at(rest, b'"')?;
     octets.extend_from_slice(text).ok()?;
     Some(more)
 }
 
-/// The octets between two places, which are written with a colon between them.
+/// Returns the octets between two indices, which are written with a colon between them.
 fn between<'n>(named: &'n [u8], places: &[u8]) -> Option<&'n [u8]> {
     let (from, to) = cut_at(places, b':')?;
     let from = if from.is_empty() { 0 } else { number_of(from)? };

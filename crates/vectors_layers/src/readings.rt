@@ -1,23 +1,25 @@
-//! Octets cut into pieces, in each way that a reader may be given them, and numbers as ranges.
+//! Splits octets into chunks, in each way that a reader may receive them, and prints numbers as
+//! ranges.
 
 use crate::answers::Answers;
 
-/// The longest octets that are cut in two at each place. Longer ones are cut in the middle.
+/// The greatest length at which octets are split in two at every index. Longer ones are split in
+/// the middle.
 const MOST_CUT: usize = 128;
 
-/// How octets are cut into pieces.
+/// How octets are split into chunks.
 #[derive(Clone, Copy)]
 pub enum Cut {
-    /// In one piece.
+    /// One chunk.
     Whole,
-    /// Octet by octet, with an empty piece before each.
+    /// Octet by octet, with an empty chunk before each.
     Each,
-    /// In two, the first of so many octets.
+    /// Two chunks, the first with this number of octets.
     At(usize),
 }
 
 impl Cut {
-    /// The piece of this number, and how many octets stand before it.
+    /// Returns the chunk with this number, and the number of octets before it.
     pub fn piece(self, octets: &[u8], number: usize) -> Option<(usize, &[u8])> {
         let at = number / 2;
         let (from, to) = match self {
@@ -30,19 +32,19 @@ impl Cut {
         Some((from, octets.get(from..to)?))
     }
 
-    /// The most pieces that octets are cut into.
+    /// Returns the greatest number of chunks that octets are split into.
     pub fn most_pieces(octets: &[u8]) -> usize {
         octets.len().saturating_mul(2).saturating_add(2)
     }
 }
 
-/// A reading of octets, which answers in lines.
+/// A way to read octets, which replies in lines.
 pub trait Reading {
-    /// Reads the octets in these pieces.
+    /// Reads the octets in these chunks.
     fn read(&self, octets: &[u8], cut: Cut) -> Answers;
 }
 
-/// The cut of this number, of those of so many octets but for one piece.
+/// Returns the split with this number, of those of `len` octets into more than one chunk.
 fn other_cut(len: usize, number: usize) -> Option<Cut> {
     match number {
         0 => Some(Cut::Each),
@@ -52,7 +54,7 @@ fn other_cut(len: usize, number: usize) -> Option<Cut> {
     }
 }
 
-/// Tells a cut.
+/// Prints a split.
 fn tell_cut(answers: &mut Answers, cut: Cut) {
     match cut {
         Cut::Whole => answers.line("but whole"),
@@ -64,7 +66,7 @@ fn tell_cut(answers: &mut Answers, cut: Cut) {
     }
 }
 
-/// Tells what the octets are read as in one piece, and what another cut makes of them where that differs.
+/// Prints the reply for the octets in one chunk, and the reply for another split if it differs.
 pub(crate) fn tell_reading<R: Reading>(answers: &mut Answers, reading: &R, octets: &[u8]) {
     let whole = reading.read(octets, Cut::Whole);
     answers.join(&whole);
@@ -80,13 +82,13 @@ pub(crate) fn tell_reading<R: Reading>(answers: &mut Answers, reading: &R, octet
     }
 }
 
-/// Numbers, of which some are in.
+/// A set of numbers.
 pub trait Class {
-    /// Whether the number is in.
+    /// Checks whether the set has the number.
     fn has(&self, number: u64) -> bool;
 }
 
-/// How numbers are written.
+/// How numbers are printed.
 #[derive(Clone, Copy)]
 pub enum Digits {
     /// As octets, in hexadecimal.
@@ -95,7 +97,7 @@ pub enum Digits {
     Decimal,
 }
 
-/// Tells a number.
+/// Prints a number.
 fn tell_digits(answers: &mut Answers, number: u64, digits: Digits) {
     match digits {
         Digits::Octets => {
@@ -106,7 +108,7 @@ fn tell_digits(answers: &mut Answers, number: u64, digits: Digits) {
     }
 }
 
-/// Tells a range of numbers, from first to last.
+/// Prints a range of numbers, from first to last.
 fn tell_range(answers: &mut Answers, first: u64, last: u64, digits: Digits) {
     answers.put(" ");
     tell_digits(answers, first, digits);
@@ -116,7 +118,7 @@ fn tell_range(answers: &mut Answers, first: u64, last: u64, digits: Digits) {
     }
 }
 
-/// Tells the numbers that are in, of those up to the greatest, as ranges in a line.
+/// Prints the numbers of a set, up to the greatest, as ranges in one line.
 pub(crate) fn tell_class<C: Class>(
     answers: &mut Answers,
     class: &C,

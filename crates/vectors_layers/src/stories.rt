@@ -1,4 +1,5 @@
-//! Answers questions about stories: texts read in any cut, their lines and their words.
+//! Questions about stories: texts that are read in all splits into chunks, their lines and their
+//! words.
 
 use crate::answers::Answers;
 use crate::octets::{Names, Words};
@@ -10,7 +11,8 @@ use wire_story::{
     text_len,
 };
 
-/// Reads a text in these pieces, and answers which octet is refused and why. The reader has failed then.
+/// Reads a text in these chunks. Returns which octet is rejected, and why; the reader has failed
+/// then.
 fn read_text<S: StorySink>(
     reader: &mut TextReader,
     octets: &[u8],
@@ -41,7 +43,7 @@ fn read_text<S: StorySink>(
     }
 }
 
-/// Tells which octet is refused and why.
+/// Prints which octet is rejected, and why.
 fn tell_fault(answers: &mut Answers, fault: TextFault, reader: &TextReader) {
     answers.number("  refused at ", fault.taken as u64);
     answers.put(" ");
@@ -52,14 +54,14 @@ fn tell_fault(answers: &mut Answers, fault: TextFault, reader: &TextReader) {
     }
 }
 
-/// Tells the lines.
+/// Prints the lines.
 pub fn tell_lines(answers: &mut Answers, lines: &Lines) {
     for line in lines.iter() {
         answers.octets_line("  line ", line);
     }
 }
 
-/// A reading of a text into lines, and how many octets they have where they are packed.
+/// A reading of a text into lines, and the length of their packed form.
 #[derive(Drop)]
 struct InLines {
     alloc: Global,
@@ -82,7 +84,7 @@ impl Reading for InLines {
     }
 }
 
-/// A reading of a text that is written on, its lines joined by LF.
+/// A reading of a text that is passed to a writer, with its lines joined by LF.
 #[derive(Drop)]
 struct Written {
     alloc: Global,
@@ -122,7 +124,7 @@ impl Reading for Counted {
     }
 }
 
-/// The octets that may stand in a line.
+/// The octets that a line may have.
 #[derive(Drop)]
 struct InLine;
 
@@ -135,7 +137,7 @@ impl Class for InLine {
     }
 }
 
-/// The octets that alone are a text.
+/// The octets that are a text by themselves.
 #[derive(Drop)]
 struct AloneText;
 
@@ -165,7 +167,7 @@ impl Class for Between {
     }
 }
 
-/// Tells how many CR a reader holds.
+/// Prints how many pending CR a reader has.
 fn tell_reader(answers: &mut Answers, reader: &TextReader) {
     if reader.is_failed() {
         answers.line("no");
@@ -174,7 +176,7 @@ fn tell_reader(answers: &mut Answers, reader: &TextReader) {
     answers.number_line("  ", u64::from(reader.held()));
 }
 
-/// Tells how many CR a reader holds that is put after so many, or `none`.
+/// Prints how many pending CR a reader has that is created after `held` of them, or `none`.
 fn tell_held(answers: &mut Answers, held: u8) {
     match TextReader::at(held) {
         None => answers.line("none"),
@@ -182,12 +184,12 @@ fn tell_held(answers: &mut Answers, held: u8) {
     }
 }
 
-/// Tells the octets of a line end.
+/// Prints the octets of a line end.
 fn tell_line_end(answers: &mut Answers) {
     answers.octets_line("  ", &LINE_END);
 }
 
-/// Answers the words of texts; false where the word is none of them.
+/// Replies to a question about texts. Returns false if the word is not one of them.
 pub(crate) fn answer(
     answers: &mut Answers,
     alloc: Global,

@@ -1,4 +1,4 @@
-//! Answers questions about the tables: rows, kinds, numbers, dates and instants.
+//! Questions about the tables: rows, kinds, numbers, dates and instants.
 
 use crate::answers::Answers;
 use crate::octets::{Names, Words};
@@ -9,7 +9,7 @@ use std::alloc::Global;
 /// The greatest number of octets that `lengths` tries.
 const MOST_OCTETS: usize = 10_000;
 
-/// The kind of this name.
+/// Returns the kind with this name.
 fn kind_of(word: &str) -> Option<Kind> {
     Some(match word {
         "Graphic" => Kind::Graphic,
@@ -29,7 +29,7 @@ fn kind_of(word: &str) -> Option<Kind> {
     })
 }
 
-/// The values of one octet that a kind has.
+/// The values of one octet of a kind.
 #[derive(Drop)]
 struct Alone {
     row: Row,
@@ -44,7 +44,7 @@ impl Class for Alone {
     }
 }
 
-/// Prints the octets that alone are a value of the kind that the next word names.
+/// Prints which single octets are values of the kind that the next word names.
 fn print_kind(out: &mut Answers, words: &mut Words) {
     let Some(kind) = kind_of(words.text()) else {
         words.refuse();
@@ -60,7 +60,7 @@ fn print_kind(out: &mut Answers, words: &mut Words) {
     tell_class(out, &Alone { row }, 255, Digits::Octets)
 }
 
-/// How many of some octets a row admits, from the first.
+/// The lengths of values that a row accepts, of repeated octets.
 #[derive(Drop)]
 struct Lengths<'o> {
     row: Row,
@@ -76,7 +76,7 @@ impl Class for Lengths<'_> {
     }
 }
 
-/// Octets over and over; None where memory was refused.
+/// Returns repeated octets, or `None` if an allocation failed.
 fn repeated(alloc: Global, sample: &[u8]) -> Option<Vec<u8>> {
     let mut octets = Vec::new(alloc);
     for at in 0..MOST_OCTETS {
@@ -88,7 +88,7 @@ fn repeated(alloc: Global, sample: &[u8]) -> Option<Vec<u8>> {
     Some(octets)
 }
 
-/// Prints how many octets of a sample, over and over, the row admits.
+/// Prints the lengths that the row accepts of a repeated sample.
 fn print_lengths(out: &mut Answers, alloc: Global, row: Row, sample: &[u8]) {
     let Some(octets) = repeated(alloc, sample) else {
         out.lack_memory();
@@ -101,7 +101,7 @@ fn print_lengths(out: &mut Answers, alloc: Global, row: Row, sample: &[u8]) {
     tell_class(out, &class, MOST_OCTETS as u64, Digits::Decimal)
 }
 
-/// Prints the rows of a record, those in a row that are the same as one.
+/// Prints the rows of a record. Consecutive equal rows are joined.
 fn print_rows(out: &mut Answers, rec: u8) {
     let mut first = 0;
     let mut is_none = true;
@@ -130,7 +130,7 @@ fn print_row(out: &mut Answers, rec: u8, first: u8, last: u8, row: Row) {
     print_admitted(out, row)
 }
 
-/// Ends a line with what a row admits: how many octets, of which kind, and how often.
+/// Ends a line with the properties of a row: the number of octets, the kind, and how often.
 fn print_admitted(out: &mut Answers, row: Row) {
     out.put(" ");
     out.show(&row.min);
@@ -143,7 +143,7 @@ fn print_admitted(out: &mut Answers, row: Row) {
     out.put(if row.repeats { " repeats\n" } else { " once\n" });
 }
 
-/// Prints octets as the libraries show them.
+/// Prints octets as the libraries escape them.
 fn print_shown(out: &mut Answers, octets: &[u8]) {
     out.put("  ");
     out.shown(octets);
@@ -160,16 +160,16 @@ fn print_named(out: &mut Answers, words: &mut Words) {
     }
 }
 
-/// What is asked of the values of a row.
+/// What is asked about the values of a row.
 #[derive(Clone, Copy)]
 enum Asked {
-    /// Whether it admits some octets.
+    /// Whether it accepts these octets.
     Octets,
-    /// How many octets of a sample it admits.
+    /// Which lengths of a repeated sample it accepts.
     Lengths,
 }
 
-/// Prints what is asked of the row that the next two words name.
+/// Prints the reply to a question about the row that the next two words name.
 fn print_of_row(out: &mut Answers, alloc: Global, names: &Names, words: &mut Words, asked: Asked) {
     let rec = words.octet();
     let set = words.octet();
@@ -184,7 +184,8 @@ fn print_of_row(out: &mut Answers, alloc: Global, names: &Names, words: &mut Wor
     }
 }
 
-/// Answers the words of numbers, dates and instants; false where the word is none of them.
+/// Replies to a question about numbers, dates and instants. Returns false if the word is not one
+/// of them.
 fn answer_values(out: &mut Answers, names: &Names, word: &str, words: &mut Words) -> bool {
     match word {
         "number" => out.found(number_of(words.octets(names).as_slice())),
@@ -200,7 +201,7 @@ fn answer_values(out: &mut Answers, names: &Names, word: &str, words: &mut Words
     true
 }
 
-/// Answers the words of the tables; false where the word is none of them.
+/// Replies to a question about the tables. Returns false if the word is not one of them.
 pub(crate) fn answer(
     out: &mut Answers,
     alloc: Global,
