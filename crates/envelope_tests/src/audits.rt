@@ -1,4 +1,4 @@
-//! Reports as callers see them, audits of readers that fail, and the most envelopes.
+//! Tests of reports, of audits whose reader fails, and of the largest number of envelopes.
 
 ghost use Rattle.std.specs.Prelude.{◌<◌};
 
@@ -15,7 +15,7 @@ use std::io::Read;
 use trials::{TrialReader, Trouble as DeviceTrouble};
 use worked::SMALLEST;
 
-/// The smallest envelope, urgent and with a time: 1:60 and 1:80 stand before and after 1:70.
+/// The smallest envelope, urgent and with a time: 1:60 and 1:80 are before and after 1:70.
 const TIMED: &[u8] =
     b"\x1c\x01\x00\x00\x02\x00\x04\x1c\x01\x14\x00\x02\x00\x02\x1c\x01\x16\x00\x02\x00\x01\
 \x1c\x01\x1e\x00\x03TST\x1c\x01\x28\x00\x0800000001\x1c\x01\x3c\x00\x015\x1c\x01\x46\x00\x0820240301\
@@ -23,7 +23,7 @@ const TIMED: &[u8] =
 \x1c\x07\x0a\x00\x01\x01\x1c\x07\x14\x00\x04\x00\x00\x04\x00\x1c\x07\x5a\x00\x04\x00\x00\x00\x0e\
 \x1c\x08\x0a\x00\x0e\x01X1 4 N 0\r\n\x02\x03\x04\x1c\x09\x0a\x00\x04\x00\x00\x00\x0e";
 
-/// Noon on 1 March 2024, in UTC.
+/// Returns noon on 1 March 2024, in UTC.
 fn noon() -> Result<Timestamp, Trouble> {
     match Timestamp::from_second(1_709_294_400) {
         Ok(noon) => Ok(noon),
@@ -31,7 +31,7 @@ fn noon() -> Result<Timestamp, Trouble> {
     }
 }
 
-/// The report of what a reader gives.
+/// Returns the report of a reader's input.
 fn report_of<R: Source + Drop>(
     alloc: Global,
     reader: R,
@@ -40,7 +40,7 @@ fn report_of<R: Source + Drop>(
     audit(alloc, &mut Intake::new(reader), LIMITS, now)
 }
 
-/// How many rows a report has, or the fault.
+/// Returns the number of rows of a report, or the error.
 fn rows_of(answer: Result<Report, AuditFault>) -> Result<usize, AuditFault> {
     match answer {
         Ok(report) => Ok(report.rows().len()),
@@ -48,7 +48,7 @@ fn rows_of(answer: Result<Report, AuditFault>) -> Result<usize, AuditFault> {
     }
 }
 
-/// Expects what is told of the urgent envelope. What is wrong is told by its number.
+/// Checks the row of the urgent envelope. Each check has a number, which the error reports.
 fn expect_row(row: &AuditRow) -> Result<(), Trouble> {
     let id = [row.id.service(), row.id.number(), row.id.date_sent()];
     right_at(1, id == [b"TST".as_slice(), b"00000001", b"20240301"])?;
@@ -60,7 +60,7 @@ fn expect_row(row: &AuditRow) -> Result<(), Trouble> {
     right_at(6, row.copy == CopyState::Free)
 }
 
-/// Expects these rows to be that of the urgent envelope.
+/// Checks that there is one row, that of the urgent envelope.
 fn expect_rows(rows: &[AuditRow]) -> Result<(), Trouble> {
     match rows {
         [row] => expect_row(row),
@@ -75,7 +75,8 @@ fn rows_of_a_report(alloc: Global) -> Result<(), Trouble> {
     }
 }
 
-/// What an audit answers of octets from a reader of one octet a call, with this trouble after `good` calls.
+/// Returns the result of an audit of octets, from a reader of one octet a call that has this
+/// trouble after `good` calls.
 fn troubled(
     alloc: Global,
     octets: &[u8],
@@ -87,7 +88,8 @@ fn troubled(
     rows_of(report_of(alloc, reader, now))
 }
 
-/// Expects a reader of two envelopes that fails to be a fault of the one that it was to give.
+/// Checks that an audit of two envelopes whose reader fails returns the error at the envelope that
+/// was being read.
 fn expect_failures(alloc: Global, octets: &[u8]) -> Result<(), Trouble> {
     let now = noon()?;
     let cause = AuditCause::Read;
@@ -98,7 +100,7 @@ fn expect_failures(alloc: Global, octets: &[u8]) -> Result<(), Trouble> {
     Ok(())
 }
 
-/// Expects a million interruptions in a row to be a fault, and one fewer to be none.
+/// Checks that a million interruptions in a row are an error, and that one fewer are not.
 fn expect_interruptions(alloc: Global, octets: &[u8]) -> Result<(), Trouble> {
     let now = noon()?;
     let fault = AuditFault {
@@ -119,7 +121,7 @@ fn failing_readers(alloc: Global) -> Result<(), Trouble> {
     expect_interruptions(alloc, &octets)
 }
 
-/// Gives an envelope `left` times, each with a number of its own.
+/// Reads an envelope `left` times, with a different number each time.
 #[derive(Drop)]
 struct Again {
     before: &'static [u8],
@@ -128,7 +130,7 @@ struct Again {
 }
 
 impl Again {
-    /// The smallest envelope, `left` times.
+    /// Creates a reader of the smallest envelope, `left` times.
     fn new(left: u32) -> Again {
         Again {
             before: SMALLEST.get(..34).unwrap_or(&[]),
@@ -138,14 +140,14 @@ impl Again {
     }
 }
 
-/// The digit of a number at a place.
+/// Returns the digit of a number with this place value.
 fn digit(number: u32, place: u32) -> u8
     requires { 0 < place }
 {
     b'0' + (number / place % 10) as u8
 }
 
-/// The last eight digits of a number.
+/// Returns the last eight digits of a number.
 fn digits(number: u32) -> [u8; 8] {
     [
         digit(number, 10_000_000),
@@ -188,7 +190,7 @@ fn one_envelope_too_many(alloc: Global) -> Result<(), Trouble> {
     right(answer == Err(fault))
 }
 
-/// Tells the trials of audits.
+/// Runs the tests of audits.
 pub(crate) fn tell(rt: &impl Print, told: &mut Told, alloc: Global) -> io::Result<()> {
     told.trial(rt, "rows_of_a_report", rows_of_a_report(alloc))?;
     told.trial(rt, "failing_readers", failing_readers(alloc))?;

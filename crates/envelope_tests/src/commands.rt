@@ -1,4 +1,5 @@
-//! What the commands leave where devices are interrupted, and where an output takes nothing more.
+//! Tests of the commands with interrupted readers and writers, and with an output that accepts no
+//! octets.
 
 use crate::outcome::{Trouble, right, right_at};
 use crate::told::Told;
@@ -23,16 +24,16 @@ const TEXT: &[u8] = b"Rates stay.\nNo change.\n";
 
 const LINE: &[u8] = b"1 accepted 246 octets\n";
 
-/// The least number of interruptions in a row that is a fault.
+/// The least number of interruptions in a row that is an error.
 const TOO_MANY: u32 = 1_000_000;
 
-/// As many interruptions as are no fault.
+/// The greatest number of interruptions that is not an error.
 const BORNE: DeviceTrouble = DeviceTrouble::Interruptions(TOO_MANY - 1);
 
-/// So many that they are one.
+/// The least number of interruptions that is an error.
 const FAULT: DeviceTrouble = DeviceTrouble::Interruptions(TOO_MANY);
 
-/// What a command answers and writes, and the lines that it tells beside it.
+/// The expected result and output of a command, and the lines that it prints to the errors.
 #[derive(Clone, Copy)]
 struct Want {
     answer: Result<u8, CommandFault>,
@@ -40,7 +41,7 @@ struct Want {
     lines: &'static [u8],
 }
 
-/// Nothing is written, since the input can't be read.
+/// Nothing is written, because a read failed.
 const UNREAD: Want = Want {
     answer: Err(CommandFault::CannotRead),
     octets: b"",
@@ -59,7 +60,7 @@ const TOLD: Want = Want {
     lines: LINE,
 };
 
-/// These octets are written, and then the output can't be written.
+/// Expects these octets to be written before a write fails.
 const fn cut(octets: &'static [u8]) -> Want {
     Want {
         answer: Err(CommandFault::CannotWrite),
@@ -68,12 +69,12 @@ const fn cut(octets: &'static [u8]) -> Want {
     }
 }
 
-/// How many calls of a device are good, and its trouble then.
+/// The number of successful calls of a reader or writer, and its trouble afterwards.
 type Calls = (u64, DeviceTrouble);
 
 const CALM: Calls = (0, DeviceTrouble::Interruptions(0));
 
-/// Whether a command that answers and writes this does as it is to.
+/// Checks whether a command has the expected result and output.
 fn is_met(answer: Result<u8, CommandFault>, output: &[u8], errors: &[u8], want: Want) -> bool {
     answer == want.answer && output == want.octets && errors == want.lines
 }
@@ -82,7 +83,7 @@ fn writer((good, trouble): Calls) -> TrialWriter<256> {
     TrialWriter::new(good, trouble)
 }
 
-/// Whether `check` of the envelope over devices answers and writes this.
+/// Checks whether `check` of the envelope has the expected result and output.
 fn is_checked<const N: usize>(
     alloc: Global,
     input: Calls,
@@ -94,7 +95,7 @@ fn is_checked<const N: usize>(
     is_met(answer, output.octets(), b"", want)
 }
 
-/// What `story` of the envelope answers.
+/// Returns the result of `story` of the envelope.
 fn told(
     alloc: Global,
     output: &mut TrialWriter<256>,
@@ -104,7 +105,7 @@ fn told(
     narrate(alloc, &mut Input::new(reader), output, errors)
 }
 
-/// Whether `story` of the envelope over devices answers and writes this.
+/// Checks whether `story` of the envelope has the expected result and output.
 fn is_told(alloc: Global, output: Calls, errors: Calls, want: Want) -> bool {
     let mut output = writer(output);
     let mut errors = writer(errors);
@@ -112,7 +113,8 @@ fn is_told(alloc: Global, output: Calls, errors: Calls, want: Want) -> bool {
     is_met(answer, output.octets(), errors.octets(), want)
 }
 
-/// What `pack` of the script answers, and how many octets it writes and tells.
+/// Returns the result of `pack` of the script, and the numbers of octets that it writes to the
+/// output and to the errors.
 fn packed(alloc: Global, input: Calls) -> (Result<u8, CommandFault>, usize, usize) {
     let request = PackRequest {
         subfile: 1024,
@@ -125,7 +127,8 @@ fn packed(alloc: Global, input: Calls) -> (Result<u8, CommandFault>, usize, usiz
     (answer, output.octets().len(), errors.octets().len())
 }
 
-/// Whether `check` and `pack` do as they are to with trouble after 50 good reads: `pack` writes so many octets.
+/// Checks whether `check` and `pack` behave as expected with trouble after 50 successful reads.
+/// `octets` is the number of octets that `pack` writes.
 fn reads_past(alloc: Global, trouble: DeviceTrouble, want: Want, octets: usize) -> bool {
     let input = (50, trouble);
     is_checked(alloc, input, writer(CALM), want) && packed(alloc, input) == (want.answer, octets, 0)
@@ -165,7 +168,7 @@ fn a_full_output_takes_nothing(alloc: Global) -> Result<(), Trouble> {
     right(is_checked(alloc, CALM, output, cut(b"1 a")))
 }
 
-/// Tells the trials of commands.
+/// Runs the tests of commands.
 pub(crate) fn tell(rt: &impl Print, told: &mut Told, alloc: Global) -> io::Result<()> {
     let read = reads_past_interruptions(alloc);
     told.trial(rt, "reads_past_interruptions", read)?;

@@ -1,4 +1,5 @@
-//! Faults of the upper layers: each is an error of std, has a number and a name, and is printed.
+//! Tests the errors of the upper layers: each is an error of std, has a number and a name, and is
+//! printed.
 
 use iim_audit::{AuditCause, AuditFault};
 use iim_fields::FieldCause;
@@ -19,7 +20,7 @@ const MISSING: Refusal = Refusal {
     cause: Cause::Field(FieldCause::Missing),
 };
 
-/// Prints a number and a name, and the error that has them.
+/// Prints a number, a name and their error.
 fn print_cause<E: Error>(
     rt: &impl Print,
     number: u8,
@@ -100,7 +101,7 @@ fn print_command_faults(rt: &impl Print) -> io::Result<()> {
     print_error(rt, &PackFault::Around(CommandFault::CannotWrite))
 }
 
-/// Prints each fault.
+/// Prints each error.
 pub(crate) fn tell(rt: &impl Print) -> io::Result<()> {
     print_unpacker_faults(rt)?;
     print_audit_faults(rt)?;

@@ -1,4 +1,4 @@
-//! What the worked envelopes are read and packed with, and a ticket of no place.
+//! Limits, headers and plans for the sample envelopes, and a ticket of an impossible state.
 
 use crate::outcome::Trouble;
 use iim_fields::Limits;
@@ -6,26 +6,26 @@ use iim_object::{Plan, Size};
 use std::alloc::{AllocError, Global};
 use wire_message::MessageHead;
 
-/// Those of the command.
+/// The limits of the command.
 pub const LIMITS: Limits = Limits::WIRE;
 
-/// A ticket of no place: one octet of the object has come, and no subfile.
+/// A ticket of an impossible state: one octet of the object was received, and no subfile.
 pub const IMPOSSIBLE: [u8; 38] = [
     0x49, 0x49, 0x4d, 0x54, 2, 0, 0, 0, 0, 0, 0, 0, 0, 0, 0, 0, 0, 0, 0, 0, 0, 0, 0, 1, 0, 0, 0, 0,
     0, 0, 0, 0, 0, 0, 0, 0, 0, 0,
 ];
 
-/// The longer envelope's header.
+/// Returns the header of the longer sample envelope.
 pub(crate) fn head() -> Result<MessageHead, Trouble> {
     MessageHead::new(b"TST", b"0007", b"4", b"ECO", b"5", b"rates").ok_or(Trouble::Wrong)
 }
 
-/// A size, and subfiles of up to so many octets.
+/// Returns a plan with this size, and with subfiles of up to `subfile` octets.
 pub(crate) fn plan(subfile: u64, size: Size) -> Result<Plan, Trouble> {
     Plan::new(subfile, size).ok_or(Trouble::Wrong)
 }
 
-/// The pieces, joined.
+/// Joins chunks.
 pub(crate) fn joined(alloc: Global, pieces: &[&[u8]]) -> Result<Vec<u8>, AllocError> {
     let mut all = Vec::new(alloc);
     for piece in pieces {

@@ -1,12 +1,13 @@
-//! Tries what takes whole envelopes apart and packs them, by its public calls, and prints what each trial came to.
+//! Tests the public functions that unpack and pack complete envelopes, and prints the results.
 //!
-//! First come the calls that take memory ([`memory`]); with the word `memory` these alone. Then come the unpacker and the audit with
-//! readers that fail and sinks that count, the packer and the commands over devices that fail, what was packed and is unpacked again,
-//! and laws; and last the trials of the layers below (`layer_tests`). The file `stdout` has the lines that are wanted.
+//! The functions that allocate are first ([`memory`]); with the argument `memory` only these are
+//! tested. Then follow the unpacker and the audit with readers that fail and sinks that count, the
+//! packer and the commands with readers and writers that fail, round trips, and lemmas; and last
+//! the tests of the layers below (`layer_tests`). The file `stdout` has the expected lines.
 //!
-//! All stand in one program, since each program that is proved reads first all that it links, and since a test would be proved
-//! twice. What is asked of octets alone stands in `crates/vectors`, and what an operating system can do to the command in
-//! `tests/command`.
+//! All tests are in one program: each proved program first reads all that it links, and a separate
+//! test would be proved twice. Tests of octets alone are in `crates/vectors`, and tests with the
+//! operating system in `tests/command`.
 #![tactic(auto)]
 
 mod audits;
@@ -28,13 +29,13 @@ use std::io::{self, Write};
 use std::process::ExitCode;
 use told::Told;
 
-/// Whether the first word is `memory`. It is read without memory.
+/// Checks whether the first argument is `memory`. Allocates nothing.
 fn asks_for_memory(rt: &impl Env) -> bool {
     let mut word = [0u8; 6];
     matches!(rt.arg(1, &mut word), Ok(6)) && word == *b"memory"
 }
 
-/// Tells all trials.
+/// Runs all tests.
 fn tell_trials(rt: &impl Print, told: &mut Told, alloc: Global) -> io::Result<()> {
     audits::tell(rt, told, alloc)?;
     commands::tell(rt, told, alloc)?;
@@ -45,7 +46,7 @@ fn tell_trials(rt: &impl Print, told: &mut Told, alloc: Global) -> io::Result<()
     faults::tell(rt)
 }
 
-/// Prints the trials of the layers below.
+/// Prints the results of the tests of the layers below.
 fn tell_layers(rt: &HostRuntime) -> Result<(), End> {
     let lines = layer_tests::lines(rt.alloc());
     let Some(text) = lines.text() else {
@@ -55,7 +56,7 @@ fn tell_layers(rt: &HostRuntime) -> Result<(), End> {
     Ok(())
 }
 
-/// Makes the calls that take memory, and then all trials, where these are asked for too.
+/// Tests the functions that allocate, and then runs all tests, if these are requested, too.
 fn tell(rt: &HostRuntime) -> Result<(), End> {
     memory::tell_all(rt)?;
     if asks_for_memory(rt) {

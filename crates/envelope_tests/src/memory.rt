@@ -1,7 +1,9 @@
-//! Makes each call of the libraries that takes memory, and after it those that take none, and prints what each answers.
+//! Calls each function of the libraries that allocates, and after it those that do not allocate,
+//! and prints each result.
 //!
-//! A call that is refused memory has to say so and to leave what it stood on as it was: then it is made again, and answers as if
-//! nothing had been. `tests/command` has these calls made once for each request for memory, which is refused.
+//! A function whose allocation fails must report that, and leave its arguments unchanged. Then it
+//! is called again, and must return the same as without the failure. `tests/command` runs these
+//! calls once for each allocation, and lets that one fail.
 
 mod auditing;
 mod calls;

@@ -1,16 +1,17 @@
-//! What calls answer and trials come to, and why no further call is made.
+//! The results of calls and tests.
 
 use std::alloc::AllocError;
 use std::{fmt, io};
 
-/// Why a call or a trial didn't answer as worked.
+/// The reason why a call or a test did not have the expected result.
 #[derive(Clone, Copy)]
 pub enum Trouble {
-    /// Memory was refused, and nothing else changed.
+    /// An allocation failed, and nothing else changed.
     OutOfMemory,
-    /// Memory was refused, at the envelope of this number, and nothing else changed.
+    /// An allocation failed at the envelope with this number, and nothing else changed.
     OutOfMemoryAt(u64),
-    /// The lines were refused memory for the octet of this number. Then come the number of lines, and that of their octets.
+    /// The allocation of the lines failed at the octet with this offset. Then the number of lines,
+    /// and of their octets.
     StoppedAt(u64, usize, usize),
     /// Anything else, in the row or after the calls of this number.
     WrongAt(usize),
@@ -41,7 +42,7 @@ impl From<AllocError> for Trouble {
     }
 }
 
-/// Whether an answer is as worked.
+/// Checks that a result is as expected.
 pub(crate) fn right(is_right: bool) -> Result<(), Trouble> {
     if is_right {
         Ok(())
@@ -50,7 +51,7 @@ pub(crate) fn right(is_right: bool) -> Result<(), Trouble> {
     }
 }
 
-/// Whether an answer is as worked, in the row or after the calls of this number.
+/// Checks that a result is as expected, in the row or after the calls of this number.
 pub(crate) fn right_at(place: usize, is_right: bool) -> Result<(), Trouble> {
     if is_right {
         Ok(())
@@ -59,7 +60,7 @@ pub(crate) fn right_at(place: usize, is_right: bool) -> Result<(), Trouble> {
     }
 }
 
-/// Whether an answer is as worked, of a call that was perhaps refused memory before.
+/// Checks that a result is as expected. `was_refused` is whether an allocation failed before.
 pub(crate) fn right_after(is_right: bool, was_refused: bool) -> Result<(), Trouble> {
     match (is_right, was_refused) {
         (true, false) => Ok(()),
@@ -68,14 +69,14 @@ pub(crate) fn right_after(is_right: bool, was_refused: bool) -> Result<(), Troub
     }
 }
 
-/// Why no further call is made.
+/// The reason why no further call is made.
 #[derive(Clone, Copy)]
 pub enum End {
-    /// A call was refused twice.
+    /// A call failed twice.
     Refused,
-    /// The output can't be written.
+    /// A write to the output failed.
     CannotWrite,
-    /// A trial came to something else than is worked out.
+    /// A test did not have the expected result.
     Wrong,
 }
 

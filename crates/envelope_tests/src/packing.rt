@@ -1,4 +1,4 @@
-//! Envelopes packed into writers that fail. What is expected is worked out from the format.
+//! Tests of packing into writers that fail. The expected values follow from the format.
 
 mod broken;
 mod failing;
@@ -17,7 +17,7 @@ use worked::{STORY_FRONT, STORY_OBJECT};
 /// A dataset's record, number and data.
 type Field<'o> = (u8, u8, &'o [u8]);
 
-/// A dataset of fewer than 256 octets, as it is written.
+/// Appends a dataset of fewer than 256 octets in its encoding.
 fn put_dataset(all: &mut Vec<u8>, (rec, set, data): Field<'_>) -> Result<(), AllocError> {
     let count = u8::try_from(data.len()).unwrap_or(0);
     all.extend_from_slice(&[0x1c, rec, set, 0, count])?;
@@ -28,7 +28,7 @@ fn four_octets(number: u64) -> [u8; 4] {
     u32::try_from(number).unwrap_or(0).to_be_bytes()
 }
 
-/// Record 7 by a plan.
+/// Appends record 7 for a plan.
 fn put_sizes(all: &mut Vec<u8>, plan: Plan) -> Result<(), AllocError> {
     let (is_known, set, octets) = match plan.size {
         Size::Known(octets) => (1, 90, octets),
@@ -43,7 +43,7 @@ fn put_sizes(all: &mut Vec<u8>, plan: Plan) -> Result<(), AllocError> {
     put_dataset(all, (7, set, &four_octets(octets)))
 }
 
-/// Records 7, 8 and 9 by a plan.
+/// Appends records 7, 8 and 9 for a plan.
 fn put_object(all: &mut Vec<u8>, object: &[u8], plan: Plan) -> Result<(), AllocError> {
     put_sizes(all, plan)?;
     let most = (plan.subfile as usize).max(1);
@@ -53,7 +53,7 @@ fn put_object(all: &mut Vec<u8>, object: &[u8], plan: Plan) -> Result<(), AllocE
     put_dataset(all, (9, 10, &four_octets(object.len() as u64)))
 }
 
-/// What is written of the worked story by a plan.
+/// Returns the expected packed form of the sample story for a plan.
 fn expected(alloc: Global, plan: Plan) -> Result<Vec<u8>, AllocError> {
     let mut all = Vec::from_slice(alloc, STORY_FRONT)?;
     put_object(&mut all, STORY_OBJECT, plan)?;
@@ -67,7 +67,7 @@ fn laws_can_be_called() {
     packed_subfiles_are_few();
 }
 
-/// Tells the trials of the packer.
+/// Runs the tests of the packer.
 pub(crate) fn tell(rt: &impl Print, told: &mut Told, alloc: Global) -> io::Result<()> {
     laws_can_be_called();
     told.trial(rt, "laws_can_be_called of packing", Ok(()))?;

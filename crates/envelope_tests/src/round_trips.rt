@@ -1,4 +1,5 @@
-//! Envelopes packed, cut anywhere, and unpacked again. What is expected is worked out from the format.
+//! Tests of round trips: envelopes are packed, split anywhere, and unpacked. The expected values
+//! follow from the format.
 
 ghost use Rattle.std.specs.Prelude.{◌<◌};
 
@@ -21,12 +22,12 @@ use worked::{FIRST_LINE, LAST_LINE, SMALLEST, STORY};
 struct Got {
     unpacked: Unpacked,
     lines: Lines,
-    /// How many octets of the stream were used.
+    /// The number of octets of the stream that were consumed.
     used: u64,
 }
 
 impl Got {
-    /// What the stream of these pieces unpacks to.
+    /// Unpacks the stream of these chunks.
     fn of(alloc: Global, pieces: &[&[u8]]) -> Option<Got> {
         let mut lines = Lines::new(alloc);
         match unpack_packed(alloc, LIMITS, pieces, &mut lines) {
@@ -39,7 +40,7 @@ impl Got {
         }
     }
 
-    /// The octets that it is packed to in subfiles of up to so many octets.
+    /// Packs the value in subfiles of up to `subfile` octets.
     fn packed(&self, alloc: Global, subfile: u64, size: Size) -> Option<Vec<u8>> {
         let plan = Plan::new(subfile, size)?;
         let Unpacked {
@@ -55,7 +56,7 @@ impl Got {
         }
     }
 
-    /// Whether another has the same datasets, header, trailer and lines.
+    /// Checks whether another value has the same datasets, header, trailer and lines.
     fn is_same(&self, other: &Got) -> bool {
         let (one, other_one) = (&self.unpacked, &other.unpacked);
         one.envelope.same(&other_one.envelope)
@@ -64,8 +65,8 @@ impl Got {
             && self.lines.iter().eq(other.lines.iter())
     }
 
-    /// Whether these octets, cut at a place and followed by others, unpack to the same, with an object of so many octets in so many
-    /// subfiles.
+    /// Checks whether octets, split at `cut` and followed by others, unpack to the same value.
+    /// `object` has the expected length of the object and number of subfiles.
     fn comes_back(&self, alloc: Global, octets: &[u8], cut: usize, object: (u64, u64)) -> bool {
         let (front, back) = octets.split_at(cut.min(octets.len()));
         match Got::of(alloc, &[front, b"", back, b"\x1d and more"]) {
@@ -74,13 +75,15 @@ impl Got {
         }
     }
 
-    /// Whether so many octets were used, its object has so many octets in so many subfiles, and all else is as another has it.
+    /// Checks whether `octets` octets were consumed, the object has this length and number of
+    /// subfiles, and all else is the same as in `other`.
     fn is_whole(&self, octets: usize, object: (u64, u64), other: &Got) -> bool {
         let sizes = self.unpacked.sizes;
         self.used == octets as u64 && (sizes.total, sizes.subfiles) == object && self.is_same(other)
     }
 
-    /// Whether it comes back, packed in subfiles of up to so many octets, as an object of so many.
+    /// Packs the value in subfiles of up to `subfile` octets, and checks whether it unpacks to the
+    /// same value. `object` is the length of the object.
     fn comes_back_from(&self, alloc: Global, subfile: u64, size: Size, object: u64) -> bool
         requires { 0 < subfile }
     {
@@ -93,13 +96,13 @@ impl Got {
         }
     }
 
-    /// Whether its object has so many octets.
+    /// Checks whether the object has `object` octets.
     fn has_size(&self, object: u64) -> bool {
         let Unpacked { head, trailer, .. } = &self.unpacked;
         packed_size(head, &self.lines, trailer) == Some(object)
     }
 
-    /// Packs it by every small plan, as an object of so many octets, and unpacks it.
+    /// Packs the value for every small plan, and unpacks it. `object` is the length of the object.
     fn expect_each_plan(&self, alloc: Global, object: u64) -> Result<(), Trouble> {
         right(self.has_size(object))?;
         for subfile in 1..61 {
@@ -116,7 +119,7 @@ impl Got {
     }
 }
 
-/// The parts of a message's header.
+/// Returns the parts of a message's header.
 fn parts_of(head: &MessageHead) -> [&[u8]; 6] {
     [
         head.source(),
@@ -138,12 +141,12 @@ fn every_small_plan_comes_back(alloc: Global) -> Result<(), Trouble> {
     Ok(())
 }
 
-/// The first so many octets of the worked envelope.
+/// Returns the first `count` octets of the sample envelope.
 fn front(count: usize) -> &'static [u8] {
     STORY.get(..count).unwrap_or(&[])
 }
 
-/// The cause and the octet of a refusal.
+/// Returns the cause and the octet of a refusal.
 fn refusal_of<T: Drop>(answer: Result<T, UnpackFault>) -> Option<(Cause, u64)> {
     match answer {
         Err(UnpackFault::Refused(refusal)) => Some((refusal.cause, refusal.octet)),
@@ -151,7 +154,7 @@ fn refusal_of<T: Drop>(answer: Result<T, UnpackFault>) -> Option<(Cause, u64)> {
     }
 }
 
-/// Whether so many octets of the worked envelope are too few.
+/// Checks whether the first `count` octets of the sample envelope are truncated.
 fn is_truncated(alloc: Global, count: usize) -> bool {
     let mut lines = Lines::new(alloc);
     let answer = unpack_packed(alloc, LIMITS, &[front(count)], &mut lines);
@@ -165,7 +168,7 @@ fn a_packed_front_alone_is_truncated(alloc: Global) -> Result<(), Trouble> {
     Ok(())
 }
 
-/// The sizes of the worked envelope.
+/// The sizes of the sample envelope.
 const SIZES: Sizes = Sizes {
     known: true,
     subfile: 1024,
@@ -175,7 +178,7 @@ const SIZES: Sizes = Sizes {
     total: 50,
 };
 
-/// Whether it is the worked story.
+/// Checks whether a story is the sample story.
 fn is_worked(story: &Story) -> bool {
     story.used == 246
         && story.unpacked.sizes == SIZES
@@ -192,7 +195,7 @@ fn a_story_comes_back_before_others(alloc: Global) -> Result<(), Trouble> {
     right(is_back)
 }
 
-/// The last octet of the first says 49 in place of 50.
+/// The last octet of the first input has 49 instead of 50.
 fn a_story_is_refused_at_its_octet(alloc: Global) -> Result<(), Trouble> {
     let wrong = unpack_story(alloc, LIMITS, &[front(245), b"\x31"]);
     right(refusal_of(wrong) == Some((Cause::Size(SizeCause::ConfirmedWrong), 245)))?;
@@ -200,14 +203,14 @@ fn a_story_is_refused_at_its_octet(alloc: Global) -> Result<(), Trouble> {
     right(refusal_of(short) == Some((Cause::Truncated, 200)))
 }
 
-/// The smallest envelope, in which the count of 1:30 is an extended one: 118 octets.
+/// Returns the smallest envelope with an extended count in 1:30: 118 octets.
 fn extended(alloc: Global) -> Result<Vec<u8>, Trouble> {
     let (before, tagged) = SMALLEST.split_at(24.min(SMALLEST.len()));
     let (_count, after) = tagged.split_at(2.min(tagged.len()));
     Ok(joined(alloc, &[before, b"\x80\x04\x00\x00\x00\x03", after])?)
 }
 
-/// The value that is read from the 118 octets, packed, is the smallest envelope.
+/// Checks that the value read from the 118 octets packs to the smallest envelope.
 fn packs_value_of_extended_counts(alloc: Global) -> Result<(), Trouble> {
     let octets = extended(alloc)?;
     right(octets.len() == 118)?;
@@ -221,8 +224,9 @@ fn packs_value_of_extended_counts(alloc: Global) -> Result<(), Trouble> {
     }
 }
 
-/// The smallest envelope with one line of 32,754 octets `a`, as the tags of its subfiles have to begin: 32,872 octets with one subfile
-/// of 32,768, and 32,873 with one of 32,767 and one of 1.
+/// Packs the smallest envelope with one line of 32,754 octets `a`, and checks how the tags of its
+/// subfiles begin: 32,872 octets with one subfile of 32,768, and 32,873 with one of 32,767 and one
+/// of 1.
 fn packs_one_long_line(alloc: Global) -> Result<(), Trouble> {
     let Some(mut got) = Got::of(alloc, &[SMALLEST.as_slice()]) else {
         return Err(Trouble::Wrong);
@@ -242,14 +246,14 @@ fn packs_one_long_line(alloc: Global) -> Result<(), Trouble> {
     right(has_at(&two, 32_858, b"\x1c\x08\x0a\x00\x01\x04"))
 }
 
-/// Whether octets have others from a place on.
+/// Checks whether octets have others from the offset `at` on.
 fn has_at(octets: &[u8], at: usize, others: &[u8]) -> bool {
     octets
         .get(at..)
         .is_some_and(|rest| rest.starts_with(others))
 }
 
-/// Tells the trials of round trips.
+/// Runs the tests of round trips.
 pub(crate) fn tell(rt: &impl Print, told: &mut Told, alloc: Global) -> io::Result<()> {
     let plans = every_small_plan_comes_back(alloc);
     told.trial(rt, "every_small_plan_comes_back", plans)?;

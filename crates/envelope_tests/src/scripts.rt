@@ -1,4 +1,4 @@
-//! What is read from scripts and packed, and what is proved of them, called.
+//! Tests of scripts that are read and packed, and calls of lemmas about scripts.
 
 ghost use Rattle.iim_script.specs.Format.Scripts.{text_lines};
 ghost use Rattle.wire_story.specs.Format.Texts.{IsText};
@@ -17,15 +17,15 @@ use std::io;
 use trials::{TrialReader, TrialWriter, Trouble as DeviceTrouble};
 use worked::STORY;
 
-/// What a script is packed to.
+/// The result of packing a script.
 type Packed = Result<TrialWriter<256>, Trouble>;
 
-/// Returns a writer that fails at no call.
+/// Creates a writer that never fails.
 fn writer() -> TrialWriter<256> {
     TrialWriter::new(0, DeviceTrouble::Interruptions(0))
 }
 
-/// Packs what a script says by the library's own call, with the lines that the script gives.
+/// Packs a script with the library's `pack`, with the lines that the script returns.
 fn packed_by_lines(alloc: Global, script: &Script<'_>) -> Packed
     requires { IsText script.now.text.now (text_lines script.now.text.now) }
 {
@@ -47,7 +47,7 @@ fn packed_by_lines(alloc: Global, script: &Script<'_>) -> Packed
     }
 }
 
-/// Packs a script as the command does.
+/// Packs a script with the command.
 fn packed_by_command(alloc: Global, script: &[u8]) -> Packed {
     let request = PackRequest {
         subfile: 1024,
@@ -62,7 +62,7 @@ fn packed_by_command(alloc: Global, script: &[u8]) -> Packed {
     }
 }
 
-/// Checks that both ways write the same octets, those of the worked envelope.
+/// Checks that both ways write the same octets, those of the sample envelope.
 fn packs_the_lines_of_a_script(alloc: Global) -> Result<(), Trouble> {
     let Ok(script) = read_script(alloc, LIMITS, SCRIPT) else {
         return Err(Trouble::Wrong);
@@ -72,7 +72,7 @@ fn packs_the_lines_of_a_script(alloc: Global) -> Result<(), Trouble> {
     right(by_lines.octets() == by_command.octets() && by_lines.octets() == STORY.as_slice())
 }
 
-/// Tells the trials of scripts.
+/// Runs the tests of scripts.
 pub(crate) fn tell(rt: &impl Print, told: &mut Told, alloc: Global) -> io::Result<()> {
     laws_can_be_called();
     told.trial(rt, "laws_can_be_called of scripts", Ok(()))?;

@@ -1,21 +1,21 @@
-//! The lines of trials.
+//! The lines of test results.
 
 use crate::outcome::{End, Trouble};
 use std::io;
 
-/// Whether all trials that were told so far came to what is worked out.
+/// Whether all tests so far had the expected result.
 #[derive(Drop)]
 pub(crate) struct Told {
     are_right: bool,
 }
 
 impl Told {
-    /// No trial so far.
+    /// Creates the value before the first test.
     pub(crate) fn new() -> Told {
         Told { are_right: true }
     }
 
-    /// Prints what a trial came to.
+    /// Prints the result of a test.
     pub(crate) fn trial(
         &mut self,
         rt: &impl Print,
@@ -31,7 +31,7 @@ impl Told {
         }
     }
 
-    /// The end of all trials.
+    /// Returns an error if a test did not have the expected result.
     pub(crate) fn end(&self) -> Result<(), End> {
         if self.are_right {
             Ok(())

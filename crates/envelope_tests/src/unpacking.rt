@@ -1,4 +1,4 @@
-//! The unpacker with sinks that count or stop, and with readers that fail.
+//! Tests the unpacker with sinks that count or stop, and with readers that fail.
 
 mod calls;
 mod intakes;
@@ -8,7 +8,7 @@ use iim_unpack::{Cause, Layer, Refusal};
 use std::alloc::Global;
 use std::io;
 
-/// A refusal of the dataset with these numbers.
+/// Returns a refusal of the dataset with these numbers.
 fn refusal(layer: Layer, (rec, set): (u8, u8), octet: usize, cause: Cause) -> Refusal {
     Refusal {
         layer,
@@ -19,7 +19,7 @@ fn refusal(layer: Layer, (rec, set): (u8, u8), octet: usize, cause: Cause) -> Re
     }
 }
 
-/// Tells the trials of the unpacker.
+/// Runs the tests of the unpacker.
 pub(crate) fn tell(rt: &impl Print, told: &mut Told, alloc: Global) -> io::Result<()> {
     calls::tell(rt, told, alloc)?;
     intakes::tell(rt, told, alloc)

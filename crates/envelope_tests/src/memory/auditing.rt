@@ -11,7 +11,7 @@ use std::io::Read;
 use wire_story::Discard;
 use worked::STREAM;
 
-/// The report of the stream and of the stream again.
+/// The report of the stream, twice.
 const REPORT: &[u8] =
     b"1 TST 00000002 20240301 priority - size 50 subfiles 1 words 5/4 age - repeats - copy free\n\
 2 TST 00000001 20240301 priority - size 14 subfiles 1 words 0/0 age - repeats - copy free\n\
@@ -21,7 +21,8 @@ const REPORT: &[u8] =
 6 TST 00000002 20240301 priority - size 14 subfiles 1 words 0/0 age - repeats 1 copy free\n\
 6 envelopes, 4 repeated, 0 held\n";
 
-/// What a fault of an audit comes to: where memory was refused, the reader can still be read from.
+/// Returns the trouble for an error of an audit. After a failed allocation the reader must still
+/// be usable.
 fn trouble_of<R: Source>(alloc: Global, fault: AuditFault, intake: &mut Intake<R>) -> Trouble {
     if fault.cause != AuditCause::OutOfMemory {
         return Trouble::Wrong;
@@ -35,7 +36,7 @@ fn trouble_of<R: Source>(alloc: Global, fault: AuditFault, intake: &mut Intake<R
     }
 }
 
-/// The report, where it has six rows.
+/// Returns the report if it has six rows.
 fn six_rows(report: Report) -> Result<Report, Trouble> {
     if report.rows().len() == 6 {
         return Ok(report);
@@ -43,7 +44,7 @@ fn six_rows(report: Report) -> Result<Report, Trouble> {
     Err(Trouble::Wrong)
 }
 
-/// Audits the stream and the stream again: the fifth row needs more room than the first has taken.
+/// Audits the stream twice. The allocation for the first row is too small for the fifth.
 pub(crate) fn audited(alloc: Global) -> Result<Report, Trouble> {
     let mut intake = Intake::new(FromRead::new(STREAM.chain(STREAM)));
     match audit(alloc, &mut intake, LIMITS, Timestamp::UNIX_EPOCH) {
@@ -52,7 +53,7 @@ pub(crate) fn audited(alloc: Global) -> Result<Report, Trouble> {
     }
 }
 
-/// Writes the report of it.
+/// Checks the text of the report.
 pub(crate) fn written(alloc: Global, report: &Report) -> Result<(), Trouble> {
     let text = report_text(alloc, report)?;
     right(text.as_slice() == REPORT)

@@ -1,4 +1,4 @@
-//! The calls, in their order, and what they make.
+//! The calls in their order, and their results.
 
 use super::{auditing, lines, objects, packing, records, scripts, unpacking};
 use crate::outcome::{End, Trouble};
@@ -8,12 +8,12 @@ use std::alloc::Global;
 use std::io;
 use wire_story::Lines;
 
-/// A call that takes memory.
+/// A call that allocates.
 #[derive(Clone, Copy)]
 pub enum Call {
     Fields,
     Subfile,
-    /// Subfiles of up to so many octets, of which all records are so many.
+    /// Subfiles of up to this many octets, and the length of all records.
     Subfiles(u64, usize),
     Grow,
     Feed,
@@ -27,12 +27,12 @@ pub enum Call {
     Copy,
     Script,
     Start,
-    /// A packer of subfiles of up to so many octets, into so many octets.
+    /// A packer with subfiles of up to this many octets, and the length of its output.
     StartSubfiles(u64, usize),
     Pack,
 }
 
-/// Each call, and its name. Those that take envelopes apart stand before those that make them.
+/// The calls with their names. Calls that unpack are before those that build envelopes.
 const CALLS: [(&str, Call); 19] = [
     ("Fields::new", Call::Fields),
     ("SubfileBuffer::reserve", Call::Subfile),
@@ -55,7 +55,7 @@ const CALLS: [(&str, Call); 19] = [
     ("pack", Call::Pack),
 ];
 
-/// What calls have made for those after them.
+/// The results of calls that later calls need.
 #[derive(Drop)]
 pub struct Made {
     report: Option<Report>,
@@ -64,7 +64,7 @@ pub struct Made {
 }
 
 impl Made {
-    /// Nothing so far.
+    /// Creates the value without results.
     pub(crate) fn new() -> Made {
         Made {
             report: None,
@@ -132,7 +132,7 @@ impl Made {
     }
 }
 
-/// Makes a call that takes an envelope alone.
+/// Makes a call that needs only an envelope.
 fn make_of(call: Call, alloc: Global, envelope: &Envelope) -> Result<(), Trouble> {
     match call {
         Call::Copy => records::copied(alloc, envelope),
@@ -144,7 +144,7 @@ fn make_of(call: Call, alloc: Global, envelope: &Envelope) -> Result<(), Trouble
     }
 }
 
-/// Prints what a call answered after this trouble, when it was made again.
+/// Prints the result of a call that had this trouble and was repeated.
 fn tell_again(
     rt: &impl Print,
     name: &str,
@@ -157,7 +157,7 @@ fn tell_again(
     }
 }
 
-/// Makes a call, and once more where it was refused, and prints what it answered.
+/// Makes a call, repeats it if it failed, and prints the result.
 fn tell<R: Print + AllocGlobal>(
     rt: &R,
     made: &mut Made,
@@ -173,7 +173,7 @@ fn tell<R: Print + AllocGlobal>(
     again.map_err(|_| End::Refused)
 }
 
-/// All calls, up to the first that is refused twice.
+/// Makes all calls, up to the first that fails twice.
 pub(crate) fn tell_all<R: Print + AllocGlobal>(rt: &R) -> Result<(), End> {
     let mut made = Made::new();
     for (name, call) in &CALLS {

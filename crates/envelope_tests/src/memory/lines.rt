@@ -1,14 +1,14 @@
-//! Calls of lines: octets and line ends taken.
+//! Calls of `Lines`: octets and line ends.
 
 use crate::outcome::{Trouble, right, right_after};
 use std::alloc::Global;
 use wire_story::{Lines, StorySink, is_text};
 use worked::FIRST_LINE;
 
-/// How often a line and its end are told.
+/// The number of times that a line and its end are passed.
 const TIMES: usize = 50;
 
-/// How many lines there are, and their octets.
+/// Returns the number of lines, and of their octets.
 pub(crate) fn size_of(lines: &Lines) -> (usize, usize) {
     let mut count = 0usize;
     let mut octets = 0usize;
@@ -19,7 +19,8 @@ pub(crate) fn size_of(lines: &Lines) -> (usize, usize) {
     (count, octets)
 }
 
-/// Tells the octets of a line, and again where they are refused: whether they were. A refusal changes nothing.
+/// Passes the octets of a line, and repeats the call if it fails. Returns whether it failed. A
+/// failure must change nothing.
 fn take_text(lines: &mut Lines) -> Result<bool, Trouble> {
     if !is_text(FIRST_LINE) {
         return Err(Trouble::Wrong);
@@ -35,7 +36,7 @@ fn take_text(lines: &mut Lines) -> Result<bool, Trouble> {
     }
 }
 
-/// Tells the end of a line, in the same way.
+/// Passes the end of a line, in the same way.
 fn take_line_end(lines: &mut Lines) -> Result<bool, Trouble> {
     let before = size_of(lines);
     let Err(stop) = lines.line_end() else {
@@ -48,7 +49,7 @@ fn take_line_end(lines: &mut Lines) -> Result<bool, Trouble> {
     }
 }
 
-/// Tells lines again and again: whether one was refused.
+/// Passes lines repeatedly. Returns whether a call failed.
 fn take_lines(lines: &mut Lines) -> Result<bool, Trouble> {
     let mut was_refused = false;
     for _ in 0..TIMES {
@@ -58,7 +59,7 @@ fn take_lines(lines: &mut Lines) -> Result<bool, Trouble> {
     Ok(was_refused)
 }
 
-/// Tells the end of the first line, while there are no octets.
+/// Passes the end of the first line, before any octets.
 fn end_first(lines: &mut Lines) -> Result<(), Trouble> {
     right(size_of(lines) == (1, 0))?;
     match lines.line_end() {
@@ -67,7 +68,7 @@ fn end_first(lines: &mut Lines) -> Result<(), Trouble> {
     }
 }
 
-/// Grows lines again and again, beginning with a line's end.
+/// Grows lines repeatedly, beginning with the end of a line.
 pub(crate) fn grown(alloc: Global) -> Result<(), Trouble> {
     end_first(&mut Lines::new(alloc))?;
     let mut lines = Lines::new(alloc);

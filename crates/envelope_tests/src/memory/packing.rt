@@ -11,7 +11,7 @@ use trials::TrialWriter;
 use wire_story::Lines;
 use worked::{FIRST_LINE, LAST_LINE, STORY, STORY_CONFIRMED};
 
-/// What a fault comes to: where memory was refused, nothing is written.
+/// Returns the trouble for an error. After a failed allocation nothing may be written.
 fn trouble_of(fault: &StartFault<TrialWriter<512>>) -> Trouble {
     let is_empty = fault.written == 0 && fault.writer.octets().is_empty();
     if fault.cause == PackCause::OutOfMemory && is_empty {
@@ -21,13 +21,14 @@ fn trouble_of(fault: &StartFault<TrialWriter<512>>) -> Trouble {
     }
 }
 
-/// Packs the worked envelope call by call: after `start` nothing takes memory.
+/// Packs the sample envelope call by call. After `start` nothing allocates.
 pub(crate) fn call_by_call(alloc: Global, envelope: &Envelope) -> Result<(), Trouble> {
     let writer = packed(alloc, envelope, 1024)?;
     right(writer.octets() == STORY.as_slice())
 }
 
-/// Packs it so in subfiles of up to so many octets, into so many octets.
+/// Packs the sample envelope call by call in subfiles of up to `subfile` octets. The result has
+/// `octets` octets.
 pub(crate) fn in_subfiles(
     alloc: Global,
     envelope: &Envelope,
@@ -38,7 +39,7 @@ pub(crate) fn in_subfiles(
     right(writer.octets().len() == octets && writer.octets().ends_with(STORY_CONFIRMED))
 }
 
-/// What the worked envelope is packed to, call by call.
+/// Returns the writer to which the sample envelope was packed, call by call.
 fn packed(alloc: Global, envelope: &Envelope, subfile: u64) -> Result<TrialWriter<512>, Trouble> {
     match Packer::start(alloc, envelope, &head()?, plan(subfile)?, writer()) {
         Ok(packer) => finished(packer),
@@ -46,12 +47,12 @@ fn packed(alloc: Global, envelope: &Envelope, subfile: u64) -> Result<TrialWrite
     }
 }
 
-/// Whether a packer takes both lines of the worked envelope.
+/// Checks whether a packer accepts both lines of the sample envelope.
 fn takes_lines(packer: &mut Packer<TrialWriter<512>>) -> bool {
     packer.text(FIRST_LINE).is_ok() && packer.line_end().is_ok() && packer.text(LAST_LINE).is_ok()
 }
 
-/// Packs the lines, and gives back what they are packed to.
+/// Packs the lines, and returns the writer.
 fn finished(mut packer: Packer<TrialWriter<512>>) -> Result<TrialWriter<512>, Trouble> {
     if !takes_lines(&mut packer) {
         return Err(Trouble::Wrong);
@@ -62,7 +63,7 @@ fn finished(mut packer: Packer<TrialWriter<512>>) -> Result<TrialWriter<512>, Tr
     Ok(writer)
 }
 
-/// Packs the worked envelope in one call.
+/// Packs the sample envelope in one call.
 pub(crate) fn at_once(alloc: Global, envelope: &Envelope, lines: &Lines) -> Result<(), Trouble> {
     match pack(alloc, envelope, &head()?, lines, b"", plan(1024)?, writer()) {
         Ok(writer) => right(writer.octets() == STORY.as_slice()),

@@ -1,4 +1,4 @@
-//! Calls of the records: checked, and built.
+//! Calls of the records: checking and building them.
 
 ghost use Rattle.std.specs.Prelude.{◌≢◌, length, OnOk};
 ghost use Rattle.iim_fields.specs.States.Standing.{IsBetween, IsInside};
@@ -10,7 +10,7 @@ use iim_fields::{CopyFault, Envelope, EnvelopeBuilder, FieldFault, Fields};
 use std::alloc::Global;
 use worked::STORY_FIELDS;
 
-/// Gives all octets of the begun dataset.
+/// Passes all octets of the dataset in progress.
 fn give(fields: &mut Fields, head: Head, octets: &[u8])
     requires inside { IsInside fields.old head (length octets.now) }
     requires value { head.rec ≢ 8 }
@@ -42,7 +42,7 @@ fn pass(fields: &mut Fields, rec: u8, set: u8, octets: &[u8]) -> Result<(), Fiel
     }
 }
 
-/// Checks the worked fields: after `new` nothing takes memory.
+/// Checks the sample fields. After `new` nothing allocates.
 pub(crate) fn fields(alloc: Global) -> Result<(), Trouble> {
     let mut fields = Fields::new(alloc, LIMITS)?;
     for (rec, set, octets) in &STORY_FIELDS {
@@ -53,7 +53,7 @@ pub(crate) fn fields(alloc: Global) -> Result<(), Trouble> {
     Ok(())
 }
 
-/// Adds the worked fields, and whether each was taken.
+/// Adds the sample fields. Returns whether all were accepted.
 fn add_all(builder: &mut EnvelopeBuilder) -> bool {
     for (rec, set, octets) in &STORY_FIELDS {
         if builder.add(*rec, *set, octets).is_err() {
@@ -63,7 +63,7 @@ fn add_all(builder: &mut EnvelopeBuilder) -> bool {
     true
 }
 
-/// Whether an envelope has the worked fields.
+/// Checks whether an envelope has the sample fields.
 pub(crate) fn is_worked(envelope: &Envelope) -> bool {
     for ((rec, set, octets), want) in envelope.fields().zip(&STORY_FIELDS) {
         if (rec, set) != (want.0, want.1) || octets != want.2 {
@@ -73,7 +73,7 @@ pub(crate) fn is_worked(envelope: &Envelope) -> bool {
     envelope.fields().count() == STORY_FIELDS.len()
 }
 
-/// Builds the worked envelope: after `new` nothing takes memory.
+/// Builds the sample envelope. After `new` nothing allocates.
 pub(crate) fn built(alloc: Global) -> Result<Envelope, Trouble> {
     let mut builder = EnvelopeBuilder::new(alloc, LIMITS)?;
     if !add_all(&mut builder) {
@@ -82,7 +82,7 @@ pub(crate) fn built(alloc: Global) -> Result<Envelope, Trouble> {
     worked_of(builder)
 }
 
-/// The envelope of a builder, where it is the worked one.
+/// Returns the envelope of a builder if it is the sample envelope.
 fn worked_of(builder: EnvelopeBuilder) -> Result<Envelope, Trouble> {
     let Ok(envelope) = builder.finish() else {
         return Err(Trouble::Wrong);
@@ -93,7 +93,7 @@ fn worked_of(builder: EnvelopeBuilder) -> Result<Envelope, Trouble> {
     Ok(envelope)
 }
 
-/// Copies the worked envelope: after `from` nothing takes memory.
+/// Copies the sample envelope. After `from` nothing allocates.
 pub(crate) fn copied(alloc: Global, envelope: &Envelope) -> Result<(), Trouble> {
     match EnvelopeBuilder::from(alloc, LIMITS, envelope) {
         Ok(builder) => match worked_of(builder) {

@@ -11,7 +11,7 @@ use std::alloc::Global;
 use wire_story::Lines;
 use worked::{FIRST_LINE, LAST_LINE};
 
-/// The script of the worked envelope.
+/// The script of the sample envelope.
 pub(crate) const SCRIPT: &[u8] = b"1:00 \\x00\\x04
 1:20 \\x00\\x02
 1:22 \\x00\\x01
@@ -34,12 +34,12 @@ Rates stay.
 No change.
 ";
 
-/// Whether lines are the worked ones.
+/// Checks whether lines are those of the sample.
 fn are_worked(lines: &Lines) -> bool {
     lines.iter().eq([FIRST_LINE, LAST_LINE])
 }
 
-/// The lines of a script, where it tells this envelope and the worked lines.
+/// Returns the lines of a script if it specifies this envelope and the sample lines.
 fn lines_of(alloc: Global, script: Script<'_>, envelope: &Envelope) -> Result<Lines, Trouble>
     requires { IsText script.text.now (text_lines script.text.now) }
 {
@@ -51,7 +51,7 @@ fn lines_of(alloc: Global, script: Script<'_>, envelope: &Envelope) -> Result<Li
     Err(Trouble::Wrong)
 }
 
-/// Reads the script, and gives its lines.
+/// Reads the script, and returns its lines.
 pub(crate) fn told(alloc: Global, envelope: &Envelope) -> Result<Lines, Trouble> {
     match read_script(alloc, LIMITS, SCRIPT) {
         Ok(script) => lines_of(alloc, script, envelope),

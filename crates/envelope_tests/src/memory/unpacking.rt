@@ -1,4 +1,4 @@
-//! Calls that take envelopes apart.
+//! Calls that unpack envelopes.
 
 use super::lines::size_of;
 use super::records::is_worked;
@@ -13,7 +13,7 @@ use std::alloc::Global;
 use wire_story::{Discard, Lines};
 use worked::STORY;
 
-/// Whether an unpacker that is done gives the worked envelope.
+/// Checks whether an unpacker that is done returns the sample envelope.
 fn gives_worked(unpacker: Unpacker) -> bool {
     match unpacker.into_unpacked() {
         Ok(got) => is_worked(&got.envelope),
@@ -21,7 +21,7 @@ fn gives_worked(unpacker: Unpacker) -> bool {
     }
 }
 
-/// Feeds the worked envelope: after `new` nothing takes memory.
+/// Feeds the sample envelope. After `new` nothing allocates.
 pub(crate) fn fed(alloc: Global) -> Result<(), Trouble> {
     let mut unpacker = Unpacker::new(alloc, LIMITS)?;
     if unpacker.feed(STORY, &mut Discard) != Ok(Progress::Done { used: 246 }) {
@@ -30,23 +30,24 @@ pub(crate) fn fed(alloc: Global) -> Result<(), Trouble> {
     right(gives_worked(unpacker))
 }
 
-/// The first 200 octets of the worked envelope, and the last 46.
+/// Returns the first 200 octets of the sample envelope, and the last 46.
 fn halves() -> (&'static [u8], &'static [u8]) {
     STORY.split_at(200.min(STORY.len()))
 }
 
-/// Whether an unpacker takes the first 200 octets of the worked envelope.
+/// Checks whether an unpacker accepts the first 200 octets of the sample envelope.
 fn begins(unpacker: &mut Unpacker) -> bool {
     unpacker.feed(halves().0, &mut Discard) == Ok(Progress::More)
 }
 
-/// Whether an unpacker is done with the worked envelope after its last 46 octets.
+/// Checks whether an unpacker is done with the sample envelope after its last 46 octets.
 fn ends(unpacker: &mut Unpacker) -> bool {
     let answer = unpacker.feed(halves().1, &mut Discard);
     answer == Ok(Progress::Done { used: 46 }) && unpacker.octets() == 246
 }
 
-/// Saves an unpacker in the middle of the worked envelope. Refused or not, that leaves it as it was, and it is fed the rest.
+/// Saves an unpacker in the middle of the sample envelope, and feeds it the rest. `save` must
+/// leave it unchanged, even if it fails.
 fn saved_of(alloc: Global, unpacker: &mut Unpacker) -> Result<(), Trouble> {
     let has_begun = begins(unpacker);
     let size = size_of_ticket(unpacker.save(alloc));
@@ -56,13 +57,13 @@ fn saved_of(alloc: Global, unpacker: &mut Unpacker) -> Result<(), Trouble> {
     Err(Trouble::Wrong)
 }
 
-/// Saves an unpacker in the middle of the worked envelope: after `new` only `save` takes memory.
+/// Saves an unpacker in the middle of the sample envelope. After `new` only `save` allocates.
 pub(crate) fn saved(alloc: Global) -> Result<(), Trouble> {
     let mut unpacker = Unpacker::new(alloc, LIMITS)?;
     saved_of(alloc, &mut unpacker)
 }
 
-/// How many octets a ticket has.
+/// Returns the length of a ticket.
 fn size_of_ticket(saved: Result<Vec<u8>, SaveFault>) -> Result<usize, Trouble> {
     match saved {
         Ok(ticket) => Ok(ticket.len()),
@@ -71,7 +72,7 @@ fn size_of_ticket(saved: Result<Vec<u8>, SaveFault>) -> Result<usize, Trouble> {
     }
 }
 
-/// The ticket of an unpacker, and whether it was refused before; then it is asked for again.
+/// Returns the ticket of an unpacker, and whether a first attempt failed.
 fn ticket_of(alloc: Global, unpacker: &Unpacker) -> Result<(Vec<u8>, bool), Trouble> {
     match unpacker.save(alloc) {
         Ok(ticket) => Ok((ticket, false)),
@@ -83,7 +84,7 @@ fn ticket_of(alloc: Global, unpacker: &Unpacker) -> Result<(Vec<u8>, bool), Trou
     }
 }
 
-/// The unpacker that is restored from a ticket, and whether that was refused before; then it is restored again.
+/// Returns the unpacker that is restored from a ticket, and whether a first attempt failed.
 fn unpacker_of(alloc: Global, ticket: &[u8]) -> Result<(Unpacker, bool), Trouble> {
     match Unpacker::restore(alloc, LIMITS, ticket, 200) {
         Ok(unpacker) => Ok((unpacker, false)),
@@ -95,7 +96,7 @@ fn unpacker_of(alloc: Global, ticket: &[u8]) -> Result<(Unpacker, bool), Trouble
     }
 }
 
-/// Whether tickets are refused for what they tell: memory is asked for after all that.
+/// Checks whether invalid tickets are rejected: they are checked before anything is allocated.
 fn refuses_tickets(alloc: Global, ticket: &[u8]) -> bool {
     let few = |octets, fields| Limits { octets, fields };
     let rows: [(&[u8], Limits, TicketFault); 5] = [
@@ -113,7 +114,8 @@ fn refuses_tickets(alloc: Global, ticket: &[u8]) -> bool {
     true
 }
 
-/// Restores an unpacker from the ticket of another. Refused or not, that leaves the other as it was. Both are fed the rest.
+/// Restores an unpacker from the ticket of another, and feeds the rest to both. `restore` must
+/// leave the other unchanged, even if it fails.
 fn restored_from(alloc: Global, saved: &mut Unpacker, ticket: &[u8]) -> Result<bool, Trouble> {
     let (mut unpacker, was_refused) = unpacker_of(alloc, ticket)?;
     if ends(saved) && ends(&mut unpacker) && gives_worked(unpacker) {
@@ -122,7 +124,7 @@ fn restored_from(alloc: Global, saved: &mut Unpacker, ticket: &[u8]) -> Result<b
     Err(Trouble::Wrong)
 }
 
-/// Saves an unpacker in the middle of the worked envelope, and restores another from its ticket.
+/// Saves an unpacker in the middle of the sample envelope, and restores another from its ticket.
 fn restored_of(alloc: Global, saved: &mut Unpacker) -> Result<(), Trouble> {
     right(begins(saved))?;
     let (ticket, was_refused) = ticket_of(alloc, saved)?;
@@ -133,13 +135,13 @@ fn restored_of(alloc: Global, saved: &mut Unpacker) -> Result<(), Trouble> {
     right_after(true, was_refused || again)
 }
 
-/// Saves an unpacker, and restores another: after `new` only these take memory.
+/// Saves an unpacker, and restores another. After `new` only these calls allocate.
 pub(crate) fn restored(alloc: Global) -> Result<(), Trouble> {
     let mut saved = Unpacker::new(alloc, LIMITS)?;
     restored_of(alloc, &mut saved)
 }
 
-/// Whether an intake has given the worked envelope.
+/// Checks whether an intake returned the sample envelope.
 fn is_given(answer: Result<Option<Unpacked>, IntakeFault>) -> bool {
     match answer {
         Ok(Some(got)) => is_worked(&got.envelope),
@@ -147,7 +149,7 @@ fn is_given(answer: Result<Option<Unpacked>, IntakeFault>) -> bool {
     }
 }
 
-/// Takes the worked envelope from a reader: after `new` nothing takes memory.
+/// Reads the sample envelope from a reader. After `new` nothing allocates.
 pub(crate) fn taken_in(alloc: Global) -> Result<(), Trouble> {
     let unpacker = Unpacker::new(alloc, LIMITS)?;
     let mut intake = Intake::new(FromRead::new(STORY.as_slice()));
@@ -155,7 +157,8 @@ pub(crate) fn taken_in(alloc: Global) -> Result<(), Trouble> {
     right(is_given(answer) && intake.octets() == 246)
 }
 
-/// What an answer comes to where the lines are so many, and their octets: these are refused where there is no memory for them.
+/// Checks a result against the numbers of lines and of their octets. If an allocation of the lines
+/// failed, returns the trouble.
 fn told_to_lines(answer: Result<Progress, Refusal>, size: (usize, usize)) -> Result<(), Trouble> {
     match answer {
         Ok(progress) => right(progress == Progress::Done { used: 246 } && size == (2, 21)),
@@ -166,7 +169,7 @@ fn told_to_lines(answer: Result<Progress, Refusal>, size: (usize, usize)) -> Res
     }
 }
 
-/// Feeds the worked envelope, whose lines are collected: only these take memory.
+/// Feeds the sample envelope into `Lines`. Only these allocate.
 pub(crate) fn fed_into_lines(alloc: Global) -> Result<(), Trouble> {
     let mut unpacker = Unpacker::new(alloc, LIMITS)?;
     let mut lines = Lines::new(alloc);

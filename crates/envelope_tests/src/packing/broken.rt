@@ -1,4 +1,4 @@
-//! A writer that fails within each call of a packer, and within a whole `pack`.
+//! Tests a writer that fails within each call of a packer, and within `pack`.
 
 use super::expected;
 use crate::given::{head, plan};
@@ -15,7 +15,7 @@ use trials::{TrialWriter, Trouble as DeviceTrouble};
 use wire_message::MessageHead;
 use wire_story::{Lines, StorySink};
 
-/// The calls of a packer that pack the worked story.
+/// The calls of a packer that pack the sample story.
 #[derive(Clone, Copy, PartialEq, Eq)]
 enum Call {
     Start,
@@ -27,17 +27,18 @@ enum Call {
     All,
 }
 
-/// How packing ended.
+/// The outcome of packing.
 #[derive(Clone, Copy, PartialEq, Eq)]
 enum End {
     Whole,
-    /// A write failed within this call, and so many octets are out, a front of the whole.
+    /// A write failed within this call. This many octets are written, and they are a prefix of the
+    /// packed form.
     Within(Call, u64),
-    /// In another way.
+    /// Any other outcome.
     Wrong,
 }
 
-/// A packer as a fault: the cause that a call has answered, what was written to, and how many octets are out.
+/// Returns a stopped packer as an error: the cause, the writer, and the number of octets written.
 fn stopped<W: Target>(packer: Packer<W>, cause: PackCause) -> StartFault<W> {
     let written = packer.written();
     StartFault {
@@ -47,7 +48,7 @@ fn stopped<W: Target>(packer: Packer<W>, cause: PackCause) -> StartFault<W> {
     }
 }
 
-/// Takes both lines of the worked story, up to the first call that is refused.
+/// Passes both lines of the sample story, up to the first call that fails.
 fn take_lines<W: Target>(packer: &mut Packer<W>) -> Result<(), (Call, PackCause)> {
     if let Err(cause) = packer.text(b"Rates stay.") {
         return Err((Call::FirstLine, cause));
@@ -61,10 +62,12 @@ fn take_lines<W: Target>(packer: &mut Packer<W>) -> Result<(), (Call, PackCause)
     }
 }
 
-/// The call within which a target fails that took so many octets, in subfiles of up to 9 octets.
+/// Returns the call within which a target fails that accepted `good` octets, in subfiles of up to
+/// 9 octets.
 ///
-/// Records 1, 2 and 7 have 182 octets, a full subfile has 14. The header has 25 octets, and so fills two subfiles; a third is
-/// full within the first line, a fourth before its end, a fifth within the last line.
+/// Records 1, 2 and 7 have 182 octets, a full subfile has 14. The header has 25 octets, and so
+/// fills two subfiles. A third is full within the first line, a fourth before its end, a fifth
+/// within the last line.
 fn call_after(good: usize) -> Call {
     if good < 182 + 2 * 14 {
         Call::Start
@@ -79,7 +82,7 @@ fn call_after(good: usize) -> Call {
     }
 }
 
-/// What is packed, how, and what comes of it.
+/// What is packed, how, and the expected packed form.
 #[derive(Clone, Copy)]
 struct Work<'w> {
     alloc: Global,
@@ -90,13 +93,13 @@ struct Work<'w> {
     whole: &'w [u8],
 }
 
-/// A target that takes `good` octets, one a call, and then fails.
+/// Creates a target that accepts `good` octets, one a call, and then fails.
 fn target(good: usize) -> TrialWriter<512> {
     TrialWriter::new(good as u64, DeviceTrouble::Failure)
 }
 
 impl Work<'_> {
-    /// How packing ended within a call.
+    /// Returns the outcome if a call failed.
     fn end_within(self, call: Call, fault: &StartFault<TrialWriter<512>>) -> End {
         let front = self.whole.get(..fault.written as usize);
         if fault.cause == PackCause::Write && front == Some(fault.writer.octets()) {
@@ -106,7 +109,7 @@ impl Work<'_> {
         }
     }
 
-    /// How it ended where no call failed.
+    /// Returns the outcome if no call failed.
     fn end_of(self, writer: &TrialWriter<512>) -> End {
         if writer.octets() == self.whole {
             End::Whole
@@ -115,7 +118,8 @@ impl Work<'_> {
         }
     }
 
-    /// Packs the worked story call by call, up to the first call that is refused, with a target that takes `good` octets.
+    /// Packs the sample story call by call, up to the first call that fails, with a target that
+    /// accepts `good` octets.
     fn call_by_call(self, good: usize) -> End {
         match Packer::start(self.alloc, self.story, self.head, self.plan, target(good)) {
             Ok(packer) => self.lines_and_end(packer),
@@ -123,7 +127,7 @@ impl Work<'_> {
         }
     }
 
-    /// Takes both lines with a packer that has begun, and finishes, up to the first call that is refused.
+    /// Passes both lines to a started packer, and finishes, up to the first call that fails.
     fn lines_and_end(self, mut packer: Packer<TrialWriter<512>>) -> End {
         match take_lines(&mut packer) {
             Ok(()) => self.finish(packer),
@@ -131,7 +135,7 @@ impl Work<'_> {
         }
     }
 
-    /// Finishes.
+    /// Finishes a packer, and returns the outcome.
     fn finish(self, packer: Packer<TrialWriter<512>>) -> End {
         match packer.finish(b"") {
             Ok(writer) => self.end_of(&writer),
@@ -139,7 +143,7 @@ impl Work<'_> {
         }
     }
 
-    /// Packs it at once.
+    /// Packs the sample story in one call.
     fn at_once(self, good: usize) -> End {
         let target = target(good);
         let (story, head, lines) = (self.story, self.head, self.lines);
@@ -149,7 +153,7 @@ impl Work<'_> {
         }
     }
 
-    /// Packs at once with a target that fails at each of its calls.
+    /// Packs in one call with targets that fail after each number of octets.
     fn expect_each_failure(self) -> Result<(), Trouble> {
         let count = self.whole.len();
         for good in 0..count {
@@ -159,7 +163,7 @@ impl Work<'_> {
         right_at(count, self.at_once(count) == End::Whole)
     }
 
-    /// Packs call by call with a target that fails at each of 271 calls.
+    /// Packs call by call with targets that fail after each number of octets, up to 271.
     fn expect_each_call(self) -> Result<(), Trouble> {
         right(self.whole.len() == 271)?;
         for good in 0..271usize {
@@ -169,7 +173,7 @@ impl Work<'_> {
         right_at(271, self.call_by_call(271) == End::Whole)
     }
 
-    /// Packs in one of the ways with targets that fail.
+    /// Packs in one of the two ways with targets that fail.
     fn expect_failures(self, way: Way) -> Result<(), Trouble> {
         match way {
             Way::CallByCall => self.expect_each_call(),
@@ -178,28 +182,28 @@ impl Work<'_> {
     }
 }
 
-/// How the worked story is packed.
+/// How the sample story is packed.
 #[derive(Clone, Copy)]
 enum Way {
     CallByCall,
     AtOnce,
 }
 
-/// The lines of the worked story.
+/// Returns the lines of the sample story.
 fn lines_of_story(alloc: Global) -> Result<Lines, Trouble> {
     let mut lines = Lines::new(alloc);
     right(takes_story(&mut lines))?;
     Ok(lines)
 }
 
-/// Whether lines take those of the worked story.
+/// Checks whether `Lines` accepts those of the sample story.
 fn takes_story(lines: &mut Lines) -> bool {
     lines.text(b"Rates stay.").is_ok()
         && lines.line_end().is_ok()
         && lines.text(b"No change.").is_ok()
 }
 
-/// Packs by a plan, in one of the ways, with targets that fail.
+/// Packs for a plan, in one of the two ways, with targets that fail.
 fn expect_failures(alloc: Global, plan: Plan, way: Way) -> Result<(), Trouble> {
     let whole = expected(alloc, plan)?;
     let work = Work {
@@ -226,7 +230,7 @@ fn a_whole_pack_fails_at_each_call(alloc: Global) -> Result<(), Trouble> {
     Ok(())
 }
 
-/// Tells the trials of a writer that fails within each call.
+/// Runs the tests of a writer that fails within each call.
 pub(crate) fn tell(rt: &impl Print, told: &mut Told, alloc: Global) -> io::Result<()> {
     let calls = each_call_fails_where_its_subfile_is_full(alloc);
     told.trial(rt, "each_call_fails_where_its_subfile_is_full", calls)?;

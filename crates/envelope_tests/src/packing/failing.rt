@@ -1,4 +1,4 @@
-//! A packer whose writer fails.
+//! Tests a packer whose writer fails.
 
 use crate::given::{head, plan};
 use crate::memory::records::built;
@@ -11,7 +11,7 @@ use std::io;
 use trials::{TrialWriter, Trouble as DeviceTrouble};
 use worked::{FIRST_LINE, LAST_LINE, STORY_FRONT, STORY_REST};
 
-/// Whether these octets begin the worked envelope.
+/// Checks whether octets are a prefix of the sample envelope.
 fn begins_the_story(octets: &[u8]) -> bool {
     if octets.len() <= STORY_FRONT.len() {
         STORY_FRONT.starts_with(octets)
@@ -20,22 +20,22 @@ fn begins_the_story(octets: &[u8]) -> bool {
     }
 }
 
-/// Whether this number of octets is out, and they begin the worked envelope.
+/// Checks whether a writer has `written` octets, and they are a prefix of the sample envelope.
 fn holds_front<const N: usize>(writer: &TrialWriter<N>, written: u64) -> bool {
     writer.octets().len() as u64 == written && begins_the_story(writer.octets())
 }
 
-/// How packing the worked envelope ended, and how many octets are out.
+/// The outcome of packing the sample envelope, and the number of octets written.
 #[derive(Clone, Copy, PartialEq, Eq)]
 enum End {
     Whole,
     InStart(u64),
     InFinish(u64),
-    /// In another way than is worked out.
+    /// Any other outcome.
     Wrong,
 }
 
-/// How it ended where a call of `start` failed.
+/// Returns the outcome if `start` failed.
 fn end_in_start<const N: usize>(fault: &StartFault<TrialWriter<N>>) -> End {
     if fault.cause == PackCause::Write && holds_front(&fault.writer, fault.written) {
         End::InStart(fault.written)
@@ -44,7 +44,7 @@ fn end_in_start<const N: usize>(fault: &StartFault<TrialWriter<N>>) -> End {
     }
 }
 
-/// Packs the worked envelope. After a failed write, later calls are asked too.
+/// Packs the sample envelope. After a failed write, later calls are made, too.
 fn pack_story<const N: usize>(alloc: Global, writer: TrialWriter<N>) -> Result<End, Trouble> {
     let story = built(alloc)?;
     let plan = plan(1024, Size::Known(50))?;
@@ -54,7 +54,7 @@ fn pack_story<const N: usize>(alloc: Global, writer: TrialWriter<N>) -> Result<E
     }
 }
 
-/// Whether a packer takes the lines.
+/// Checks whether a packer accepts the lines.
 fn takes_lines<const N: usize>(packer: &mut Packer<TrialWriter<N>>) -> bool {
     let answers = [
         packer.text(FIRST_LINE),
@@ -64,7 +64,7 @@ fn takes_lines<const N: usize>(packer: &mut Packer<TrialWriter<N>>) -> bool {
     answers == [Ok(()); 3]
 }
 
-/// How it ends with a packer that has begun.
+/// Returns the outcome with a started packer.
 fn end_of<const N: usize>(mut packer: Packer<TrialWriter<N>>) -> End {
     if takes_lines(&mut packer) {
         end_of_lines(packer)
@@ -73,7 +73,7 @@ fn end_of<const N: usize>(mut packer: Packer<TrialWriter<N>>) -> End {
     }
 }
 
-/// How it ends with a packer that has taken the lines.
+/// Returns the outcome with a packer that has accepted the lines.
 fn end_of_lines<const N: usize>(packer: Packer<TrialWriter<N>>) -> End {
     match packer.finish(b"") {
         Ok(writer) => end_of_writer(&writer),
@@ -81,7 +81,7 @@ fn end_of_lines<const N: usize>(packer: Packer<TrialWriter<N>>) -> End {
     }
 }
 
-/// How it ended where no call failed.
+/// Returns the outcome if no call failed.
 fn end_of_writer<const N: usize>(writer: &TrialWriter<N>) -> End {
     if holds_front(writer, 246) {
         End::Whole
@@ -90,13 +90,13 @@ fn end_of_writer<const N: usize>(writer: &TrialWriter<N>) -> End {
     }
 }
 
-/// Whether a write has failed, and later calls fail too.
+/// Checks whether a write failed, and later calls fail, too.
 fn fails_on<const N: usize>(packer: &mut Packer<TrialWriter<N>>, cause: PackCause) -> bool {
     let answers = [packer.text(b""), packer.text(b"\n"), packer.line_end()];
     cause == PackCause::Write && answers == [Err(PackCause::Failed); 3]
 }
 
-/// How it ended where `finish` failed: later calls fail too.
+/// Returns the outcome if `finish` failed. Later calls must fail, too.
 fn end_in_finish<const N: usize>(mut packer: Packer<TrialWriter<N>>, cause: PackCause) -> End {
     let written = packer.written();
     if fails_on(&mut packer, cause) {
@@ -106,7 +106,8 @@ fn end_in_finish<const N: usize>(mut packer: Packer<TrialWriter<N>>, cause: Pack
     }
 }
 
-/// How it ended where so many octets were out before the later calls, of which the last is another `finish`.
+/// Returns the outcome if `written` octets were written before the later calls. The last of these
+/// is another `finish`.
 fn end_after<const N: usize>(packer: Packer<TrialWriter<N>>, written: u64) -> End {
     match packer.finish(&[b'x'; 65]) {
         Ok(_) => End::Wrong,
@@ -117,7 +118,7 @@ fn end_after<const N: usize>(packer: Packer<TrialWriter<N>>, written: u64) -> En
     }
 }
 
-/// How it ended with this cause: nothing was written by the later calls.
+/// Returns the outcome for the cause of the last call. The later calls must write nothing.
 fn end_of_failed<const N: usize>(
     cause: PackCause,
     counts: [u64; 2],
@@ -131,7 +132,7 @@ fn end_of_failed<const N: usize>(
     }
 }
 
-/// How packing ends where a write fails after so many good calls, each of one octet.
+/// Returns the expected outcome if a write fails after `good` successful calls, each of one octet.
 fn end_after_calls(good: usize) -> End {
     if good < 182 {
         End::InStart(good as u64)
@@ -162,7 +163,7 @@ fn a_full_writer_takes_nothing(alloc: Global) -> Result<(), Trouble> {
     right_at(246, pack_story(alloc, all)? == End::Whole)
 }
 
-/// Tells the trials of a packer whose writer fails.
+/// Runs the tests of a packer whose writer fails.
 pub(crate) fn tell(rt: &impl Print, told: &mut Told, alloc: Global) -> io::Result<()> {
     let calls = writes_fail_call_by_call(alloc);
     told.trial(rt, "writes_fail_call_by_call", calls)?;

@@ -1,4 +1,5 @@
-//! A packer of an object of more than 4,294,967,295 octets, into a writer that counts octets and keeps none.
+//! Tests a packer of an object of more than 4,294,967,295 octets, into a writer that only counts
+//! octets.
 
 ghost use Rattle.std.specs.Prelude.{None};
 ghost use Rattle.iim_dataset.specs.States.Devices.{unbroken};
@@ -28,12 +29,12 @@ impl Target for Count {
     }
 }
 
-/// So many octets of the piece.
+/// Returns the first `count` octets of a chunk.
 fn front(piece: &[u8], count: usize) -> &[u8] {
     piece.get(..count).unwrap_or(&[])
 }
 
-/// Whether a packer takes so many pieces.
+/// Checks whether a packer accepts a chunk `count` times.
 fn takes_pieces(packer: &mut Packer<Count>, piece: &[u8], count: usize) -> bool {
     for _ in 0..count {
         if packer.text(piece).is_err() {
@@ -43,7 +44,7 @@ fn takes_pieces(packer: &mut Packer<Count>, piece: &[u8], count: usize) -> bool 
     true
 }
 
-/// Whether a packer takes 65,535 pieces and 65,513 octets more, and then has no room.
+/// Checks whether a packer accepts exactly 65,535 chunks and 65,513 more octets.
 fn is_filled(packer: &mut Packer<Count>, piece: &[u8]) -> bool {
     let taken = takes_pieces(packer, piece, 65_535) && packer.written() == 4_295_491_761;
     let answers = [
@@ -55,7 +56,7 @@ fn is_filled(packer: &mut Packer<Count>, piece: &[u8]) -> bool {
     taken && answers == [past, Ok(()), past]
 }
 
-/// How many octets are out at the end.
+/// Finishes a packer, and returns the number of octets written.
 fn count_of(packer: Packer<Count>) -> Option<u64> {
     let Ok(writer) = packer.finish(b"") else {
         return None;
@@ -63,7 +64,7 @@ fn count_of(packer: Packer<Count>) -> Option<u64> {
     Some(writer.octets)
 }
 
-/// Expects a packer that has begun to be filled, and so many octets of all.
+/// Checks that a started packer can be filled, and the number of octets of the packed form.
 fn expect_filled(mut packer: Packer<Count>, piece: &[u8]) -> Result<(), Trouble> {
     let is_filled = is_filled(&mut packer, piece);
     let count = count_of(packer);
@@ -71,7 +72,8 @@ fn expect_filled(mut packer: Packer<Count>, piece: &[u8]) -> Result<(), Trouble>
     right(count == Some(4_295_557_328))
 }
 
-/// Expects the packed octets of an object of 4,294,967,300 octets, whose text comes in pieces.
+/// Checks the length of the packed form of an object of 4,294,967,300 octets, whose text is passed
+/// in chunks.
 fn expect_great(alloc: Global, piece: &[u8]) -> Result<(), Trouble> {
     let plan = plan(65_536, Size::Known(4_294_967_300))?;
     let story = built(alloc)?;
@@ -81,14 +83,15 @@ fn expect_great(alloc: Global, piece: &[u8]) -> Result<(), Trouble> {
     }
 }
 
-/// The header has 25 octets and the least ending 2. After 65,535 pieces the text may have 65,513 more. Records 1 and 2 have 158 octets,
-/// record 7 has 28, since 7:90 has eight octets of data; the tag of a full subfile has 9; the last subfile has 4 octets.
+/// The header has 25 octets and the shortest trailer 2. After 65,535 chunks the text may have
+/// 65,513 more octets. Records 1 and 2 have 158 octets, record 7 has 28, since 7:90 has eight
+/// octets of data. The tag of a full subfile has 9 octets, and the last subfile has 4.
 fn an_object_above_four_octets_of_size(alloc: Global) -> Result<(), Trouble> {
     let piece = vec![in alloc; b'a'; 65_536]?;
     expect_great(alloc, &piece)
 }
 
-/// Tells the trial.
+/// Runs the test.
 pub(crate) fn tell(rt: &impl Print, told: &mut Told, alloc: Global) -> io::Result<()> {
     let came = an_object_above_four_octets_of_size(alloc);
     told.trial(rt, "an_object_above_four_octets_of_size", came)

@@ -1,4 +1,4 @@
-//! The calls that a sink gets.
+//! Tests the calls that a sink receives.
 
 use super::refusal;
 use crate::given::{LIMITS, joined};
@@ -12,7 +12,8 @@ use trials::TrialSink;
 use wire_story::{Lines, StorySink};
 use worked::{SMALLEST, STORY};
 
-/// How many calls came, and what the first four of them were: how many octets of text, or 0 for the end of a line.
+/// The number of calls, and the first four of them: each is a number of octets of text, or 0 for
+/// the end of a line.
 #[derive(Clone, Copy)]
 struct Calls {
     count: u64,
@@ -64,7 +65,7 @@ fn two_lines(alloc: Global) -> Result<(), Trouble> {
     right(calls.first == [11, 0, 10, 0])
 }
 
-/// An envelope whose story is one line of 32,754 octets.
+/// Returns an envelope whose story is one line of 32,754 octets.
 fn long_story(alloc: Global) -> Result<Vec<u8>, AllocError> {
     let line = vec![in alloc; b'a'; 32_754]?;
     let smallest = *SMALLEST;
@@ -79,7 +80,7 @@ fn long_story(alloc: Global) -> Result<Vec<u8>, AllocError> {
     joined(alloc, &pieces)
 }
 
-/// What a new unpacker answers to that envelope.
+/// Feeds that envelope to a new unpacker.
 fn fed_long(alloc: Global, calls: &mut Calls) -> Result<Result<Progress, Refusal>, AllocError> {
     let octets = long_story(alloc)?;
     let mut unpacker = Unpacker::new(alloc, LIMITS)?;
@@ -94,7 +95,7 @@ fn one_long_line(alloc: Global) -> Result<(), Trouble> {
     right(calls.first == [32_754, 0, 0, 0])
 }
 
-/// The lines, with an LF after each.
+/// Returns the lines, with an LF after each.
 fn text_of(alloc: Global, lines: &Lines) -> Result<Vec<u8>, AllocError> {
     let mut text = Vec::new(alloc);
     for line in lines.iter() {
@@ -104,7 +105,8 @@ fn text_of(alloc: Global, lines: &Lines) -> Result<Vec<u8>, AllocError> {
     Ok(text)
 }
 
-/// Expects a new unpacker to stop at an octet of the worked story, and to refuse all from then on.
+/// Checks that a new unpacker stops at an octet of the sample story, and rejects all octets from
+/// then on.
 fn expect_stop(alloc: Global, sink: &mut TrialSink<Lines>, octet: usize) -> Result<(), Trouble> {
     let stopped = refusal(Layer::Outside, (8, 10), octet, Cause::SINK);
     let failed = refusal(Layer::Outside, (0, 0), octet, Cause::Failed);
@@ -113,7 +115,7 @@ fn expect_stop(alloc: Global, sink: &mut TrialSink<Lines>, octet: usize) -> Resu
     right(sink.failures() == 1)
 }
 
-/// What a new unpacker answers to the worked story, and to the same again.
+/// Feeds the sample story to a new unpacker twice.
 fn fed_twice(
     alloc: Global,
     sink: &mut TrialSink<Lines>,
@@ -123,7 +125,8 @@ fn fed_twice(
     Ok([first, unpacker.feed(STORY, sink)])
 }
 
-/// What a sink has taken that stops after `good` calls and `front` octets of a run, where the story stops at an octet by it.
+/// Returns the text that a sink consumed before it stopped, after `good` calls and `front` octets
+/// of a slice. The unpacker must stop at `octet`.
 fn text_before(
     alloc: Global,
     (good, front): (u64, usize),
@@ -134,7 +137,8 @@ fn text_before(
     Ok(text_of(alloc, &sink.into_sink())?)
 }
 
-/// At the first octet of the text, within a line, at the end of one, and before and within the next.
+/// The sinks stop at the first octet of the text, within a line, at the end of a line, and before
+/// and within the next.
 fn sinks_that_stop(alloc: Global) -> Result<(), Trouble> {
     let rows: [((u64, usize), usize, &[u8]); 5] = [
         ((0, 0), 212, b"\n"),
@@ -150,7 +154,7 @@ fn sinks_that_stop(alloc: Global) -> Result<(), Trouble> {
     Ok(())
 }
 
-/// Tells the trials of sinks.
+/// Runs the tests of sinks.
 pub(crate) fn tell(rt: &impl Print, told: &mut Told, alloc: Global) -> io::Result<()> {
     told.trial(rt, "two_lines", two_lines(alloc))?;
     told.trial(rt, "one_long_line", one_long_line(alloc))?;

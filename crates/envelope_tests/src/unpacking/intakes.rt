@@ -1,4 +1,4 @@
-//! Envelopes from a source of one octet a call, which fails.
+//! Tests envelopes from a reader of one octet a call, which fails.
 
 use super::refusal;
 use crate::given::LIMITS;
@@ -11,7 +11,8 @@ use trials::{TrialReader, Trouble as DeviceTrouble};
 use wire_story::Discard;
 use worked::{SMALLEST, STORY};
 
-/// What an intake answers to a new unpacker, the object's octets of an envelope or why there is none, and how many octets were used.
+/// Reads the next envelope with a new unpacker. Returns the length of its object, and the number
+/// of octets consumed.
 fn next(
     alloc: Global,
     intake: &mut Intake<TrialReader<'_>>,
@@ -21,7 +22,7 @@ fn next(
     Ok((answer, intake.octets()))
 }
 
-/// The octets of the object.
+/// Returns the number of octets of the object.
 fn size_of(answer: Result<Option<Unpacked>, IntakeFault>) -> Result<Option<u64>, IntakeFault> {
     match answer {
         Ok(Some(got)) => Ok(Some(got.sizes.total)),
@@ -30,7 +31,7 @@ fn size_of(answer: Result<Option<Unpacked>, IntakeFault>) -> Result<Option<u64>,
     }
 }
 
-/// Expects an intake's fault at the first envelope, and the same octet from then on.
+/// Checks that an intake returns an error at the first envelope, and the same octet from then on.
 fn expect_faults(
     alloc: Global,
     intake: &mut Intake<TrialReader<'_>>,
@@ -45,7 +46,7 @@ fn expect_faults(
     Ok(())
 }
 
-/// Expects that of a reader of these octets, with trouble after `good` calls.
+/// Checks that for a reader of these octets, with trouble after `good` calls.
 fn expect_fault(
     alloc: Global,
     octets: &[u8],
@@ -57,7 +58,7 @@ fn expect_fault(
     expect_faults(alloc, &mut intake, fault, good)
 }
 
-/// What an intake of the smallest envelope answers after fewer interruptions than are a fault.
+/// Reads the smallest envelope with fewer interruptions than are an error.
 fn patient(
     alloc: Global,
     good: usize,
@@ -75,7 +76,8 @@ fn a_reader_that_fails_at_each_call(alloc: Global) -> Result<(), Trouble> {
     Ok(())
 }
 
-/// Expects a failure and a million interruptions after so many good calls to be faults, and fewer interruptions to be none.
+/// Checks that a failure and a million interruptions after `good` successful calls are errors, and
+/// fewer interruptions are not.
 fn expect_troubles(alloc: Global, good: usize) -> Result<(), Trouble> {
     let faults = [
         (DeviceTrouble::Failure, IntakeFault::Read),
@@ -98,7 +100,7 @@ fn a_failing_reader(alloc: Global) -> Result<(), Trouble> {
     Ok(())
 }
 
-/// Tells the trials of intakes.
+/// Runs the tests of intakes.
 pub(crate) fn tell(rt: &impl Print, told: &mut Told, alloc: Global) -> io::Result<()> {
     let each = a_reader_that_fails_at_each_call(alloc);
     told.trial(rt, "a_reader_that_fails_at_each_call", each)?;
