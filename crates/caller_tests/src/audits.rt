@@ -12,7 +12,7 @@ use iim_unpack::Intake;
 use jiff::Timestamp;
 use std::alloc::Global;
 
-/// The text of the report of an input's envelopes, at the instant `now`.
+/// Returns the text of the report of an input's envelopes, at the instant `now`.
 pub(crate) fn report_of<R: Source>(
     alloc: Global,
     intake: &mut Intake<R>,

@@ -5,7 +5,7 @@ ghost use Rattle.std.specs.Io.KnownBytes.{Consumes, Appends};
 
 use iim_dataset::{BLOCK, IoFault, Source, Target, put, take};
 
-/// Passes on what one read gives, a block at most, and answers how many octets.
+/// Copies the octets of one read, at most a block. Returns their number.
 pub fn pass_on<R: Source, W: Target>(from: &mut R, to: &mut W) -> Result<usize, IoFault>
     ensures { IfOk result (λ count. (octets : List ℕ) × (length octets ≡ count)
         × Consumes (R.state from.old).octets (R.state from.new).octets octets

@@ -1,6 +1,8 @@
-//! Callers of the libraries for which no example stands: one module for each, which the library's page, `CALLING.md`, shows.
+//! Callers of the libraries that no example uses: one module for each, which the library's page
+//! `CALLING.md` shows.
 //!
-//! The caller that names a type of `jiff` stands in a private module: a crate whose public items name one is built over all of `jiff`.
+//! The caller with a type of `jiff` is in a private module: a crate with such a type in its public
+//! items is built over all of `jiff`.
 #![tactic(auto)]
 
 mod audits;

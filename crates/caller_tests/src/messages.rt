@@ -6,7 +6,8 @@ ghost use Rattle.wire_message.specs.Format.Messages.{packed_head, Header, IsHead
 use arrayvec::ArrayVec;
 use wire_message::{MessageHead, head_text};
 
-/// The octets from SOH to STX of an urgent message, or None where the source or the number is none.
+/// Returns the octets from SOH to STX of an urgent message, or `None` if the source or the number
+/// is invalid.
 pub fn urgent_head(source: &[u8], number: &[u8]) -> Option<ArrayVec<u8, 128>>
     ensures { IfSome result (λ octets. (head : Header) × IsHeader head × (head.source ≡ source.now)
         × (head.number ≡ number.now) × (octets.items ≡ packed_head head)) }

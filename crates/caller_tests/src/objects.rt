@@ -6,7 +6,8 @@ ghost use Rattle.iim_object.specs.declared.size.Size.TheVariants.{Known};
 
 use iim_object::{Plan, Size};
 
-/// A plan for an object of so many octets in subfiles of 65,536 octets, or None where it would need too many of them.
+/// Returns a plan for an object of `octets` octets in subfiles of 65,536 octets, or `None` if it
+/// would need too many of them.
 pub fn known_plan(octets: u64) -> Option<Plan>
     ensures exactly { IsSome result ↔ IsTrue (is_plan 65_536 (Known octets)) }
     ensures size { IfSome result (λ plan. plan.size ≡ Known octets) }

@@ -13,7 +13,7 @@ use iim_pack::Packer;
 use std::alloc::Global;
 use wire_message::MessageHead;
 
-/// Packs an envelope whose story has one line, without a trailer, and hands back what was written to.
+/// Packs an envelope whose story has one line, without a trailer. Returns the writer.
 pub fn pack_line<W: Target + Drop>(
     alloc: Global,
     envelope: &Envelope,

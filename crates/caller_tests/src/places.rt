@@ -7,7 +7,8 @@ ghost use Rattle.iim_places.specs.States.Restored.{IsTicketAt};
 use iim_places::laws::place_laws;
 use iim_places::split_ticket;
 
-/// How many octets of the object had come where a ticket was made, or None where the octets are no ticket.
+/// Returns the number of octets of the object that were received before a ticket was saved, or
+/// `None` if the octets are not a ticket.
 pub fn octets_of_object(ticket: &[u8]) -> Option<u64>
     ensures { IfSome result (λ taken. (place : Place) → IsTicketAt ticket.now place → taken ≡ place.taken) }
 {

@@ -8,7 +8,8 @@ use iim_fields::Limits;
 use iim_round_trip::{Story, unpack_story};
 use std::alloc::Global;
 
-/// What was packed, if the pieces begin with that: its envelope, lines and sizes, and how many octets it has.
+/// Returns the envelope that was packed, with its lines and sizes and its length, if the chunks
+/// begin with it.
 pub fn unpacked(alloc: Global, limits: Limits, pieces: &[&[u8]]) -> Option<Story>
     ensures { IfSome result (ComesBack limits (stream_of pieces.now)) }
 {

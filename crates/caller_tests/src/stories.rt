@@ -6,7 +6,7 @@ ghost use Rattle.wire_story.specs.Format.Texts.{IsText, words, capped};
 use wire_story::laws::story_laws;
 use wire_story::{TextReader, WordCount};
 
-/// How many words the lines of a text have, or None where the octets are no text.
+/// Returns the number of words in the lines of a text, or `None` if the octets are not a text.
 pub fn count_words(text: &[u8]) -> Option<u64>
     ensures { IfSome result (λ count. (lines : List (List ℕ)) × IsText text.now lines
         × (count ≡ capped (words lines))) }

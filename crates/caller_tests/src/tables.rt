@@ -5,7 +5,8 @@ ghost use Rattle.iim_tables.specs.Format.Rows.{Meets};
 
 use iim_tables::{admits, row};
 
-/// Whether octets are good data of the dataset with these numbers: it has a row, and they are as the row says.
+/// Checks whether octets are valid data of the dataset with these numbers: it has a row, and the
+/// octets are as that requires.
 pub fn is_good(rec: u8, set: u8, octets: &[u8]) -> bool
     ensures { IsTrue result ↔ Meets rec set octets.now }
 {
