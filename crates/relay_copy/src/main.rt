@@ -1,4 +1,4 @@
-//! Relays copy: sends each envelope of standard input on to standard output, with one dataset more.
+//! Relays copy: sends each envelope of standard input to standard output, with one more dataset.
 #![tactic(auto)]
 
 ghost use Rattle.std.specs.Prelude.{◌≡◌, ◌++◌, ◌∷◌, [], None, IfOk};
@@ -14,16 +14,18 @@ use iim_unpack::{Intake, Unpacked, Unpacker};
 use std::alloc::Global;
 use wire_story::Lines;
 
-/// The most that records 1 and 2 of a received envelope may have.
+/// The limits on records 1 and 2 of a received envelope.
 const RECEIVED: Limits = Limits::WIRE;
 
-/// The most that they may have of one that is sent: there is room for the dataset that is added.
+/// The limits on records 1 and 2 of an envelope that is sent, with the capacity for the added
+/// dataset.
 const SENT: Limits = Limits {
     octets: 65_536 + 32,
     fields: 512 + 1,
 };
 
-/// The dataset that is added: 2:122 Writer/Editor, which may occur again. It tells which desk has sent the copy on.
+/// The added dataset: 2:122 Writer/Editor, which may be repeated. It states which desk sent the
+/// copy.
 const DESK: (u8, u8, &[u8]) = (2, 122, b"RELAY");
 
 fn main(rt: HostRuntime) -> Result<()> {
@@ -31,7 +33,7 @@ fn main(rt: HostRuntime) -> Result<()> {
     relay(rt.alloc(), &mut intake, FromWrite::new(rt.stdout()))
 }
 
-/// Relays each envelope. It succeeds only at the end of the input, and where nothing of it was refused.
+/// Relays each envelope. It succeeds only at the end of the input, and if none of it was rejected.
 fn relay<R: Source, W: Target + Drop>(
     alloc: Global,
     intake: &mut Intake<R>,
@@ -47,14 +49,14 @@ fn relay<R: Source, W: Target + Drop>(
         match intake.next_envelope(unpacker, &mut lines) {
             Ok(Some(unpacked)) => output = send(alloc, &unpacked, &lines, output)?,
             Ok(None) => return Ok(()),
-            // What was received before it is sent; nothing of this envelope is.
+            // The envelopes before it were sent. Nothing of this envelope is.
             Err(fault) => bail!("envelope {number}: {fault}"),
         }
     }
     bail!("too many envelopes")
 }
 
-/// Sends an envelope with one dataset more. Its message goes on as it came, in subfiles of 1,024 octets.
+/// Sends an envelope with one more dataset. Its message is unchanged, in subfiles of 1,024 octets.
 fn send<W: Target + Drop>(
     alloc: Global,
     unpacked: &Unpacked,
@@ -72,7 +74,7 @@ fn send<W: Target + Drop>(
     }
 }
 
-/// The envelope with one dataset more, at the end of record 2.
+/// Returns the envelope with one more dataset at the end of record 2.
 fn with_desk(alloc: Global, envelope: &Envelope) -> Result<Envelope>
     ensures { IfOk result (λ sent. sent ≡ envelope.now ++ record { rec = DESK.0; set = DESK.1; octets = DESK.2.now }
         ∷ []) }
