@@ -20,7 +20,7 @@ pub fn run(rt: &HostRuntime) -> Result<()> {
     print_all(rt.alloc(), &mut intake, &mut rt.stdout())
 }
 
-/// Prints each envelope. It succeeds only at the end of the input, and where nothing of it was refused.
+/// Prints each envelope. It succeeds only at the end of the input, and if none of it was rejected.
 fn print_all<R: Source, W: Write>(
     alloc: Global,
     intake: &mut Intake<R>,
@@ -41,7 +41,8 @@ fn print_all<R: Source, W: Write>(
     bail!("too many envelopes")
 }
 
-/// Prints an envelope: its number in the input, its datasets, the parts of its message, and the lines of its story.
+/// Prints an envelope: its number in the input, its datasets, the parts of its message, and the
+/// lines of its story.
 fn print<W: Write>(
     alloc: Global,
     output: &mut W,
@@ -62,7 +63,7 @@ fn write_line<W: Write>(alloc: Global, output: &mut W, value: &Value) -> Result<
     Ok(writeln!(output, "{text}")?)
 }
 
-/// Puts in the datasets and the lines of the story.
+/// Adds the datasets and the lines of the story.
 fn put_lists(
     alloc: Global,
     members: &mut Map<String, Value>,
@@ -73,7 +74,7 @@ fn put_lists(
     Ok(put(members, alloc, "story", story_of(alloc, lines)?)?)
 }
 
-/// Puts in the parts of the header, and the trailer.
+/// Adds the parts of the header, and the trailer.
 fn put_texts(alloc: Global, members: &mut Map<String, Value>, unpacked: &Unpacked) -> Result<()> {
     let head = &unpacked.head;
     let parts = [
@@ -91,7 +92,7 @@ fn put_texts(alloc: Global, members: &mut Map<String, Value>, unpacked: &Unpacke
     Ok(())
 }
 
-/// Each dataset, in order.
+/// Returns the list of datasets, in order.
 fn fields_of(alloc: Global, envelope: &Envelope) -> Result<Value> {
     let mut fields = Vec::new(alloc);
     for (rec, set, octets) in envelope.fields() {
@@ -100,14 +101,14 @@ fn fields_of(alloc: Global, envelope: &Envelope) -> Result<Value> {
     Ok(Value::Array(fields))
 }
 
-/// A dataset as a list of two texts: its name and its data.
+/// Returns a dataset as a list of two texts: its name and its data.
 fn field_of(alloc: Global, name: DatasetName, octets: &[u8]) -> Result<Value> {
     let name = format!(in alloc; "{name}")?;
     let data = text_of(alloc, octets)?;
     Ok(json!(in alloc; [name, data])?)
 }
 
-/// Each line of a story.
+/// Returns the list of the lines of a story.
 fn story_of(alloc: Global, lines: &Lines) -> Result<Value> {
     let mut story = Vec::new(alloc);
     for line in lines.iter() {
@@ -116,7 +117,8 @@ fn story_of(alloc: Global, lines: &Lines) -> Result<Value> {
     Ok(Value::Array(story))
 }
 
-/// Octets as `show` prints them: no character set is known, so those other than 20 to 7E, and the backslash, are `\x` and two digits.
+/// Escapes octets as `show` prints them. The character set is unknown, so octets other than 20 to
+/// 7E, and the backslash, are written as `\x` and two digits.
 fn text_of(alloc: Global, octets: &[u8]) -> Result<String>
     ensures { IfOk result (λ text. string_bytes text ≡ shown octets.now) }
 {

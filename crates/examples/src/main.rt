@@ -1,4 +1,5 @@
-//! Three examples in one program. The first word of the command line names the one that runs: `json`, `send` or `resume`.
+//! Three examples in one program. The first argument names the one to run: `json`, `send` or
+//! `resume`.
 #![tactic(auto)]
 
 mod json;

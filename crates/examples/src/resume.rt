@@ -1,4 +1,5 @@
-//! Receives an envelope in parts: each run continues at the place that the run before has kept in a file.
+//! Receives an envelope in parts: each run continues in the state that the previous run saved in a
+//! file.
 
 ghost use Rattle.std.specs.Prelude.{◌↔◌, IsTrue, IfOk};
 ghost use Rattle.iim_unpack.specs.States.Unpacking.{IsDone};
@@ -12,14 +13,15 @@ use std::fs;
 use std::process::ExitCode;
 use wire_story::{LineWriter, StorySink};
 
-/// The most that records 1 and 2 of an envelope may have, the same in each run.
+/// The limits on records 1 and 2 of an envelope, the same in each run.
 const LIMITS: Limits = Limits::WIRE;
 
-/// Receives a part. Where it is refused or something fails, the file stays as it was, and the part can be sent again: the text that came
-/// of it before is out already, and then comes once more.
+/// Receives a part. If it is rejected or something fails, the file is unchanged, and the part can
+/// be sent again. The text in it that was already written is then written a second time.
 pub fn run(rt: &HostRuntime, name: &str) -> Result<ExitCode> {
     let mut unpacker = load(rt, name)?;
-    // A sink has no place of its own: lines are written as they come, joined by LF, and the next run continues a begun one.
+    // A sink has no saved state: lines are written while they are read, joined by LF, and the next
+    // run continues a partial line.
     let mut lines = LineWriter::new(FromWrite::new(rt.stdout()));
     if !receive(&mut unpacker, &mut FromRead::new(rt.stdin()), &mut lines)? {
         store(rt, name, &unpacker)?;
@@ -32,7 +34,8 @@ pub fn run(rt: &HostRuntime, name: &str) -> Result<ExitCode> {
     Ok(ExitCode::SUCCESS)
 }
 
-/// The unpacker at the place that the file keeps: how many octets have come, in eight octets, and the ticket.
+/// Returns the unpacker in the saved state: the file has the number of octets received, in eight
+/// octets, and the ticket.
 fn load(rt: &HostRuntime, name: &str) -> Result<Unpacker> {
     if !fs::exists(rt, name)? {
         return Ok(Unpacker::new(rt.alloc(), LIMITS)?);
@@ -43,7 +46,8 @@ fn load(rt: &HostRuntime, name: &str) -> Result<Unpacker> {
     Ok(Unpacker::restore(rt.alloc(), LIMITS, &place[8..], octets)?)
 }
 
-/// Keeps the place. A new file takes the name at once: if this is cut off, the old place is still there.
+/// Saves the state. A new file replaces the old one atomically: if this is interrupted, the old
+/// state is still there.
 fn store(rt: &HostRuntime, name: &str, unpacker: &Unpacker) -> Result<()> {
     let mut place = Vec::from_slice(rt.alloc(), &unpacker.octets().to_be_bytes())?;
     place.extend_from_slice(&unpacker.save(rt.alloc())?)?;
@@ -52,7 +56,7 @@ fn store(rt: &HostRuntime, name: &str, unpacker: &Unpacker) -> Result<()> {
     Ok(fs::rename(rt, new.as_str(), name)?)
 }
 
-/// Feeds the input to its end, and answers whether the envelope has ended.
+/// Feeds the input to its end. Returns whether the envelope is complete.
 fn receive<R: Source, S: StorySink>(to: &mut Unpacker, from: &mut R, lines: &mut S) -> Result<bool>
     ensures { IfOk result (λ ended. IsTrue ended ↔ IsDone to.new) }
 {

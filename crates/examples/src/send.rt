@@ -1,5 +1,5 @@
-//! Sends copy: builds an envelope from a few values, and packs it to standard output with the lines of standard input, which are read as
-//! UTF-8 and have to be that.
+//! Sends copy: builds an envelope from a few values, and packs it to standard output with the
+//! lines of standard input, which must be UTF-8.
 
 ghost use Rattle.std.specs.Prelude.{◌≡◌, map, IfOk};
 
@@ -11,7 +11,8 @@ use iim_pack::Packer;
 use std::alloc::Global;
 use wire_message::MessageHead;
 
-/// The most that the envelope's datasets may have together. Memory for just this is taken before the first is added.
+/// The limits on the envelope's datasets. Exactly this much memory is allocated before the first
+/// is added.
 const LIMITS: Limits = Limits {
     octets: 1_024,
     fields: 16,
@@ -23,7 +24,7 @@ const FIELDS: [(u8, u8, &[u8]); 9] = [
     (1, 0, b"\0\x04"),
     (1, 20, b"\0\x02"),
     (1, 22, b"\0\x01"),
-    // Service Identifier, Envelope Number and Date Sent, by which the envelope is known.
+    // Service Identifier, Envelope Number and Date Sent, which identify the envelope.
     (1, 30, b"TST"),
     (1, 40, b"00000002"),
     (1, 70, b"20240301"),
@@ -39,7 +40,7 @@ pub fn run(rt: &HostRuntime) -> Result<()> {
     // Source, number, priority, category, announced words and info of the message.
     let head = MessageHead::new(b"TST", b"0007", b"4", b"ECO", b"4", b"rates");
     let head = head.context("bad header")?;
-    // Subfiles of 1,024 octets. How long the story will be isn't known yet.
+    // Subfiles of 1,024 octets. The length of the story is not known yet.
     let plan = Plan::new(1_024, Size::Unknown(None)).context("bad plan")?;
     send(rt, &envelope, &head, plan)
 }
@@ -50,12 +51,13 @@ fn send(rt: &HostRuntime, envelope: &Envelope, head: &MessageHead, plan: Plan) -
     let started = Packer::start(rt.alloc(), envelope, head, plan, output);
     let mut packer = started.map_err(|fault| fault.cause)?;
     pack_lines(rt, &mut packer)?;
-    // The message ends without a trailer. After an error, what is out is no envelope.
+    // The message ends without a trailer. After an error, what was written is not an envelope.
     packer.finish(b"").map_err(|(_, cause)| cause)?;
     Ok(())
 }
 
-/// Builds the envelope. Each dataset is checked as it is added, and at the end that none is missing.
+/// Builds the envelope. Each dataset is checked when it is added. At the end it is checked that
+/// none is missing.
 fn build(alloc: Global) -> Result<Envelope>
     ensures { IfOk result (λ envelope. envelope ≡ map (λ f. record { rec = f.0; set = f.1; octets = f.2.now }) FIELDS) }
 {
@@ -66,7 +68,8 @@ fn build(alloc: Global) -> Result<Envelope>
     Ok(builder.finish().map_err(|(_, fault)| fault)?)
 }
 
-/// Packs the lines of the input as they come, with a line end between each two. A packer holds one subfile at most.
+/// Packs the lines of the input while they are read, with a line end between two lines. A packer
+/// buffers at most one subfile.
 fn pack_lines<R: Input + Alloc, W: Target>(rt: &R, packer: &mut Packer<W>) -> Result<()> {
     for (at, line) in rt.lines(rt.alloc()).enumerate() {
         if at > 0 {
