@@ -173,7 +173,7 @@ octet_on h left b o some = elim (cases_lt 1 left) [
   | inr last ↦ (DatasetEnd ∷ [], between, data_end h left (b ∷ []) (o, tt) (omega (arith, last, some)))
 ]
 
--- ---- Stops of the sink.
+-- ---- Where the sink stops.
 
 -- The octets before octet k reach a state, and from there octet k completes events, of which the
 -- sink rejected one.

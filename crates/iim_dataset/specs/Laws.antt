@@ -42,7 +42,8 @@ CompletesNow octets next events DatasetEnd = CompletesEnd octets next events
 
 -- ---- Several calls of one reader or writer.
 
--- Reads gave exactly these octets, and then one failed or was interrupted a million times in a row.
+-- The reads gave exactly these octets, and then one failed or was interrupted a million times in a
+-- row.
 abbrev pub BrokeAfterReads : Device → Device → List ℕ → Type 0
 BrokeAfterReads old new octets = Consumes old.octets new.octets octets × Broke old new
 
