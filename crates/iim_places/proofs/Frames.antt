@@ -1,5 +1,5 @@
--- Framed octets and envelopes: none are empty, none are prefixes of others, and they have one
--- value.
+-- Octets framed as an envelope, and envelopes: none are empty, none are prefixes of others, and
+-- they have one value.
 use Rattle.std.proofs.Common.{◌≡◌, ℕ, true, false, List, [], ◌∷◌, ◌++◌, ap, sym, subst, ◌∙◌, inl, inr}
 use Rattle.iim_places.proofs.Words.{append-nil, Dataset, SpellsStream, count_octets, NoDatasetBeginsAnother, compare, AreSections, NoSectionsBeginOthers, NoEnvelopeIsEmpty, of_record, kept, RecordsAreByNumber, AreSized, SizesAreDetermined, MessagesHaveOneReading, Value, Admits, object_of, AdmittedOctetsHaveOneValue, NoAdmittedOctetsBeginOthers, AdmittedOctetsAreFramed}
 use Rattle.iim_places.proofs.Objects.{are_records}

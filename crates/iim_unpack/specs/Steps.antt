@@ -1,4 +1,4 @@
--- Steps of an intake and of an unpacker, and the ticket of the readers' states. (Private to
+-- How an intake and an unpacker proceed, and the ticket of the readers' states. (Private to
 -- proofs.)
 use Rattle.std.specs.Prelude.{◌≡◌, ℕ, ◌≤◌, ◌⊎◌, List, [], length, take, ◌-◌, ◌==◌, if◌then◌else◌, sum, Option, true, false, slice_index, Some, None}
 use Rattle.wire_story.specs.Format.Texts as story

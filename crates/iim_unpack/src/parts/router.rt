@@ -1,4 +1,4 @@
-//! Routes datasets to the parts of an unpacker.
+//! Passes datasets to the parts of an unpacker.
 
 ghost use Rattle.std.specs.Prelude.{refl};
 ghost use Rattle.std.proofs.Common.{◌∙◌};
