@@ -30,7 +30,7 @@ fn complain<E: Target>(errors: &mut E, fault: CommandFault) -> u8
     FAILED
 }
 
-/// Ends a run: returns the status, or prints the error and returns the status of a failure.
+/// Completes a run: returns the status, or prints the error and returns the status of a failure.
 fn finish<E: Target>(errors: &mut E, answer: Result<u8, CommandFault>) -> u8
     ensures ok { IfOk answer (λ want. (result ≡ want) × (E.state errors.new ≡ E.state errors.old)) }
     ensures fault { IfErr answer (λ fault. (result ≡ status_failed)

@@ -1,4 +1,4 @@
--- The lemmas of buffered writers, which their impls pass on.
+-- The lemmas of buffered writers, for their impls.
 use Rattle.std.proofs.Common.{◌≡◌, ℕ, List, [], ◌++◌, map, refl, sym, ◌∙◌, append-nil, append_assoc, length-append, arith}
 use Rattle.std.proofs.lemmas.List.{map-append}
 use Rattle.iim_dataset.specs.{States.Devices.Device, Steps.appends_nothing, Steps.appends_joined}
