@@ -68,7 +68,9 @@ enum {
     IIM_NO_MEMORY = 6,   /**< malloc failed */
     IIM_BAD_TICKET = 7,  /**< not a ticket from which the call can continue: see the cause */
     IIM_BAD_PACKING = 8, /**< the members of an iim_packing are invalid */
-    IIM_BAD_INSTANT = 9  /**< the members of an iim_instant are invalid */
+    IIM_BAD_INSTANT = 9, /**< the members of an iim_instant are invalid */
+    IIM_BAD_HANDLE = 10, /**< the iim_unpacker is closed; of a call that opens it: it is open */
+    IIM_FAILED = 11      /**< a byte was rejected before: the iim_unpacker has no state to save */
 };
 
 /** The layer that rejects a byte; 0 if no layer does. A head is a complete tag. */
@@ -423,6 +425,153 @@ typedef struct iim_begun {
  */
 void iim_place(const uint8_t *ticket, size_t ticket_len, uint64_t at, iim_begun *begun,
                iim_answer *answer);
+
+/* ---- Reading envelopes with an unpacker */
+
+/**
+ * An unpacker: it keeps its state in memory between two calls, so that feeding a chunk costs no
+ * decoding of a ticket.
+ *
+ * It is a variable of the caller, anywhere in memory. Its members are for the library only.
+ * `IIM_UNPACKER_INIT`, all members zero, is closed and owns nothing; an open one owns memory that
+ * iim_unpacker_close() frees.
+ *
+ *     iim_unpacker unpacker = IIM_UNPACKER_INIT;
+ *     iim_answer answer;
+ *     if (iim_unpacker_open((iim_limits){0, 0}, &unpacker) != IIM_DONE)
+ *         return -1;
+ *     while ((count = fread(chunk, 1, sizeof chunk, file)) > 0)
+ *         for (size_t at = 0; at < count; at += answer.used) {
+ *             iim_unpacker_feed(&unpacker, chunk + at, count - at, text, sizeof text, &answer);
+ *             fwrite(text, 1, answer.written, stdout);
+ *             if (answer.status == IIM_DONE)
+ *                 iim_unpacker_reset(&unpacker);
+ *             else if (answer.status != IIM_MORE)
+ *                 goto rejected;
+ *         }
+ *     iim_unpacker_end(&unpacker, &answer);
+ *     iim_unpacker_close(&unpacker);
+ *
+ * To read datasets, header or sizes, save the state with iim_unpacker_save() into a buffer, and
+ * call iim_fields(), iim_header() or iim_sizes() on that ticket.
+ *
+ * An unpacker may be moved: copied, if only one of the copies is used from then on. Threads may
+ * use it one after another, in one call at a time, if the caller orders the calls. A call on a
+ * closed unpacker returns IIM_BAD_HANDLE and does nothing else, and so does opening an open one;
+ * closing twice is harmless. An unpacker that is neither `IIM_UNPACKER_INIT` nor one that the
+ * library has written is undefined behaviour.
+ *
+ * Only iim_unpacker_open() and iim_unpacker_restore() allocate memory, for what the limits allow.
+ */
+typedef struct iim_unpacker {
+    void *state;  /**< for the library only */
+    bool is_open; /**< for the library only */
+} iim_unpacker;
+
+/** The initial value of an iim_unpacker: closed. */
+#define IIM_UNPACKER_INIT {0, false}
+
+/**
+ * Opens a closed unpacker, at the beginning of an envelope.
+ *
+ * @param limits    limits on records 1 and 2, for every envelope that it reads
+ * @param unpacker  a closed unpacker
+ * @return          IIM_DONE; IIM_NO_MEMORY, and it is still closed; IIM_BAD_HANDLE if it is open
+ */
+uint8_t iim_unpacker_open(iim_limits limits, iim_unpacker *unpacker);
+
+/**
+ * Begins a new envelope, whatever was fed before, with the same limits and memory.
+ *
+ * @param unpacker  an open unpacker
+ * @return          IIM_DONE, or IIM_BAD_HANDLE if it is closed
+ */
+uint8_t iim_unpacker_reset(iim_unpacker *unpacker);
+
+/**
+ * Feeds the next bytes of an envelope, up to its end.
+ *
+ * @param unpacker      an open unpacker
+ * @param piece         the bytes
+ * @param piece_len     number of bytes; may be 0
+ * @param text_out      receives the bytes of the story in this chunk, its lines separated by LF
+ * @param text_out_len  its length, at least `piece_len`
+ * @param answer        receives the result
+ *
+ * Status:
+ * - IIM_MORE: all bytes were consumed, and the envelope can continue.
+ * - IIM_DONE: the envelope ends after `used` bytes of the chunk. Until iim_unpacker_reset() no more
+ *   bytes are consumed: each call returns IIM_DONE with `used` 0.
+ * - IIM_REFUSED: the byte at `answer->octet` is rejected; `layer`, `cause`, `rec` and `set` are
+ *   written, and `text_out` has the text of the bytes before it. Until iim_unpacker_reset() each
+ *   call returns IIM_REFUSED with cause 61.
+ * - IIM_SHORT: `text_out_len` is less than `piece_len`. `written` is `piece_len`; nothing else has
+ *   happened.
+ * - IIM_BAD_HANDLE: the unpacker is closed.
+ *
+ * With IIM_MORE and IIM_DONE `octet` is the length of the envelope so far, `used` the number of
+ * bytes consumed, and `written` the number of bytes of text.
+ */
+void iim_unpacker_feed(iim_unpacker *unpacker, const uint8_t *piece, size_t piece_len,
+                       uint8_t *text_out, size_t text_out_len, iim_answer *answer);
+
+/**
+ * Returns what it means that the input ends here. The unpacker is unchanged.
+ *
+ * @param unpacker  an open unpacker
+ * @param answer    receives the result
+ *
+ * Status:
+ * - IIM_DONE: an envelope of `octet` bytes has ended.
+ * - IIM_TRUNCATED: the envelope is incomplete, as for iim_end().
+ * - IIM_REFUSED: a byte was rejected before; the cause is 61.
+ * - IIM_BAD_HANDLE: the unpacker is closed.
+ */
+void iim_unpacker_end(iim_unpacker *unpacker, iim_answer *answer);
+
+/**
+ * Writes the ticket of the present state, from which iim_unpacker_restore() or iim_feed()
+ * continues. The unpacker is unchanged.
+ *
+ * @param unpacker        an open unpacker
+ * @param ticket_out      receives the ticket
+ * @param ticket_out_len  its length; 256 bytes more than the limits allow are always enough
+ *                        (`octets + 6 * fields + 256`)
+ * @param answer          receives the result
+ *
+ * Status:
+ * - IIM_DONE: the ticket has `ticket` bytes; `octet` is the length of the envelope so far.
+ * - IIM_SHORT: the ticket has `ticket` bytes, more than `ticket_out_len`.
+ * - IIM_FAILED: a byte was rejected before.
+ * - IIM_BAD_HANDLE: the unpacker is closed.
+ */
+void iim_unpacker_save(iim_unpacker *unpacker, uint8_t *ticket_out, size_t ticket_out_len,
+                       iim_answer *answer);
+
+/**
+ * Opens a closed unpacker in the state of a ticket.
+ *
+ * @param limits      limits on records 1 and 2
+ * @param unpacker    a closed unpacker
+ * @param ticket      a ticket, of this or an earlier release
+ * @param ticket_len  its length
+ * @param at          length of the envelope so far, which later offsets are counted from
+ * @param answer      receives the result
+ *
+ * Status:
+ * - IIM_DONE: the unpacker is open.
+ * - IIM_BAD_TICKET: not a ticket, or not within the limits: `cause` says why.
+ * - IIM_NO_MEMORY, IIM_BAD_HANDLE.
+ */
+void iim_unpacker_restore(iim_limits limits, iim_unpacker *unpacker, const uint8_t *ticket,
+                          size_t ticket_len, uint64_t at, iim_answer *answer);
+
+/**
+ * Closes an unpacker, and frees its memory. A closed unpacker stays closed.
+ *
+ * @param unpacker  an unpacker
+ */
+void iim_unpacker_close(iim_unpacker *unpacker);
 
 /* ---- Audits */
 

@@ -4,7 +4,8 @@ pub use Rattle.iim_audit.specs.declared.pieces.PieceAudit.{PieceAudit}
 pub use Rattle.iim_c.specs.Format.Answers.{refusal_answer, status_answer}
 pub use Rattle.iim_c.specs.Format.Auditing.{InHand, with_more}
 pub use Rattle.iim_c.specs.Format.Tickets.{TellsOctets, StandAt}
-pub use Rattle.iim_c.specs.Steps.{HasFedText, HasFound, HasRefusedText, IsSet}
+pub use Rattle.iim_c.specs.Format.Chunks.{HasFedText, HasRefusedText}
+pub use Rattle.iim_c.specs.Steps.{HasFound, IsSet}
 pub use Rattle.iim_c.specs.declared.begun.IimBegun.{IimBegun}
 pub use Rattle.iim_c.specs.declared.finding.Found.{Found}
 pub use Rattle.iim_c.specs.declared.row.IimAuditRow.{IimAuditRow}

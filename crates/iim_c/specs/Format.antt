@@ -6,3 +6,4 @@ pub mod Checking
 pub mod Feeding
 pub mod Packing
 pub mod Statuses
+pub mod Chunks

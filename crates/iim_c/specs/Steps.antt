@@ -1,12 +1,10 @@
 -- The steps of the calls: saving a state, feeding and auditing a chunk, reading a ticket.
-use Rattle.std.specs.Prelude.{◌≡◌, ℕ, ◌<◌, ◌≤◌, ◌⊎◌, List, length, ◌≢◌, [], ◌∷◌, map, ◌+◌, ◌*◌, None, ℤ, ◌++◌, take, drop}
+use Rattle.std.specs.Prelude.{◌≡◌, ℕ, ◌<◌, ◌≤◌, ◌⊎◌, List, length, ◌≢◌, [], ◌∷◌, ◌+◌, ◌*◌, None, ℤ, ◌++◌, take, drop}
 use Rattle.iim_places.specs.Format.Tickets.{Phase, TagBegun, DataBegun, AllEnded, width}
 use Rattle.iim_places.specs.Format.Streams.{raised}
-use Rattle.iim_places.specs.declared.refusal.{Refusal.Refusal, Cause.TheVariants.Message}
-use Rattle.iim_unpack.specs.States.Unpacking.{Unpacking, Stands, limits_in, Progresses, IsRefusedIn}
+use Rattle.iim_unpack.specs.States.Unpacking.{Unpacking, Stands, limits_in}
 use Rattle.iim_unpack.specs.States.Restored.{IsRestored, HasTicketIn}
-use Rattle.iim_unpack.specs.declared.unpacker.Progress.{Progress, TheVariants.More, TheVariants.Done}
-use Rattle.iim_c.specs.Format.Answers.{status_answer, short_answer, IimAnswer, HasTaken}
+use Rattle.iim_c.specs.Format.Answers.{status_answer, short_answer, IimAnswer}
 use Rattle.iim_c.specs.Format.Tickets.{no_span, IimSpan, bit_of}
 use Rattle.iim_c.specs.Format.Auditing.{AreRows, InHand, IimAuditRow, IimSoFar}
 use Rattle.iim_c.specs.declared.finding.Ending.TheVariants.{Used, Full, Refused}
@@ -14,8 +12,6 @@ use Rattle.iim_c.specs.declared.finding.{Ending.Ending, Found.Found}
 use Rattle.iim_c.specs.Format.Packing as packing
 use Rattle.iim_c.specs.Format.Statuses as status
 use Rattle.iim_fields.specs.declared.limits.Limits.{Limits}
-use Rattle.wire_story.specs.Format.Texts.{StoryEvent, octet_for}
-use Rattle.wire_message.specs.declared.fault.MessageCause.TheVariants.{Sink}
 use Rattle.iim_audit.specs.{Format.Refuses, Format.StandsOn, declared.pieces.PieceAudit.PieceAudit}
 use Rattle.iim_pack_script.specs.declared.packing.PackFault.{PackFault}
 use Rattle.iim_pack_script.specs.declared.packing.PackFault.TheVariants as faults
@@ -38,26 +34,6 @@ IsSaved u told written room out answer =
 abbrev pub IsBegun : Limits → List ℕ → ℕ → Unpacking → Type 0
 IsBegun limits [] at u = Stands u [] 0 × (limits_in u ≡ limits)
 IsBegun limits (x ∷ xs) at u = IsRestored limits (x ∷ xs) at u
-
--- ---- The steps of a call that feeds a chunk.
-
--- A chunk was fed, and its text is in the buffer that remains.
-pub record HasFedText (u v : Unpacking) (piece out : List ℕ) (count : ℕ) (progress : Progress) : Type 0 where
-  pub more : List StoryEvent
-  pub taken : HasTaken out count (map octet_for more)
-  pub goes : (p : List ℕ) (n : ℕ) → Stands u p n → Progresses v p n piece more progress
-
--- An octet of the chunk was rejected.
-pub record HasRefusedText (u : Unpacking) (piece out : List ℕ) (count : ℕ) (e : Refusal) : Type 0 where
-  pub more : List StoryEvent
-  pub taken : HasTaken out count (map octet_for more)
-  pub refuses : (p : List ℕ) (n : ℕ) → Stands u p n → IsRefusedIn (limits_in u) p n piece more e
-  pub by_octets : e.cause ≢ Message Sink
-
--- the status for progress, and the number of octets of the chunk that were consumed
-abbrev pub used_in : Progress → ℕ → ℕ × ℕ
-used_in More piece = (status.more, piece)
-used_in (Done used) piece = (status.done, used)
 
 -- ---- The steps of the calls that read a state.
 

@@ -33,7 +33,7 @@ pub struct IimAnswer {
 }
 
 /// Returns an answer in which all fields except the status are 0.
-pub(crate) fn status_answer(status: u8) -> IimAnswer
+pub fn status_answer(status: u8) -> IimAnswer
     ensures { result ≡ status_answer status }
 {
     IimAnswer {
@@ -66,7 +66,7 @@ fn layer_number(layer: Layer) -> u8
 }
 
 /// Returns the answer for a refusal.
-pub(crate) fn refusal_answer(status: u8, refusal: Refusal) -> IimAnswer
+pub fn refusal_answer(status: u8, refusal: Refusal) -> IimAnswer
     ensures { result ≡ refusal_answer status refusal }
 {
     IimAnswer {
@@ -83,7 +83,7 @@ pub(crate) fn refusal_answer(status: u8, refusal: Refusal) -> IimAnswer
 }
 
 /// Returns the answer for a ticket that is rejected. A failed allocation has a separate status.
-pub(crate) fn ticket_answer(fault: TicketFault) -> IimAnswer
+pub fn ticket_answer(fault: TicketFault) -> IimAnswer
     ensures { result ≡ ticket_answer fault }
 {
     if fault == TicketFault::OutOfMemory {

@@ -122,7 +122,7 @@ pub fn iim_audit(
     *answer = match now.told() {
         Some(now) => audited(
             alloc,
-            limits.told(),
+            limits.limits(),
             ticket,
             so_far,
             piece,

@@ -49,5 +49,5 @@ pub fn iim_check(alloc: Global, limits: IimLimits, octets: &[u8], answer: &mut I
     ensures answer { IsChecked (limits_for limits) octets.now answer.new }
     ensures only { IsOnly (limits_for limits) octets.now answer.new }
 {
-    *answer = checked(alloc, limits.told(), octets);
+    *answer = checked(alloc, limits.limits(), octets);
 }

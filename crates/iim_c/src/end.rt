@@ -34,5 +34,5 @@ fn ended(alloc: Global, limits: Limits, ticket: &[u8], at: u64) -> IimAnswer
 pub fn iim_end(alloc: Global, limits: IimLimits, ticket: &[u8], at: u64, answer: &mut IimAnswer)
     ensures { IsEnd (limits_for limits) ticket.now at answer.new }
 {
-    *answer = ended(alloc, limits.told(), ticket, at);
+    *answer = ended(alloc, limits.limits(), ticket, at);
 }

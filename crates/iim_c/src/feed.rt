@@ -1,12 +1,13 @@
 //! Chunks of an envelope, from the state of a ticket on.
 
-ghost use Rattle.std.specs.Prelude.{◌≡◌, None, Ok, IfOk, IfErr, OnOk};
+ghost use Rattle.std.specs.Prelude.{◌≡◌, ℕ, None, Some, Ok, Err, IfOk, IfErr, OnOk};
 ghost use Rattle.iim_c.specs.Format.Answers.{refusal_answer, short_answer};
-ghost use Rattle.iim_unpack.specs.States.Unpacking.{IsDone, limits_in};
+ghost use Rattle.iim_unpack.specs.States.Unpacking.{IsDone, failed_at, limits_in, room_in};
 ghost use Rattle.iim_c.specs.Format.Checking.{limits_for};
 ghost use Rattle.iim_c.specs.Format.Feeding.{IsFed};
 ghost use Rattle.iim_c.specs.Format.Statuses as status;
-ghost use Rattle.iim_c.specs.Steps.{IsSaved, HasFedText, HasRefusedText, TellsRoom, used_in};
+ghost use Rattle.iim_c.specs.Format.Chunks.{HasFedText, HasRefusedText, used_in};
+ghost use Rattle.iim_c.specs.Steps.{IsSaved, TellsRoom};
 
 use crate::answer::{IimAnswer, refusal_answer, status_answer, ticket_answer};
 use crate::begin::begin;
@@ -37,13 +38,17 @@ fn feed_sink(
     ensures done { IsDone unpacker.old → (result ≡ Ok (Progress.Done 0)) × (unpacker.new ≡ unpacker.old)
         × (sink.new.count ≡ 0) }
     ensures limits { unpacker.old.refused ≡ None → OnOk result (limits_in unpacker.new ≡ limits_in unpacker.old) }
+    ensures fails { IfErr result (λ e. unpacker.new.refused ≡ Some e.octet) }
+    ensures again { (octet : ℕ) → unpacker.old.refused ≡ Some octet → (result ≡ Err (failed_at octet))
+        × (unpacker.new ≡ unpacker.old) × (sink.new.count ≡ 0) }
+    ensures memory { room_in unpacker.new ≡ room_in unpacker.old }
 {
     unpacker.feed(piece, sink)
 }
 
 /// Feeds a chunk, and writes the text in it into `out`. Returns also the number of octets of that
 /// text.
-fn feed_text(
+pub fn feed_text(
     unpacker: &mut Unpacker,
     piece: &[u8],
     out: &mut [u8],
@@ -53,6 +58,10 @@ fn feed_text(
     ensures done { IsDone unpacker.old → (result.0 ≡ Ok (Progress.Done 0)) × (unpacker.new ≡ unpacker.old)
         × (result.1 ≡ 0) }
     ensures limits { unpacker.old.refused ≡ None → OnOk result.0 (limits_in unpacker.new ≡ limits_in unpacker.old) }
+    ensures fails { IfErr result.0 (λ e. unpacker.new.refused ≡ Some e.octet) }
+    ensures again { (octet : ℕ) → unpacker.old.refused ≡ Some octet → (result.0 ≡ Err (failed_at octet))
+        × (unpacker.new ≡ unpacker.old) × (result.1 ≡ 0) }
+    ensures memory { room_in unpacker.new ≡ room_in unpacker.old }
 {
     let mut sink = TextOut { out, count: 0 };
     let answer = feed_sink(unpacker, piece, &mut sink);
@@ -87,7 +96,7 @@ fn refused(refusal: Refusal, written: usize, room: usize) -> IimAnswer
 }
 
 /// Returns the status for progress, and the number of octets of the chunk that were consumed.
-fn used_of(progress: Progress, piece: usize) -> (u8, usize)
+pub fn used_of(progress: Progress, piece: usize) -> (u8, usize)
     ensures { result ≡ used_in progress piece }
 {
     match progress {
@@ -175,7 +184,7 @@ pub fn iim_feed(
 {
     *answer = fed(
         alloc,
-        limits.told(),
+        limits.limits(),
         ticket,
         at,
         piece,

@@ -30,6 +30,7 @@ mod fields;
 mod finding;
 mod header;
 mod instant;
+pub mod internals;
 mod limits;
 mod names;
 mod next;

@@ -25,7 +25,7 @@ fn given_or(given: u32, other: u32) -> u32
 
 impl IimLimits {
     /// Returns the limits, with the default for each field that is 0.
-    pub(crate) fn told(self) -> Limits
+    pub fn limits(self) -> Limits
         ensures { result ≡ limits_for self }
     {
         Limits {

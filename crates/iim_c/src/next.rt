@@ -109,7 +109,7 @@ pub fn iim_next(
 )
     ensures { IsNext (limits_for limits) ticket.now next.new.bits answer.new }
 {
-    let (bits, told) = next_of(alloc, limits.told(), ticket);
+    let (bits, told) = next_of(alloc, limits.limits(), ticket);
     next.bits = bits;
     *answer = told;
 }

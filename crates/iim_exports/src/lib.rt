@@ -5,7 +5,7 @@
 //! the implementation is in `iim_c`, an ordinary library.
 #![tactic(auto)]
 
-ghost use Rattle.std.specs.Prelude.{◌≡◌, ◌↔◌, ℕ, List, IsTrue, is_some};
+ghost use Rattle.std.specs.Prelude.{◌≡◌, ◌↔◌, ℕ, List, IsTrue, is_some, None};
 ghost use Rattle.iim_places.specs.Format.Tickets.{IsPlaceOf, Place};
 ghost use Rattle.iim_places.specs.States.Restored.{IsTicketAt};
 ghost use Rattle.iim_tables.specs.Format.Rows.{Meets, row_of};
@@ -15,11 +15,13 @@ ghost use Rattle.iim_c.specs.Format.Checking.{IsChecked, IsOnly, limits_for};
 ghost use Rattle.iim_c.specs.Format.Feeding.{IsEnd, IsFed};
 ghost use Rattle.iim_c.specs.Format.Tables.{IsNamed, dataset_named, layer_named, name_or_none, rule_for, cause_named, cause_text};
 ghost use Rattle.iim_c.specs.Format.Packing.{IsPacked, IsSized};
+ghost use Rattle.iim_handle.specs.Format.{IsEnd as EndsIn, IsFed as IsFedIn, IsOpened, IsReset, IsRestoredTo, IsSaved};
 
 use iim_c::{
     IimAnswer, IimAuditRow, IimBegun, IimDataset, IimInstant, IimLimits, IimMessage, IimObject,
     IimOctetSet, IimPacking, IimRule, IimSoFar, VERSION,
 };
+use iim_handle::IimUnpacker;
 use std::alloc::Global;
 
 /// Checks the envelope at the beginning of a buffer.
@@ -255,4 +257,83 @@ pub extern "C" fn iim_version() -> u32
     ensures { result ≡ VERSION }
 {
     iim_c::iim_version()
+}
+
+/// Opens a closed handle at the beginning of an envelope.
+#[unsafe(no_mangle)]
+pub extern "C" fn iim_unpacker_open(
+    alloc: Global,
+    limits: IimLimits,
+    handle: &mut IimUnpacker,
+) -> u8
+    ensures { IsOpened (limits_for limits) handle.old.owner.home handle.new.owner.home result }
+{
+    iim_handle::iim_unpacker_open(alloc, limits, handle)
+}
+
+/// Begins a new envelope, whatever was fed before, with the same limits and memory.
+#[unsafe(no_mangle)]
+pub extern "C" fn iim_unpacker_reset(alloc: Global, handle: &mut IimUnpacker) -> u8
+    ensures { IsReset handle.old.owner.home handle.new.owner.home result }
+{
+    iim_handle::iim_unpacker_reset(alloc, handle)
+}
+
+/// Feeds the next octets of the envelope, up to its end, and writes the text of the story that they
+/// contain.
+#[unsafe(no_mangle)]
+pub extern "C" fn iim_unpacker_feed(
+    alloc: Global,
+    handle: &mut IimUnpacker,
+    piece: &[u8],
+    text_out: &mut [u8],
+    answer: &mut IimAnswer,
+)
+    ensures { IsFedIn handle.old.owner.home piece.now text_out.old text_out.new handle.new.owner.home answer.new }
+{
+    iim_handle::iim_unpacker_feed(alloc, handle, piece, text_out, answer);
+}
+
+/// Returns what it means that the input ends here.
+#[unsafe(no_mangle)]
+pub extern "C" fn iim_unpacker_end(alloc: Global, handle: &mut IimUnpacker, answer: &mut IimAnswer)
+    ensures { EndsIn handle.old.owner.home handle.new.owner.home answer.new }
+{
+    iim_handle::iim_unpacker_end(alloc, handle, answer);
+}
+
+/// Writes the ticket of the present state.
+#[unsafe(no_mangle)]
+pub extern "C" fn iim_unpacker_save(
+    alloc: Global,
+    handle: &mut IimUnpacker,
+    ticket_out: &mut [u8],
+    answer: &mut IimAnswer,
+)
+    ensures { IsSaved handle.old.owner.home handle.new.owner.home ticket_out.old ticket_out.new answer.new }
+{
+    iim_handle::iim_unpacker_save(alloc, handle, ticket_out, answer);
+}
+
+/// Opens a closed handle in the state of a ticket, after `at` octets of the envelope.
+#[unsafe(no_mangle)]
+pub extern "C" fn iim_unpacker_restore(
+    alloc: Global,
+    limits: IimLimits,
+    handle: &mut IimUnpacker,
+    ticket: &[u8],
+    at: u64,
+    answer: &mut IimAnswer,
+)
+    ensures { IsRestoredTo (limits_for limits) ticket.now at handle.old.owner.home handle.new.owner.home answer.new }
+{
+    iim_handle::iim_unpacker_restore(alloc, limits, handle, ticket, at, answer);
+}
+
+/// Closes a handle, and frees its memory. A closed handle stays closed.
+#[unsafe(no_mangle)]
+pub extern "C" fn iim_unpacker_close(alloc: Global, handle: &mut IimUnpacker)
+    ensures { handle.new.owner.home ≡ None }
+{
+    iim_handle::iim_unpacker_close(alloc, handle);
 }

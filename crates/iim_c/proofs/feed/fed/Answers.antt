@@ -3,7 +3,8 @@ use Rattle.iim_c.proofs.Words.{length, arith, sym, subst, ◌∙◌, ◌≡◌, 
 use Rattle.iim_c.proofs.Places.{begun, begun_alive, Begun, is_done, said, at_place}
 use Rattle.iim_c.proofs.TextLengths.{delivers_few, events_few}
 use Rattle.iim_c.specs.Format.Feeding.{IsNowhere, Outcome, IsOutcome, IsAnswered, IsFed}
-use Rattle.iim_c.specs.Steps.{IsSaved, TellsRoom, used_in}
+use Rattle.iim_c.specs.Format.Chunks.{used_in}
+use Rattle.iim_c.specs.Steps.{IsSaved, TellsRoom}
 use Rattle.iim_c.specs.Format.Answers.{IimAnswer, HasTaken, HoldsFirst, counted}
 use Rattle.std.proofs.lemmas.List.{nil_from_length}
 use Rattle.wire_story.specs.Format.Texts.{octet_for}

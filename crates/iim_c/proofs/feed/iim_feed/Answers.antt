@@ -1,4 +1,4 @@
 use Rattle.iim_c.proofs.feed.iim_feed.Goals as goal
 
 pub returns : goal.returns
-returns c = rw c.told.ensures at c.fed.ensures
+returns c = rw c.limits.ensures at c.fed.ensures

@@ -1,0 +1,4 @@
+pub mod AsBox
+pub mod Closed
+pub mod Ends
+pub mod Fed

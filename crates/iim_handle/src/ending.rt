@@ -1,0 +1,51 @@
+//! The end of the input, and the end of a handle.
+
+ghost use Rattle.std.specs.Prelude.{◌≡◌, None};
+ghost use Rattle.iim_handle.specs.Format.{HasEnd, IsEnd};
+
+use crate::handle::{IimUnpacker, put_back, take_out};
+use crate::status::BAD_HANDLE;
+use iim_c::IimAnswer;
+use iim_c::internals::{refusal_answer, status_answer};
+use iim_c::status::{DONE, REFUSED, TRUNCATED};
+use iim_unpack::Unpacker;
+use std::alloc::Global;
+
+/// Returns what it means for an unpacker that the input ends.
+fn end_unpacker(unpacker: &Unpacker) -> IimAnswer
+    ensures { HasEnd unpacker.now result }
+{
+    match unpacker.end_of_input() {
+        Some(refusal) if unpacker.is_failed() => refusal_answer(REFUSED, refusal),
+        Some(refusal) => refusal_answer(TRUNCATED, refusal),
+        None => IimAnswer {
+            octet: unpacker.octets(),
+            ..status_answer(DONE)
+        },
+    }
+}
+
+/// Returns what it means that the input ends here.
+///
+/// `answer.status` is `DONE` after the end of an envelope, `TRUNCATED`, `REFUSED` with `cause` 61 if
+/// an octet was rejected before, or `BAD_HANDLE` if the handle is closed. The handle stays as it is.
+pub fn iim_unpacker_end(alloc: Global, handle: &mut IimUnpacker, answer: &mut IimAnswer)
+    ensures { IsEnd handle.old.owner.home handle.new.owner.home answer.new }
+{
+    if !handle.is_open {
+        *answer = status_answer(BAD_HANDLE);
+        return;
+    }
+    let unpacker = take_out(alloc, handle);
+    *answer = end_unpacker(&unpacker);
+    put_back(handle, unpacker);
+}
+
+/// Closes a handle, and frees its memory. A closed handle stays closed.
+pub fn iim_unpacker_close(alloc: Global, handle: &mut IimUnpacker)
+    ensures { handle.new.owner.home ≡ None }
+{
+    if handle.is_open {
+        drop(take_out(alloc, handle));
+    }
+}

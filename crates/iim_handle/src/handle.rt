@@ -1,0 +1,64 @@
+//! The handle, and how a call takes the unpacker out of it and puts it back.
+
+ghost use Rattle.std.specs.Prelude.{◌≡◌, ◌⊎◌, IsSome, is_some, Some, None};
+ghost use Rattle.iim_c.specs.Format.Statuses as status;
+
+use crate::owner::Owner;
+use crate::parts::Parts;
+use iim_c::status::{DONE, NO_MEMORY};
+use iim_unpack::Unpacker;
+use std::alloc::Global;
+use std::mem::replace;
+
+/// An unpacker, for C. With all members zero it is closed, and owns nothing.
+#[repr(C)]
+pub struct IimUnpacker {
+    /// The owner of the unpacker, or of nothing.
+    pub owner: Owner,
+    /// Whether the handle is open: whether it owns an unpacker.
+    pub is_open: bool,
+    ghost owned: { is_open ≡ is_some owner.home },
+}
+
+/// Takes the unpacker out of an open handle, which is closed then.
+pub(crate) fn take_out(alloc: Global, handle: &mut IimUnpacker) -> Box<Unpacker>
+    requires { IsSome handle.old.owner.home }
+    ensures unpacker { Some result.value ≡ handle.old.owner.home }
+    ensures closed { handle.new.owner.home ≡ None }
+{
+    let closed = IimUnpacker {
+        owner: Owner::none(alloc),
+        is_open: false,
+    };
+    let IimUnpacker { owner, is_open: _ } = replace(handle, closed);
+    owner.into_parts().into_box()
+}
+
+/// Puts an unpacker into a closed handle, which is open then.
+pub(crate) fn put_back(handle: &mut IimUnpacker, unpacker: Box<Unpacker>)
+    requires { handle.old.owner.home ≡ None }
+    ensures { handle.new.owner.home ≡ Some unpacker.value }
+{
+    let opened = IimUnpacker {
+        owner: Owner::of_parts(Parts::of(unpacker)),
+        is_open: true,
+    };
+    let IimUnpacker { owner, is_open: _ } = replace(handle, opened);
+    owner.end();
+}
+
+/// Puts a new unpacker into a closed handle. Returns `DONE`, or `NO_MEMORY` if there is no memory
+/// for it, and the handle stays closed.
+pub(crate) fn put_new(alloc: Global, handle: &mut IimUnpacker, unpacker: Unpacker) -> u8
+    requires { handle.old.owner.home ≡ None }
+    ensures { ((handle.new.owner.home ≡ Some unpacker) × (result ≡ status.done))
+        ⊎ ((handle.new.owner.home ≡ None) × (result ≡ status.no_memory)) }
+{
+    match Box::new(alloc, unpacker) {
+        Ok(unpacker) => {
+            put_back(handle, unpacker);
+            DONE
+        }
+        Err(_) => NO_MEMORY,
+    }
+}

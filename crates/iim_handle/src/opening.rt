@@ -1,0 +1,42 @@
+//! Calls that begin an envelope.
+
+ghost use Rattle.iim_c.specs.Format.Checking.{limits_for};
+ghost use Rattle.iim_handle.specs.Format.{IsOpened, IsReset};
+
+use crate::handle::{IimUnpacker, put_back, put_new, take_out};
+use crate::status::BAD_HANDLE;
+use iim_c::IimLimits;
+use iim_c::status::{DONE, NO_MEMORY};
+use iim_unpack::Unpacker;
+use std::alloc::Global;
+
+/// Opens a closed handle at the beginning of an envelope, with memory for what the limits allow.
+///
+/// Returns `DONE`; `NO_MEMORY`, and the handle stays closed; or `BAD_HANDLE` if it is open already,
+/// and stays as it is.
+pub fn iim_unpacker_open(alloc: Global, limits: IimLimits, handle: &mut IimUnpacker) -> u8
+    ensures { IsOpened (limits_for limits) handle.old.owner.home handle.new.owner.home result }
+{
+    if handle.is_open {
+        return BAD_HANDLE;
+    }
+    let Ok(unpacker) = Unpacker::new(alloc, limits.limits()) else {
+        return NO_MEMORY;
+    };
+    put_new(alloc, handle, unpacker)
+}
+
+/// Begins a new envelope, whatever was fed before, with the same limits and memory.
+///
+/// Returns `DONE`, or `BAD_HANDLE` if the handle is closed. It allocates nothing.
+pub fn iim_unpacker_reset(alloc: Global, handle: &mut IimUnpacker) -> u8
+    ensures { IsReset handle.old.owner.home handle.new.owner.home result }
+{
+    if !handle.is_open {
+        return BAD_HANDLE;
+    }
+    let mut unpacker = take_out(alloc, handle);
+    unpacker.again();
+    put_back(handle, unpacker);
+    DONE
+}

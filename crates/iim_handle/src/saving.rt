@@ -1,0 +1,79 @@
+//! Saving the state of a handle, and opening one in a saved state.
+
+ghost use Rattle.iim_c.specs.Format.Checking.{limits_for};
+ghost use Rattle.iim_handle.specs.Format.{IsRestoredTo, IsSaved, IsSavedFrom};
+
+use crate::handle::{IimUnpacker, put_back, put_new, take_out};
+use crate::status::{BAD_HANDLE, FAILED};
+use iim_c::internals::{status_answer, ticket_answer};
+use iim_c::status::{DONE, SHORT};
+use iim_c::{IimAnswer, IimLimits};
+use iim_unpack::Unpacker;
+use std::alloc::Global;
+
+/// Writes the ticket of an unpacker into a buffer, if it has room for it.
+fn save_unpacker(unpacker: &Unpacker, ticket_out: &mut [u8]) -> IimAnswer
+    ensures { IsSavedFrom unpacker.now ticket_out.new result }
+{
+    let Ok(ticket) = unpacker.save_at(ticket_out) else {
+        return status_answer(FAILED);
+    };
+    if ticket > ticket_out.len() {
+        return IimAnswer {
+            ticket,
+            ..status_answer(SHORT)
+        };
+    }
+    IimAnswer {
+        octet: unpacker.octets(),
+        ticket,
+        ..status_answer(DONE)
+    }
+}
+
+/// Writes the ticket of the present state, from which [`iim_unpacker_restore`] or
+/// [`iim_feed`](iim_c::iim_feed) continues.
+///
+/// `answer.status` is `DONE`, `SHORT` with the length that the ticket has, `FAILED` if an octet was
+/// rejected before, or `BAD_HANDLE` if the handle is closed. It allocates nothing, and the handle
+/// stays as it is.
+pub fn iim_unpacker_save(
+    alloc: Global,
+    handle: &mut IimUnpacker,
+    ticket_out: &mut [u8],
+    answer: &mut IimAnswer,
+)
+    ensures { IsSaved handle.old.owner.home handle.new.owner.home ticket_out.old ticket_out.new answer.new }
+{
+    if !handle.is_open {
+        *answer = status_answer(BAD_HANDLE);
+        return;
+    }
+    let unpacker = take_out(alloc, handle);
+    *answer = save_unpacker(&unpacker, ticket_out);
+    put_back(handle, unpacker);
+}
+
+/// Opens a closed handle in the state of a ticket, after `at` octets of the envelope.
+///
+/// `answer.status` is `DONE`; `BAD_TICKET` with a cause, or `NO_MEMORY`, and the handle stays
+/// closed; or `BAD_HANDLE` if it is open already, and stays as it is.
+pub fn iim_unpacker_restore(
+    alloc: Global,
+    limits: IimLimits,
+    handle: &mut IimUnpacker,
+    ticket: &[u8],
+    at: u64,
+    answer: &mut IimAnswer,
+)
+    ensures { IsRestoredTo (limits_for limits) ticket.now at handle.old.owner.home handle.new.owner.home answer.new }
+{
+    if handle.is_open {
+        *answer = status_answer(BAD_HANDLE);
+        return;
+    }
+    *answer = match Unpacker::restore(alloc, limits.limits(), ticket, at) {
+        Ok(unpacker) => status_answer(put_new(alloc, handle, unpacker)),
+        Err(fault) => ticket_answer(fault),
+    };
+}
