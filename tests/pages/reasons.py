@@ -1,4 +1,4 @@
-"""The table of bindings/python/explain_causes.py: the likely reason of each cause of an envelope and what to do, from docs/CAUSES.md.
+"""The table of bindings/python/src/iim/explain/causes.py: the likely reason of each cause of an envelope and what to do, from docs/CAUSES.md.
 
 All else in that file is written by hand.
 """
@@ -8,7 +8,7 @@ import textwrap
 from pages import causes
 from pages.items import TOP, text_of
 
-PAGE = "bindings/python/explain_causes.py"
+PAGE = "bindings/python/src/iim/explain/causes.py"
 # What stands around the entries.
 HEAD, FOOT = "CAUSES: Dict[int, Cause] = {\n", "}\n# fmt: on\n"
 # The columns of a line, without its quotation marks and what follows them.

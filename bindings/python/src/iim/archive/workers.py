@@ -19,8 +19,17 @@ import time
 from multiprocessing.connection import Connection
 from typing import TYPE_CHECKING, Any, Callable, Deque, Iterable, List, Optional
 
-import archive_rows
-from archive_rows import AHEAD, LONGEST_TIME, Asked, Blocks, Failure, Reader, lost, too_slow
+from iim.archive.rows import (
+    AHEAD,
+    LONGEST_TIME,
+    Asked,
+    Blocks,
+    Failure,
+    Reader,
+    lost,
+    too_slow,
+    watch_reads,
+)
 
 if TYPE_CHECKING:
     from concurrent.futures import Future
@@ -32,7 +41,13 @@ Counter = Any
 GRACE = 5
 
 
-def serve(pipe: Connection, other: Connection, reader: Reader, begun: Counter, watch: Callable[[Callable[[], object]], None]) -> None:
+def serve(
+    pipe: Connection,
+    other: Connection,
+    reader: Reader,
+    begun: Counter,
+    watch: Callable[[Callable[[], object]], None],
+) -> None:
     """Read batches until Ctrl-C, or until the parent process ends.
 
     Args:
@@ -40,7 +55,7 @@ def serve(pipe: Connection, other: Connection, reader: Reader, begun: Counter, w
         other: The parent's end of the pipe, which is closed here.
         reader: The function that reads a batch.
         begun: The number of files started, for the parent.
-        watch: `archive_rows.watch_reads` of the module whose functions read the files.
+        watch: `watch_reads` of the module whose functions read the files.
     """
     for each in signal.SIGINT, signal.SIGTERM:
         signal.signal(each, signal.SIG_DFL)
@@ -74,7 +89,9 @@ class Worker:
         self._most, self._killed = most, False
         # (the number of files that it has tried to open)
         self._begun: Counter = multiprocessing.RawValue(ctypes.c_uint64, 0)
-        self._process = multiprocessing.Process(target=serve, args=(its, self._pipe, reader, self._begun, archive_rows.watch_reads), daemon=True)
+        self._process = multiprocessing.Process(
+            target=serve, args=(its, self._pipe, reader, self._begun, watch_reads), daemon=True
+        )
         self._process.start()
         its.close()
 
@@ -204,7 +221,9 @@ class Pool:
             worker.end()
 
 
-def by_processes(batches: Iterable[List[Asked]], reader: Reader, count: int, most: float = LONGEST_TIME) -> Blocks:
+def by_processes(
+    batches: Iterable[List[Asked]], reader: Reader, count: int, most: float = LONGEST_TIME
+) -> Blocks:
     """Run the batches on processes of this machine, and yield their blocks in order.
 
     The batch of a process that died is retried.

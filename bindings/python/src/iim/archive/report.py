@@ -1,4 +1,4 @@
-"""Summarize an archive by an index of archive.py, as text.
+"""Summarize an archive by an index of iim-archive, as text.
 
 The report has the totals, the refusals, the times, sizes and ages of the envelopes, and the damaged
 files.
@@ -11,10 +11,10 @@ import datetime
 import os
 from typing import Any, Callable, Dict, Iterator, List, NamedTuple, Optional, Tuple
 
-import archive_query
-import archive_rows
-import explain_words as words
-import safe_output
+from iim import safe_output
+from iim.archive.query import opened
+from iim.archive.rows import ENDS, EPOCH, seconds
+from iim.explain import words
 
 # The maximum number of rows of a table, of bars of a chart, and of damaged files.
 ROWS, BARS, DAMAGED = 20, 40, 1_000
@@ -24,7 +24,13 @@ ENVELOPES = f"FROM part0.envelopes AS e WHERE {HERE}"
 REFUSALS = f"FROM part0.refusals AS e WHERE {HERE}"
 ID = "e.service || ' ' || e.number || ' ' || e.date_sent"
 
-AGES = [(3_600, "under an hour"), (86_400, "under a day"), (7 * 86_400, "under a week"), (30 * 86_400, "under 30 days"), (365 * 86_400, "under a year")]
+AGES = [
+    (3_600, "under an hour"),
+    (86_400, "under a day"),
+    (7 * 86_400, "under a week"),
+    (30 * 86_400, "under 30 days"),
+    (365 * 86_400, "under a year"),
+]
 
 
 class Bars(NamedTuple):
@@ -99,9 +105,11 @@ class Asking:
     """The queries of a report on an index, as of one instant."""
 
     def __init__(self, index: str, now: datetime.datetime) -> None:
-        self._database = archive_query.opened([index])
-        self._database.create_function("bits", 1, lambda size: int(max(0, size - 1)).bit_length(), deterministic=True)
-        self.now, self._second = now, archive_rows.seconds(now)
+        self._database = opened([index])
+        self._database.create_function(
+            "bits", 1, lambda size: int(max(0, size - 1)).bit_length(), deterministic=True
+        )
+        self.now, self._second = now, seconds(now)
 
     def rows(self, text: str, *values: Any) -> List[Any]:
         """Return the rows of a query."""
@@ -116,7 +124,7 @@ class Asking:
 
         They are those of the index, and those files of the archive that may be the output's.
         """
-        inputs: List[safe_output.Input] = [index + end for end in archive_rows.ENDS]
+        inputs: List[safe_output.Input] = [index + end for end in ENDS]
         names = [os.fsencode(name) for name in (os.path.abspath(output), os.path.realpath(output))]
         found = "SELECT path FROM part0.files WHERE path IN (?, ?)"
         with contextlib.suppress(OSError):
@@ -130,10 +138,14 @@ class Asking:
         yield "files", self.number(f"{files} gone = 0 AND substr(path, -1) <> x'2F'")
         yield "octets", self.number("SELECT sum(size) FROM part0.files WHERE gone = 0")
         yield "envelopes", self.number(f"SELECT count(*) {ENVELOPES}")
-        yield "repeated", self.number(f"SELECT sum(n - 1) FROM (SELECT count(*) AS n {ENVELOPES} GROUP BY {ID} HAVING n > 1)")
+        yield "repeated", self.number(
+            f"SELECT sum(n - 1) FROM (SELECT count(*) AS n {ENVELOPES} GROUP BY {ID} HAVING n > 1)"
+        )
         yield "held", self.number(f"SELECT count(*) {ENVELOPES} AND e.release > ?", self._second)
         late = "e.expires < ? AND (e.release IS NULL OR e.release <= ?)"
-        yield "expired", self.number(f"SELECT count(*) {ENVELOPES} AND {late}", self._second, self._second)
+        yield "expired", self.number(
+            f"SELECT count(*) {ENVELOPES} AND {late}", self._second, self._second
+        )
         for state in "refused", "empty", "failed":
             yield state, self.number(f"{files} gone = 0 AND state = ?", state)
         yield "gone", self.number(f"{files} gone = 1")
@@ -145,63 +157,125 @@ class Asking:
         """
         rows = self.rows(f"SELECT {what}, count(*) {of} GROUP BY 1 ORDER BY {order}")
         more = sum(count for _, count in rows[BARS:])
-        return Bars(title, [(shown(name), count) for name, count in rows[:BARS]] + [("others", more)] * (more > 0))
+        return Bars(
+            title,
+            [(shown(name), count) for name, count in rows[:BARS]] + [("others", more)] * (more > 0),
+        )
 
     def by_day(self) -> Bars:
         """Return a bar chart of the envelopes by day sent, or by month or year for many days."""
         for length, what in (8, "day"), (6, "month"), (4, "year"):
-            rows = self.rows(f"SELECT substr(e.date_sent, 1, ?), count(*) {ENVELOPES} GROUP BY 1 ORDER BY 1", length)
+            rows = self.rows(
+                f"SELECT substr(e.date_sent, 1, ?), count(*) {ENVELOPES} GROUP BY 1 ORDER BY 1",
+                length,
+            )
             if len(rows) <= BARS:
                 break
-        return Bars(f"Envelopes by {what} sent", [("-".join(filter(None, (name[:4], name[4:6], name[6:]))), count) for name, count in rows[-BARS:]])
+        return Bars(
+            f"Envelopes by {what} sent",
+            [
+                ("-".join(filter(None, (name[:4], name[4:6], name[6:]))), count)
+                for name, count in rows[-BARS:]
+            ],
+        )
 
     def by_hour(self) -> Bars:
         """Return a bar chart of the envelopes by hour of the day, in UTC."""
         counts = dict(self.rows(f"SELECT e.sent % 86400 / 3600, count(*) {ENVELOPES} GROUP BY 1"))
         none = [("no time", counts[None])] if None in counts else []
-        return Bars("Envelopes by hour sent (UTC)", [(f"{hour:02}", counts.get(hour, 0)) for hour in range(24)] + none if counts else [])
+        return Bars(
+            "Envelopes by hour sent (UTC)",
+            [(f"{hour:02}", counts.get(hour, 0)) for hour in range(24)] + none if counts else [],
+        )
 
     def by_size(self) -> Bars:
         """Return a bar chart of the envelopes by the size of their objects, in powers of two."""
         rows = self.rows(f"SELECT bits(e.size), count(*) {ENVELOPES} GROUP BY 1 ORDER BY 1")
-        return Bars("Sizes of objects, at most N octets", [(f"{1 << bits:,}", count) for bits, count in rows])
+        return Bars(
+            "Sizes of objects, at most N octets",
+            [(f"{1 << bits:,}", count) for bits, count in rows],
+        )
 
     def by_age(self) -> Bars:
         """Return a bar chart of the envelopes by age."""
-        cases = " ".join(f"WHEN ? - e.sent < {most} THEN {nth}" for nth, (most, _) in enumerate(AGES))
-        what = f"CASE WHEN e.sent IS NULL THEN -2 WHEN e.sent > ? THEN -1 {cases} ELSE {len(AGES)} END"
-        counts = dict(self.rows(f"SELECT {what}, count(*) {ENVELOPES} GROUP BY 1", *[self._second] * (len(AGES) + 1)))
-        named = {-2: "no time sent", -1: "sent after now", **{nth: name for nth, (_, name) in enumerate(AGES)}, len(AGES): "a year or more"}
+        cases = " ".join(
+            f"WHEN ? - e.sent < {most} THEN {nth}" for nth, (most, _) in enumerate(AGES)
+        )
+        what = (
+            f"CASE WHEN e.sent IS NULL THEN -2 WHEN e.sent > ? THEN -1 {cases} ELSE {len(AGES)} END"
+        )
+        counts = dict(
+            self.rows(
+                f"SELECT {what}, count(*) {ENVELOPES} GROUP BY 1", *[self._second] * (len(AGES) + 1)
+            )
+        )
+        named = {
+            -2: "no time sent",
+            -1: "sent after now",
+            **{nth: name for nth, (_, name) in enumerate(AGES)},
+            len(AGES): "a year or more",
+        }
         return Bars("Ages", [(named[nth], counts[nth]) for nth in sorted(counts)])
 
     def repeats(self) -> Table:
         """Return a table of the ids with the most repeats."""
-        rows = self.rows(f"SELECT {ID}, count(*) AS n {ENVELOPES} GROUP BY 1 HAVING n > 1 ORDER BY n DESC, 1 LIMIT {ROWS}")
-        return Table("Repeats", ["id", "times"], [[shown(name), f"{count:,}"] for name, count in rows])
+        rows = self.rows(
+            f"SELECT {ID}, count(*) AS n {ENVELOPES} GROUP BY 1 HAVING n > 1 ORDER BY n DESC, 1 LIMIT {ROWS}"
+        )
+        return Table(
+            "Repeats", ["id", "times"], [[shown(name), f"{count:,}"] for name, count in rows]
+        )
 
     def next(self, title: str, column: str) -> Table:
         """Return a table of the envelopes whose release or expiration is next."""
         text = f"SELECT f.path, e.envelope, {ID}, e.{column} FROM part0.envelopes AS e JOIN part0.files AS f ON f.file = e.file AND f.gone = 0"
-        rows = self.rows(f"{text} WHERE e.{column} > ? ORDER BY e.{column}, f.path, e.envelope LIMIT {ROWS}", self._second)
-        return Table(title, ["file", "envelope", "id", "at"], [[named(path), str(nth), shown(name), instant(second)] for path, nth, name, second in rows])
+        rows = self.rows(
+            f"{text} WHERE e.{column} > ? ORDER BY e.{column}, f.path, e.envelope LIMIT {ROWS}",
+            self._second,
+        )
+        return Table(
+            title,
+            ["file", "envelope", "id", "at"],
+            [
+                [named(path), str(nth), shown(name), instant(second)]
+                for path, nth, name, second in rows
+            ],
+        )
 
     def damaged(self, page_of: Callable[[bytes], Optional[str]]) -> Iterator[Damaged]:
         """Yield the files with a rejected envelope."""
         rejected = "json_extract(e.told, '$.refused.octet_in_file'), json_extract(e.told, '$.refused.dataset')"
         known = "coalesce(e.service, '?') || ' ' || coalesce(e.number, '?') || ' ' || coalesce(e.date_sent, '?')"
         text = f"SELECT f.path, e.envelope, {rejected}, e.cause || ' ' || e.cause_name, {known} FROM part0.refusals AS e JOIN part0.files AS f"
-        for path, nth, at, dataset, cause, name in self.rows(f"{text} ON f.file = e.file AND f.gone = 0 ORDER BY f.path LIMIT {DAMAGED}"):
+        for path, nth, at, dataset, cause, name in self.rows(
+            f"{text} ON f.file = e.file AND f.gone = 0 ORDER BY f.path LIMIT {DAMAGED}"
+        ):
             yield Damaged(path, nth, at, dataset, cause, shown(name), page_of(path))
 
-    def all(self, name: str, page_of: Callable[[bytes], Optional[str]]) -> Iterator[Tuple[str, Any]]:
+    def all(
+        self, name: str, page_of: Callable[[bytes], Optional[str]]
+    ) -> Iterator[Tuple[str, Any]]:
         """Yield the name and the value of each part of the report."""
         yield "name", words.printable(name)
         yield "now", instant(self._second)
         yield "sums", list(self.sums())
         of_cause = self.of_each("Refusals by cause", "e.cause || ' ' || e.cause_name", REFUSALS)
-        of_service = self.of_each("Refusals by service", "coalesce(e.service, '(not known)')", REFUSALS)
-        yield "bars", [of_cause, of_service, self.by_day(), self.by_hour(), self.by_size(), self.by_age()]
-        yield "tables", [self.repeats(), self.next("Held, and released next", "release"), self.next("Expires next", "expires")]
+        of_service = self.of_each(
+            "Refusals by service", "coalesce(e.service, '(not known)')", REFUSALS
+        )
+        yield "bars", [
+            of_cause,
+            of_service,
+            self.by_day(),
+            self.by_hour(),
+            self.by_size(),
+            self.by_age(),
+        ]
+        yield "tables", [
+            self.repeats(),
+            self.next("Held, and released next", "release"),
+            self.next("Expires next", "expires"),
+        ]
         yield "damaged", list(self.damaged(page_of))
 
 
@@ -217,7 +291,7 @@ def named(path: bytes) -> str:
 
 def instant(second: int) -> str:
     """Return an instant in UTC as text."""
-    return f"{archive_rows.EPOCH + datetime.timedelta(seconds=second):%Y-%m-%dT%H:%M:%SZ}"
+    return f"{EPOCH + datetime.timedelta(seconds=second):%Y-%m-%dT%H:%M:%SZ}"
 
 
 # --- Text
@@ -265,9 +339,9 @@ def parts(asked: argparse.Namespace) -> Iterator[Tuple[str, Any]]:
         asked.inputs = asking.inputs(asked.index, asked.html)
         safe_output.check_output(asked.html, asked.inputs, force=asked.force)
     if asked.html is not None and can_draw():
-        import archive_page
+        from iim.archive.page import Pages
 
-        pages = archive_page.Pages(asked.html, asked.limits, asked.inputs, asked.force).page_of
+        pages = Pages(asked.html, asked.limits, asked.inputs, asked.force).page_of
     yield from asking.all(asked.index, pages)
 
 

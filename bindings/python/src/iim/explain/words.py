@@ -7,7 +7,18 @@ from typing import AbstractSet, Iterable, List, Optional, Tuple
 
 import iim
 
-NAMED = {0: "NUL", 1: "SOH", 2: "STX", 3: "ETX", 4: "EOT", 10: "LF", 13: "CR", 22: "SYN (16)", 27: "ESC (1B)", 32: "SP"}
+NAMED = {
+    0: "NUL",
+    1: "SOH",
+    2: "STX",
+    3: "ETX",
+    4: "EOT",
+    10: "LF",
+    13: "CR",
+    22: "SYN (16)",
+    27: "ESC (1B)",
+    32: "SP",
+}
 
 # The parts of a message, as iim.h numbers them; the names in the row of parts; and each part's
 # index there.
@@ -15,7 +26,23 @@ PARTS = [
     "the filler before SOH", "the source", "the number", "the priority", "the SP after the priority", "the category", "the words",
     "the info", "the gap", "the text", "the trailer", "the filler after EOT",
 ]  # fmt: skip
-ROW = ["filler", "SOH", "source", "number", "priority", "category", "words", "info", "gap", "STX", "text", "ETX", "trailer", "EOT", "filler"]
+ROW = [
+    "filler",
+    "SOH",
+    "source",
+    "number",
+    "priority",
+    "category",
+    "words",
+    "info",
+    "gap",
+    "STX",
+    "text",
+    "ETX",
+    "trailer",
+    "EOT",
+    "filler",
+]
 OF_ROW = [0, 2, 3, 4, 4, 5, 6, 7, 8, 10, 12, 14]
 
 # The valid values of a dataset, by the number of its kind.
@@ -28,13 +55,27 @@ DIGITS = 5
 TEXTS = range(1, DIGITS + 1)
 DATE, PART_DATE, TIME, BINARY, OCTETS, MODE, SIZE, SIZE_FROM_ONE = range(6, 14)
 
-MONTHS = "January February March April May June July August September October November December".split()
+MONTHS = (
+    "January February March April May June July August September October November December".split()
+)
 PRIORITIES = {1: "most urgent", 5: "normal", 8: "least urgent"}
 FORMATS = {2: "IPTC 7901 message"}
 MODES = {0: "the size is not announced", 1: "the size is announced"}
 
 # Classes of bytes that are equivalent in a message. No byte is in two classes.
-CLASSES = [bytes(range(48, 58)), bytes([*range(65, 91), *range(97, 123)]), b"\x1c", b"\0\x16", b"\n", b"\r", b" ", b"\1", b"\2", b"\3", b"\4"]
+CLASSES = [
+    bytes(range(48, 58)),
+    bytes([*range(65, 91), *range(97, 123)]),
+    b"\x1c",
+    b"\0\x16",
+    b"\n",
+    b"\r",
+    b" ",
+    b"\1",
+    b"\2",
+    b"\3",
+    b"\4",
+]
 _NAMED = {octet for each in CLASSES for octet in each}
 CLASSES += [
     bytes(octet for octet in range(33, 127) if octet not in _NAMED), bytes(range(128, 256)),
@@ -44,7 +85,10 @@ CLASSES += [
 
 def shown(octets: bytes, most: int = 40) -> str:
     """Return at most `most` bytes as text, escaped as the command escapes them."""
-    text = "".join(chr(octet) if 32 <= octet < 127 and octet != 92 else f"\\x{octet:02X}" for octet in octets[:most])
+    text = "".join(
+        chr(octet) if 32 <= octet < 127 and octet != 92 else f"\\x{octet:02X}"
+        for octet in octets[:most]
+    )
     return text + ("..." if len(octets) > most else "")
 
 
@@ -77,7 +121,13 @@ def escaped(character: str) -> str:
     number = ord(character)
     if 0xDC80 <= number <= 0xDCFF:
         return f"\\x{number - 0xDC00:02X}"
-    return f"\\x{number:02X}" if number < 256 else f"\\u{number:04X}" if number < 65_536 else f"\\U{number:08X}"
+    return (
+        f"\\x{number:02X}"
+        if number < 256
+        else f"\\u{number:04X}"
+        if number < 65_536
+        else f"\\U{number:08X}"
+    )
 
 
 def name(octet: int, raw: bool = False) -> str:
@@ -102,15 +152,23 @@ def names(octets: Iterable[int], raw: bool = False) -> str:
     if not octets:
         return "no octet"
     if len(octets) > 240:
-        return "any octet" + (f" except {names(frozenset(range(256)) - octets, raw)}" if len(octets) < 256 else "")
+        return "any octet" + (
+            f" except {names(frozenset(range(256)) - octets, raw)}" if len(octets) < 256 else ""
+        )
     spans = runs(octets)
     parts: List[str] = []
     letters = (65, 90) in spans and (97, 122) in spans
-    for what, low, high in ("a digit", 48, 57), ("a capital letter", 65, 90), ("a small letter", 97, 122):
+    for what, low, high in (
+        ("a digit", 48, 57),
+        ("a capital letter", 65, 90),
+        ("a small letter", 97, 122),
+    ):
         if (low, high) in spans and not raw:
             spans.remove((low, high))
             parts.append("a letter" if letters and low > 57 else what)
-    parts = list(dict.fromkeys(parts)) + [part for low, high in spans for part in span(low, high, raw)]
+    parts = list(dict.fromkeys(parts)) + [
+        part for low, high in spans for part in span(low, high, raw)
+    ]
     return " or ".join([", ".join(parts[:-1])] * (len(parts) > 1) + parts[-1:])
 
 
@@ -149,7 +207,11 @@ def date_in_words(octets: bytes) -> str:
 def time_in_words(octets: bytes) -> str:
     """Return a valid time as text."""
     text = octets.decode("ascii")
-    offset = "universal time" if text[7:] == "0000" else f"{text[7:9]}:{text[9:]} {'ahead of' if text[6] == '+' else 'behind'} universal time"
+    offset = (
+        "universal time"
+        if text[7:] == "0000"
+        else f"{text[7:9]}:{text[9:]} {'ahead of' if text[6] == '+' else 'behind'} universal time"
+    )
     return f"{text[:2]}:{text[2:4]}:{text[4:6]}, {offset}"
 
 
@@ -157,7 +219,9 @@ def instant_in_words(date: Optional[bytes], time: Optional[bytes]) -> Optional[s
     """Return the UTC instant of a valid date and time, or `None` if missing or out of range."""
     if date is None or time is None:
         return None
-    clock = datetime.datetime.strptime((date + time[:6]).decode("ascii"), "%Y%m%d%H%M%S").replace(tzinfo=datetime.timezone.utc)
+    clock = datetime.datetime.strptime((date + time[:6]).decode("ascii"), "%Y%m%d%H%M%S").replace(
+        tzinfo=datetime.timezone.utc
+    )
     offset = datetime.timedelta(hours=int(time[7:9]), minutes=int(time[9:]))
     try:
         instant = clock + offset if time[6:7] == b"-" else clock - offset

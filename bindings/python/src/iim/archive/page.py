@@ -1,4 +1,4 @@
-"""Generate the HTML page of archive.py's report, by jinja2, with charts by matplotlib.
+"""Generate the HTML page of iim-archive's report, by jinja2, with charts by matplotlib.
 
 The charts are part of the page. It has no script and loads nothing.
 """
@@ -13,20 +13,27 @@ import jinja2
 import matplotlib
 from markupsafe import Markup
 
-import archive_report
-import archive_rows
-import explain
-import explain_page
 import iim
-from archive_report import Bars, Told
-from explain_walk import Source
-from safe_output import LINK, PAGE_HEAD, Input, OutputRefused, replace_file
+from iim.archive.report import Bars, Told, named
+from iim.archive.rows import opened
+from iim.explain import page as explain_page
+from iim.explain.case import Case
+from iim.explain.walk import Source
+from iim.safe_output import LINK, PAGE_HEAD, Input, OutputRefused, replace_file
 
 # The maximum number of damaged files that get a page.
 PAGES = 50
 
 matplotlib.use("svg")
-matplotlib.rcParams.update({"svg.fonttype": "none", "svg.hashsalt": "report", "text.parse_math": False, "font.size": 10, "text.usetex": False})
+matplotlib.rcParams.update(
+    {
+        "svg.fonttype": "none",
+        "svg.hashsalt": "report",
+        "text.parse_math": False,
+        "font.size": 10,
+        "text.usetex": False,
+    }
+)
 
 TEMPLATE = (
     PAGE_HEAD
@@ -69,7 +76,9 @@ table { border-collapse: collapse; font-size: 14px } td, th { padding: 2px 14px 
 class Pages:
     """The pages of damaged files, in a directory beside the report."""
 
-    def __init__(self, report: str, limits: Tuple[int, int], inputs: List[Input], force: bool) -> None:
+    def __init__(
+        self, report: str, limits: Tuple[int, int], inputs: List[Input], force: bool
+    ) -> None:
         self._folder = f"{re.sub('[.]html?$', '', report)}.files"
         self._limits, self._count = iim.Limits(*limits), 0
         self._inputs, self._force = inputs, force
@@ -93,15 +102,17 @@ class Pages:
             os.mkdir(self._folder)
         self._count += 1
         name = f"{self._count}.html"
-        with replace_file(os.path.join(self._folder, name), [*self._inputs, path], force=self._force) as to:
+        with replace_file(
+            os.path.join(self._folder, name), [*self._inputs, path], force=self._force
+        ) as to:
             to.write(text)
         return f"{quoted(os.path.basename(self._folder))}/{name}"
 
     def _text_of(self, path: bytes) -> Optional[str]:
         try:
             # (a path that is no longer a regular file could block without end)
-            os.close(archive_rows.opened(path))
-            return explain_page.page(explain.Case(Source(os.fsdecode(path)), self._limits))
+            os.close(opened(path))
+            return explain_page.page(Case(Source(os.fsdecode(path)), self._limits))
         except OSError:
             return None
 
@@ -136,11 +147,13 @@ def picture(bars: Bars) -> Markup:
     out = io.StringIO()
     figure.savefig(out, format="svg", metadata={"Date": None, "Creator": None})
     # (the prolog before the element is for files)
-    drawn_as = re.sub(r"<metadata>.*?</metadata>", "", out.getvalue()[out.getvalue().index("<svg") :], flags=re.S)
+    drawn_as = re.sub(
+        r"<metadata>.*?</metadata>", "", out.getvalue()[out.getvalue().index("<svg") :], flags=re.S
+    )
     return Markup(drawn_as)
 
 
 def page(told: Told) -> str:
     """Return the page of a report."""
     template = jinja2.Environment(autoescape=True).from_string(TEMPLATE)
-    return template.render(told=told, picture=picture, named=archive_report.named)
+    return template.render(told=told, picture=picture, named=named)

@@ -9,7 +9,7 @@ import logging
 import sys
 from typing import Any, Deque, Iterable, Iterator, List, NoReturn, Tuple
 
-from archive_rows import AHEAD, Asked, Blocks, Failure, Reader, lost
+from iim.archive.rows import AHEAD, Asked, Blocks, Failure, Reader, lost
 
 # The seconds after which a missing worker is reported, and after which the run fails.
 FIRST_WAIT, LAST_WAIT = 10, 300
@@ -62,7 +62,9 @@ def wait_for_worker(client: Any, address: str) -> None:
     if has_worker(client, address, FIRST_WAIT):
         return
     if sys.stderr is not None:
-        sys.stderr.write(f"iim-archive: {address}: the scheduler has no worker yet; waiting {LAST_WAIT} seconds at most\n")
+        sys.stderr.write(
+            f"iim-archive: {address}: the scheduler has no worker yet; waiting {LAST_WAIT} seconds at most\n"
+        )
     if not has_worker(client, address, LAST_WAIT - FIRST_WAIT):
         raise Failure(f"{address}: the scheduler had no worker for {LAST_WAIT} seconds")
 

@@ -8,10 +8,10 @@ import functools
 import re
 from typing import Dict, FrozenSet, Iterable, Iterator, List, NamedTuple, Optional, Set, Tuple
 
-import explain_words as words
 import iim
-from explain_walk import BLOCK, Item, Source, Walk
-from explain_words import counted, name, names, shown, titled
+from iim.explain import words
+from iim.explain.walk import BLOCK, Item, Source, Walk
+from iim.explain.words import counted, name, names, shown, titled
 
 # The number of bytes before the rejected one that are changed, too: in any dataset, and in a
 # message.
@@ -39,7 +39,11 @@ SINGLY = [bytes([value]) for value in range(256)]
 # number, and counts of each form.
 IN_HEAD = [[b"\x1c"], [b"\1", b"\2", b"\7", b"\x08", b"\x09"], SINGLY, SINGLY[:129], SINGLY]
 # The bytes that can be valid in dates and times.
-IN_VALUE = {words.DATE: SINGLY[48:58], words.PART_DATE: SINGLY[48:58], words.TIME: [*SINGLY[48:58], b"+", b"-"]}
+IN_VALUE = {
+    words.DATE: SINGLY[48:58],
+    words.PART_DATE: SINGLY[48:58],
+    words.TIME: [*SINGLY[48:58], b"+", b"-"],
+}
 
 
 class Mend(NamedTuple):
@@ -79,9 +83,15 @@ class Told(NamedTuple):
 class Tries:
     """The changes that are tried on a rejected envelope."""
 
-    def __init__(self, source: Source, refusal: iim.Refused, walk: Walk, limits: iim.Limits) -> None:
+    def __init__(
+        self, source: Source, refusal: iim.Refused, walk: Walk, limits: iim.Limits
+    ) -> None:
         self._source, self.refusal, self.walk, self._limits = source, refusal, walk, limits
-        self.at, self.octet, self.ends = refusal.at, refusal.octet, isinstance(refusal, iim.Truncated)
+        self.at, self.octet, self.ends = (
+            refusal.at,
+            refusal.octet,
+            isinstance(refusal, iim.Truncated),
+        )
         self.datasets = [item for item in walk.items if item.kind == "dataset"]
         self._short = self.take(0, self.octet + REST) if self.octet <= SHORT else None
         self._kept = -1, b""
@@ -100,8 +110,13 @@ class Tries:
         """Return a receiver in the state before a byte that is not after the rejected one."""
         near = self._near
         if near.octets > octet or near is self._start:
-            at, ticket = max((place for place in self.walk.places if place[0] <= octet), key=lambda place: place[0])
-            near = iim.Receiver.resume(ticket, at, self._limits) if at else iim.Receiver(self._limits)
+            at, ticket = max(
+                (place for place in self.walk.places if place[0] <= octet),
+                key=lambda place: place[0],
+            )
+            near = (
+                iim.Receiver.resume(ticket, at, self._limits) if at else iim.Receiver(self._limits)
+            )
         while near.octets < octet:
             near.feed(self.take(near.octets, min(BLOCK, octet - near.octets)))
         self._near = near
@@ -138,14 +153,20 @@ class Tries:
 
     def _token(self) -> int:
         """Return the offset of the first byte of the rejected token."""
-        if self.here is None or self.refusal.layer in (MESSAGE, STORY) and self.place.begun == "data":
+        if (
+            self.here is None
+            or self.refusal.layer in (MESSAGE, STORY)
+            and self.place.begun == "data"
+        ):
             return self.octet
         return self.place.first
 
     def _candidates(self) -> Set[int]:
         """Return the offsets of the bytes that are changed."""
         at, found = self.octet, set(range(self.begin, self.octet + 1))
-        found |= set(range(max(0, at - (NEAR_OF_MESSAGE if self._is_of_message() else NEAR)), at + 1))
+        found |= set(
+            range(max(0, at - (NEAR_OF_MESSAGE if self._is_of_message() else NEAR)), at + 1)
+        )
         for item in self.datasets[-3:]:
             found |= set(range(item.at, item.at + item.head))
         for item in self.datasets:
@@ -163,9 +184,17 @@ class Tries:
     def mends(self) -> Dict[int, Mend]:
         """The results of changing each byte, without those bytes for which no value helps."""
         if self.ends:
-            found = range(self.here.at, min(self.here.at + self.here.head, self.octet)) if self.here and self.here.number is not None else range(0)
+            found = (
+                range(self.here.at, min(self.here.at + self.here.head, self.octet))
+                if self.here and self.here.number is not None
+                else range(0)
+            )
         else:
-            return {octet: mend for octet in sorted(self._candidates()) if (mend := self._mend(octet, self._groups(octet))).taken}
+            return {
+                octet: mend
+                for octet in sorted(self._candidates())
+                if (mend := self._mend(octet, self._groups(octet))).taken
+            }
         return {octet: mend for octet in found if (mend := self._mend(octet, SINGLY)).whole}
 
     def _groups(self, octet: int) -> List[bytes]:
@@ -176,7 +205,10 @@ class Tries:
         """
         if octet == self.octet:
             return [bytes([value]) for value in sorted(self.could)]
-        item = next((item for item in reversed(self.datasets) if item.at <= octet < item.at + item.length), None)
+        item = next(
+            (item for item in reversed(self.datasets) if item.at <= octet < item.at + item.length),
+            None,
+        )
         if item is None or item.number is None:
             return SINGLY
         if octet < item.at + item.head:
@@ -196,10 +228,17 @@ class Tries:
         """
         if nth == 2:
             named = [value for value in range(256) if iim.dataset_name(item.record, value)]
-            return [*(bytes([value]) for value in named), bytes(value for value in range(256) if value not in named)]
+            return [
+                *(bytes([value]) for value in named),
+                bytes(value for value in range(256) if value not in named),
+            ]
         if nth < 3 or item.head != 5 or item in self.datasets[-3:]:
             return IN_HEAD[nth]
-        shift, kept = (8, self.take(item.at + 4, 1)[0]) if nth == 3 else (0, self.take(item.at + 3, 1)[0] << 8)
+        shift, kept = (
+            (8, self.take(item.at + 4, 1)[0])
+            if nth == 3
+            else (0, self.take(item.at + 3, 1)[0] << 8)
+        )
         octets = self._rest(item.at + item.head)
         ends = ((value, (value[0] << shift) + kept) for value in IN_HEAD[nth])
         return [value for value, count in ends if octets[count : count + 1] == b"\x1c"]
@@ -236,7 +275,11 @@ class Tries:
                 continue
             last = reported[-1] if reported else None
             order = self._order(octet, octets)
-            if last and last[2:] == (octet - 1, octets, some, mend.far if not some else last.far) and last.order == order:
+            if (
+                last
+                and last[2:] == (octet - 1, octets, some, mend.far if not some else last.far)
+                and last.order == order
+            ):
                 reported[-1] = last._replace(last=octet)
             else:
                 reported.append(Told(order, octet, octet, octets, some, mend.far))
@@ -258,7 +301,14 @@ class Tries:
 
     def hints(self) -> Iterator[str]:
         """Yield the frequent faults whose fix makes more of the envelope valid."""
-        for each in self._transfers(), self._datasets(), self._lost_octets(), self._counts(), self._after_the_last(), self._without_record_1():
+        for each in (
+            self._transfers(),
+            self._datasets(),
+            self._lost_octets(),
+            self._counts(),
+            self._after_the_last(),
+            self._without_record_1(),
+        ):
             yield from each
 
     def _goes(self, what: str, reach: int, whole: bool, least: int = 0) -> Iterator[str]:
@@ -271,7 +321,10 @@ class Tries:
         for what, change in (
             ("With each CR LF changed to LF", lines_as_lf),
             ("With each lone LF of the object changed to CR LF", lines_as_crlf),
-            ("With each CR LF changed to LF, and then each LF of the object to CR LF", lambda octets: lines_as_crlf(lines_as_lf(octets))),
+            (
+                "With each CR LF changed to LF, and then each LF of the object to CR LF",
+                lambda octets: lines_as_crlf(lines_as_lf(octets)),
+            ),
             ("With UTF-8 converted to Latin-1", from_utf8),
         ):
             made = change(data)
@@ -281,7 +334,9 @@ class Tries:
             low, high = 0, len(data)
             while low < high:
                 middle = (low + high) // 2
-                low, high = (low, middle) if len(change(data[:middle])) >= reach else (middle + 1, high)
+                low, high = (
+                    (low, middle) if len(change(data[:middle])) >= reach else (middle + 1, high)
+                )
             yield from self._goes(what, high, whole)
             if whole:
                 return
@@ -293,7 +348,11 @@ class Tries:
             return
         if refusal.layer == RECORD and here.length < BLOCK:
             end = here.at + here.head + here.size
-            yield from self._goes(f"Without this dataset {titled(here.record, here.number)}", *self.edited(here.at, end - here.at, b""), end + 4)
+            yield from self._goes(
+                f"Without this dataset {titled(here.record, here.number)}",
+                *self.edited(here.at, end - here.at, b""),
+                end + 4,
+            )
         if refusal.cause == MISSING:
             put = placeholder(refusal.record, refusal.number)
             what = f"With {titled(refusal.record, refusal.number)} inserted before it, as '{shown(put[5:])}'"
@@ -313,7 +372,12 @@ class Tries:
     def _counts(self) -> Iterator[str]:
         """Yield a note if the count of the last dataset exceeds the rest of the file."""
         here = self.here
-        if self.ends and here and here.size is not None and here.at + here.head + here.size > self.octet:
+        if (
+            self.ends
+            and here
+            and here.size is not None
+            and here.at + here.head + here.size > self.octet
+        ):
             missing = here.at + here.head + here.size - self.octet
             yield (
                 f"The count of {titled(here.record, here.number)} at {here.at:,} is {counted(here.size, 'octet')}, which is more than the file has: "
@@ -327,7 +391,9 @@ class Tries:
             return
         octets = self.take(0, BLOCK)
         what = f", all {name(octets[0])}" if len(set(octets)) == 1 and rest == len(octets) else ""
-        before = "The envelope before it is" if nth == 2 else f"All {nth - 1:,} envelopes before it are"
+        before = (
+            "The envelope before it is" if nth == 2 else f"All {nth - 1:,} envelopes before it are"
+        )
         yield f"{before} complete: without the last {counted(rest, 'octet')}{what}, the file is accepted."
 
     def _without_record_1(self) -> Iterator[str]:
@@ -343,7 +409,11 @@ class Tries:
         reach, is_envelope, is_all, record = self._after_record_1(at)
         found = f"At octet {at:,} a record 2 begins, and there is no record 1 before it"
         if is_envelope:
-            so = "everything after it is accepted" if is_all else f"the envelope is accepted, and ends before octet {reach:,}"
+            so = (
+                "everything after it is accepted"
+                if is_all
+                else f"the envelope is accepted, and ends before octet {reach:,}"
+            )
             yield f"{found}: record 1 is lost. With a record 1 inserted there, {so}."
         elif record > 2:
             yield f"{found}: record 1 is lost. With a record 1 inserted there, it is valid up to octet {reach:,}."
@@ -375,13 +445,23 @@ class Tries:
                 try:
                     fed = receiver.feed(piece, start)
                 except iim.Refused as refusal:
-                    record = iim.Receiver.resume(refusal.ticket, refusal.octet, self._limits).place.record
-                    return (at + start + refusal.octet - before, False, False, record) if ended is None else (ended, True, False, record)
+                    record = iim.Receiver.resume(
+                        refusal.ticket, refusal.octet, self._limits
+                    ).place.record
+                    return (
+                        (at + start + refusal.octet - before, False, False, record)
+                        if ended is None
+                        else (ended, True, False, record)
+                    )
                 start += fed.used
                 ended = at + start if fed.envelope and ended is None else ended
             at += len(piece)
         record = receiver.place.record
-        return (at, False, False, record) if ended is None else (ended, True, not receiver.octets, record)
+        return (
+            (at, False, False, record)
+            if ended is None
+            else (ended, True, not receiver.octets, record)
+        )
 
 
 # --- Changes of many bytes
@@ -397,7 +477,13 @@ def lines_as_crlf(octets: bytes) -> bytes:
     low = octets.find(b"\x1c\x08\x0a")
     high = octets.rfind(b"\x1c\x09")
     high = len(octets) if high < low else high
-    return octets if low < 0 else octets[: low + 5] + re.sub(rb"(?<!\r)\n", b"\r\n", octets[low + 5 : high]) + octets[high:]
+    return (
+        octets
+        if low < 0
+        else octets[: low + 5]
+        + re.sub(rb"(?<!\r)\n", b"\r\n", octets[low + 5 : high])
+        + octets[high:]
+    )
 
 
 def from_utf8(octets: bytes) -> bytes:
@@ -417,7 +503,14 @@ def placeholder(record: int, number: int) -> bytes:
     """
     rule = iim.row(record, number)
     least, kind = (rule.least, rule.kind) if rule else (0, words.OCTETS)
-    value = {words.DATE: b"20240101", words.TIME: b"120000+0000", words.DIGITS: b"0" * least, words.BINARY: b"\0" * least}.get(kind, b"\1" * least)
+    value = {
+        words.DATE: b"20240101",
+        words.TIME: b"120000+0000",
+        words.DIGITS: b"0" * least,
+        words.BINARY: b"\0" * least,
+    }.get(kind, b"\1" * least)
     head = bytes([0x1C, record, number, 0, len(value)])
     likely = [head + value[:-1] + last for last in SINGLY] if kind == words.BINARY and value else []
-    return next((each for each in likely if iim.Receiver().tries(each)[0] == len(each)), head + value)
+    return next(
+        (each for each in likely if iim.Receiver().tries(each)[0] == len(each)), head + value
+    )

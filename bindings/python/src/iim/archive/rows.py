@@ -1,4 +1,4 @@
-"""Read a file of envelopes for archive.py: its rows in the index, and their lines of JSON."""
+"""Read a file of envelopes for iim-archive: its rows in the index, and their lines of JSON."""
 from __future__ import annotations
 
 import contextlib
@@ -24,7 +24,23 @@ quoted: Callable[[str], str] = json.JSONEncoder().encode
 # The rows of the tables `files` (without `gone`), `envelopes` and `refusals` of the index, by
 # columns.
 FileRow = Tuple[int, bytes, int, int, int, str, Optional[str]]
-EnvelopeRow = Tuple[int, int, int, int, str, str, str, Optional[str], int, int, int, int, Optional[int], Optional[int], Optional[int]]
+EnvelopeRow = Tuple[
+    int,
+    int,
+    int,
+    int,
+    str,
+    str,
+    str,
+    Optional[str],
+    int,
+    int,
+    int,
+    int,
+    Optional[int],
+    Optional[int],
+    Optional[int],
+]
 RefusalRow = Tuple[int, int, int, int, str, Optional[str], Optional[str], Optional[str], str]
 
 # The rows of envelopes as one flat list, the columns of one row after those of another: the fastest
@@ -254,14 +270,18 @@ def opened(path: bytes) -> int:
         OSError: The file can't be opened.
     """
     with reached(path) as (folder, rest):
-        file = os.open(rest, os.O_RDONLY | os.O_NONBLOCK | os.O_NOCTTY | os.O_CLOEXEC, dir_fd=folder)
+        file = os.open(
+            rest, os.O_RDONLY | os.O_NONBLOCK | os.O_NOCTTY | os.O_CLOEXEC, dir_fd=folder
+        )
     if not stat.S_ISREG(os.fstat(file).st_mode):
         os.close(file)
         raise NotRegular(NOT_REGULAR)
     return file
 
 
-def blocks_of(path: bytes, limits: iim.Limits, now: datetime.datetime, timer: Timer) -> Generator[List[iim.RawRow], None, None]:
+def blocks_of(
+    path: bytes, limits: iim.Limits, now: datetime.datetime, timer: Timer
+) -> Generator[List[iim.RawRow], None, None]:
     """Yield the rows of a file, many at a time."""
     file = opened(path)
 
@@ -277,7 +297,26 @@ def blocks_of(path: bytes, limits: iim.Limits, now: datetime.datetime, timer: Ti
 
 def envelope_row(file: int, nth: int, second: int, raw: iim.RawRow) -> EnvelopeRow:
     """Return the index's row of an envelope, from its row of an audit at `second`."""
-    at, length, size, subfiles, announced, counted, age, release, expires, has_age, has_release, has_expires, _, priority, count, service, number, date = raw
+    (
+        at,
+        length,
+        size,
+        subfiles,
+        announced,
+        counted,
+        age,
+        release,
+        expires,
+        has_age,
+        has_release,
+        has_expires,
+        _,
+        priority,
+        count,
+        service,
+        number,
+        date,
+    ) = raw
     return (
         file, nth, at, length, service[:count].decode("latin-1"), number.decode("ascii"), date.decode("ascii"), chr(priority) if priority else None, size,
         subfiles, announced, counted, second - age if has_age else None, release if has_release else None, expires if has_expires else None,
@@ -302,7 +341,9 @@ def watch_reads(before: Callable[[], object]) -> None:
     interrupt_reads()
 
 
-def read_file(asked: Asked, limits: iim.Limits, now: datetime.datetime, most: float = LONGEST_TIME) -> FileRows:
+def read_file(
+    asked: Asked, limits: iim.Limits, now: datetime.datetime, most: float = LONGEST_TIME
+) -> FileRows:
     """Read a file, for at most `most` seconds.
 
     An exception becomes the reason why the file failed.
@@ -317,7 +358,9 @@ def read_file(asked: Asked, limits: iim.Limits, now: datetime.datetime, most: fl
     read = 0
     state, reason, refusal = "accepted", None, None
     try:
-        with Timer(most) as timer, contextlib.closing(blocks_of(path, limits, now, timer)) as blocks:
+        with Timer(most) as timer, contextlib.closing(
+            blocks_of(path, limits, now, timer)
+        ) as blocks:
             for block in blocks:
                 for nth, raw in enumerate(block, nth + 1):
                     rows += envelope_row(file, nth, second, raw)
@@ -368,7 +411,23 @@ def refusal_line(name: str, told: str) -> str:
 
 def envelope_front(name: str, row: EnvelopeRow, now: datetime.datetime, second: int) -> str:
     """Return the line of an envelope up to the envelope that it repeats."""
-    _, nth, at, length, service, number, date, priority, size, subfiles, announced, counted, sent, release, expires = row
+    (
+        _,
+        nth,
+        at,
+        length,
+        service,
+        number,
+        date,
+        priority,
+        size,
+        subfiles,
+        announced,
+        counted,
+        sent,
+        release,
+        expires,
+    ) = row
     copy = "free" if release is None and expires is None else copy_of(release, expires, now)
     return (
         f'{{"file": {name}, "envelope": {nth}, "at": {at}, "length": {length}, "service": {quoted(service)}, "number": "{number}", '
@@ -392,7 +451,9 @@ def lines_of(rows: FileRows, now: datetime.datetime) -> Lines:
     name = name_of(rows.path)
     second = seconds(now)
     envelopes = rows_in(rows.envelopes)
-    fronts = [(row[5] + row[6] + row[4], envelope_front(name, row, now, second)) for row in envelopes]
+    fronts = [
+        (row[5] + row[6] + row[4], envelope_front(name, row, now, second)) for row in envelopes
+    ]
     held = sum(row[13] is not None and row[13] > second for row in envelopes)
     last = None
     if rows.refusal is not None:
@@ -410,11 +471,15 @@ def kept_rows(rows: FileRows, now: datetime.datetime) -> KeptRows:
     return (*rows,)
 
 
-def read_files(files: List[Asked], limits: iim.Limits, now: datetime.datetime, form: Form, most: float) -> List[Tuple[object, ...]]:
+def read_files(
+    files: List[Asked], limits: iim.Limits, now: datetime.datetime, form: Form, most: float
+) -> List[Tuple[object, ...]]:
     """Read some files, each for at most `most` seconds."""
     return [form(read_file(file, limits, now, most), now) for file in files]
 
 
-def read_batch(files: List[Asked], limits: iim.Limits, now: datetime.datetime, form: Form, most: float) -> bytes:
+def read_batch(
+    files: List[Asked], limits: iim.Limits, now: datetime.datetime, form: Form, most: float
+) -> bytes:
     """Read some files, and return their rows as a block. A worker runs this."""
     return marshal.dumps(read_files(files, limits, now, form, most), FORM)

@@ -1,4 +1,4 @@
-"""Write the index of archive.py, an SQLite database.
+"""Write the index of iim-archive, an SQLite database.
 
 There is a row for each file, each envelope and each refusal. A file's name is a string of bytes, by
 which files are ordered. The age of an envelope, and whether its copy may be used, depend on the
@@ -13,7 +13,7 @@ import sqlite3
 import stat
 from typing import BinaryIO, Dict, Iterator, NamedTuple, Sequence, Tuple
 
-from archive_rows import COLUMNS, ENDS, Cells, FileRow, NoIndex, RefusalRow
+from iim.archive.rows import COLUMNS, ENDS, Cells, FileRow, NoIndex, RefusalRow
 
 # The beginning of an SQLite database, and the suffix of the lock file.
 MAGIC = b"SQLite format 3\0"
@@ -80,7 +80,10 @@ HERE = "file NOT IN (SELECT file FROM files WHERE gone = 1)"
 SUMS = {
     "envelopes": f"SELECT count(*) FROM envelopes WHERE {HERE}",
     "repeated": f"SELECT coalesce(sum(n - 1), 0) FROM (SELECT count(*) AS n FROM envelopes WHERE {HERE} GROUP BY date_sent, service, number HAVING n > 1)",
-    **{state: f"SELECT count(*) FROM files WHERE state = '{state}' AND gone = 0" for state in ("refused", "empty", "failed")},
+    **{
+        state: f"SELECT count(*) FROM files WHERE state = '{state}' AND gone = 0"
+        for state in ("refused", "empty", "failed")
+    },
 }
 HELD = f"SELECT count(*) FROM envelopes WHERE release > ? AND {HERE}"
 
@@ -138,8 +141,12 @@ def connected(path: str) -> sqlite3.Connection:
         form = database.execute("PRAGMA user_version").fetchone()[0]
         if form == 0 and not database.execute("SELECT 1 FROM sqlite_master").fetchone():
             database.execute("PRAGMA journal_mode = WAL")
-            database.executescript(f"BEGIN IMMEDIATE; {TABLES} PRAGMA user_version = {FORM}; COMMIT;")
-        elif form != FORM or database.execute(HAS_TABLES.format("")).fetchone()[0] != COUNT_OF_TABLES:
+            database.executescript(
+                f"BEGIN IMMEDIATE; {TABLES} PRAGMA user_version = {FORM}; COMMIT;"
+            )
+        elif (
+            form != FORM or database.execute(HAS_TABLES.format("")).fetchone()[0] != COUNT_OF_TABLES
+        ):
             raise NoIndex(f"{path}: not an index of this version of archive.py")
         database.execute("PRAGMA synchronous = NORMAL")
         database.execute(f"PRAGMA wal_autocheckpoint = {CHECKPOINT}")
@@ -172,7 +179,11 @@ def locked(path: str) -> BinaryIO:
     """
     try:
         # (neither follows a link nor waits for a FIFO)
-        number = os.open(f"{path}{LOCK}", os.O_WRONLY | os.O_CREAT | os.O_NOFOLLOW | os.O_NONBLOCK | os.O_NOCTTY | os.O_CLOEXEC, 0o666)
+        number = os.open(
+            f"{path}{LOCK}",
+            os.O_WRONLY | os.O_CREAT | os.O_NOFOLLOW | os.O_NONBLOCK | os.O_NOCTTY | os.O_CLOEXEC,
+            0o666,
+        )
         lock = open(number, "ab")
         fcntl.flock(lock, fcntl.LOCK_EX | fcntl.LOCK_NB)
         return lock
@@ -191,7 +202,9 @@ class Index:
         try:
             self._database = connected(path)
             # The first number that this run assigns, and the next one.
-            self._first: int = self._database.execute("SELECT coalesce(max(file), 0) + 1 FROM files").fetchone()[0]
+            self._first: int = self._database.execute(
+                "SELECT coalesce(max(file), 0) + 1 FROM files"
+            ).fetchone()[0]
         except sqlite3.Error as fault:
             raise NoIndex(f"{path}: {fault}") from None
         self._next = self._first
@@ -217,7 +230,9 @@ class Index:
                 return
             first = page[-1][0] + b"\0"
 
-    def write(self, files: Sequence[FileRow], envelopes: Cells, refusals: Sequence[RefusalRow]) -> None:
+    def write(
+        self, files: Sequence[FileRow], envelopes: Cells, refusals: Sequence[RefusalRow]
+    ) -> None:
         """Write the rows of some files, in place of their earlier ones."""
         with self._transaction() as run:
             again = [(file[0],) for file in files if file[0] < self._first]
@@ -226,15 +241,24 @@ class Index:
                     run.executemany(f"DELETE FROM {table} WHERE file = ?", again)
             run.executemany("INSERT OR REPLACE INTO files VALUES (?, ?, ?, ?, ?, ?, ?, 0)", files)
             whole = len(envelopes) // AT_ONCE * AT_ONCE
-            run.executemany(INSERT + ROW + f", {ROW}" * (AT_ONCE // COLUMNS - 1), (envelopes[at : at + AT_ONCE] for at in range(0, whole, AT_ONCE)))
-            run.executemany(INSERT + ROW, (envelopes[at : at + COLUMNS] for at in range(whole, len(envelopes), COLUMNS)))
+            run.executemany(
+                INSERT + ROW + f", {ROW}" * (AT_ONCE // COLUMNS - 1),
+                (envelopes[at : at + AT_ONCE] for at in range(0, whole, AT_ONCE)),
+            )
+            run.executemany(
+                INSERT + ROW,
+                (envelopes[at : at + COLUMNS] for at in range(whole, len(envelopes), COLUMNS)),
+            )
             if refusals:
                 run.executemany("INSERT INTO refusals VALUES (?, ?, ?, ?, ?, ?, ?, ?, ?)", refusals)
 
     def mark(self, numbers: Sequence[int], gone: bool) -> None:
         """Mark files as gone, or as present again."""
         with self._transaction() as run:
-            run.executemany(f"UPDATE files SET gone = {int(gone)} WHERE file = ?", [(number,) for number in numbers])
+            run.executemany(
+                f"UPDATE files SET gone = {int(gone)} WHERE file = ?",
+                [(number,) for number in numbers],
+            )
 
     @contextlib.contextmanager
     def _transaction(self) -> Iterator[sqlite3.Cursor]:
@@ -274,7 +298,10 @@ class Index:
 
     def _in_order(self, sums: Dict[str, int], second: int) -> Dict[str, int]:
         held = self._database.execute(HELD, (second,)).fetchone()[0]
-        return {name: sums.get(name, held) for name in ("envelopes", "repeated", "held", "refused", "empty", "failed")}
+        return {
+            name: sums.get(name, held)
+            for name in ("envelopes", "repeated", "held", "refused", "empty", "failed")
+        }
 
     def close(self) -> None:
         """Close the database, and release the lock."""

@@ -33,7 +33,12 @@ def is_page(head: bytes) -> bool:
     return head.startswith(PAGE_HEAD.encode("ascii"))
 
 
-def check_output(path: str, inputs: Iterable[Input] = (), is_ours: Callable[[bytes], bool] = is_page, force: bool = False) -> None:
+def check_output(
+    path: str,
+    inputs: Iterable[Input] = (),
+    is_ours: Callable[[bytes], bool] = is_page,
+    force: bool = False,
+) -> None:
     """Check that a file may be written or replaced.
 
     Args:
@@ -51,7 +56,12 @@ def check_output(path: str, inputs: Iterable[Input] = (), is_ours: Callable[[byt
 
 
 @contextlib.contextmanager
-def replace_file(path: str, inputs: Iterable[Input] = (), is_ours: Callable[[bytes], bool] = is_page, force: bool = False) -> Iterator[TextIO]:
+def replace_file(
+    path: str,
+    inputs: Iterable[Input] = (),
+    is_ours: Callable[[bytes], bool] = is_page,
+    force: bool = False,
+) -> Iterator[TextIO]:
     """Open a text file that replaces `path` if the block ends without an exception.
 
     Otherwise `path` is unchanged. A symbolic link is itself replaced; its target is not changed.
@@ -86,7 +96,9 @@ def replace_file(path: str, inputs: Iterable[Input] = (), is_ours: Callable[[byt
         raise
 
 
-def _reason(path: str, inputs: Iterable[Input], is_ours: Callable[[bytes], bool], force: bool) -> Optional[str]:
+def _reason(
+    path: str, inputs: Iterable[Input], is_ours: Callable[[bytes], bool], force: bool
+) -> Optional[str]:
     """Return why a file must not be written, or `None`."""
     try:
         there = os.stat(path)
@@ -102,7 +114,11 @@ def _reason(path: str, inputs: Iterable[Input], is_ours: Callable[[bytes], bool]
         return None
     if os.path.islink(path):
         return LINK
-    return None if is_ours(_head_of(path)) else "exists and was not written by this program; --force replaces it"
+    return (
+        None
+        if is_ours(_head_of(path))
+        else "exists and was not written by this program; --force replaces it"
+    )
 
 
 def _is_same(each: Input, there: os.stat_result) -> bool:

@@ -8,11 +8,13 @@ import html
 import itertools
 from typing import Iterable, Iterator, List, NamedTuple, Optional, Tuple
 
-import explain
 import iim
-from explain_walk import Item
-from explain_words import counted, plain, printable
-from safe_output import PAGE_HEAD
+from iim.explain.case import Case, Whole
+from iim.explain.sections import Section, sections
+from iim.explain.text import listing as lines_of_listing
+from iim.explain.walk import Item
+from iim.explain.words import counted, plain, printable
+from iim.safe_output import PAGE_HEAD
 
 # The number of items, story lines and bytes shown at each end of all envelopes; and of bytes of a
 # dataset.
@@ -78,12 +80,16 @@ class Group(NamedTuple):
     spans: List[Span]
 
 
-def page(case: explain.Case) -> str:
+def page(case: Case) -> str:
     """Return the page of a file."""
     say = html.escape
     name = printable(case.source.name)
-    told = "".join(card(section) for section in explain.sections(case))
-    near = f"<section><h2>Bytes around the error</h2><pre>{around(case)}</pre></section>" if case.refusal else ""
+    told = "".join(card(section) for section in sections(case))
+    near = (
+        f"<section><h2>Bytes around the error</h2><pre>{around(case)}</pre></section>"
+        if case.refusal
+        else ""
+    )
     wholes = "".join(article(case, whole) for whole in case.wholes)
     lit = ",".join(f".part:has(.{key}:hover) .{key}" for key in map(key_of, range(TOGETHER)))
     policy = "default-src 'none'; style-src 'unsafe-inline'"
@@ -100,62 +106,84 @@ def key_of(nth: int) -> str:
     return f"k{nth % TOGETHER}"
 
 
-def card(section: explain.Section) -> str:
+def card(section: Section) -> str:
     """Return a section of the explanation of a refusal."""
     parts: List[str] = []
     for line in section.lines:
         text = html.escape(line[2:] if line[:2] == "* " else line)
         if "&gt;" in text and "&lt;" in text and line.count(">") == 1:
-            parts.append(f"<p class=bar>{text.replace('&gt;', '<b>&gt;').replace('&lt;', '&lt;</b>')}</p>")
+            parts.append(
+                f"<p class=bar>{text.replace('&gt;', '<b>&gt;').replace('&lt;', '&lt;</b>')}</p>"
+            )
         else:
             parts.append(f"<ul><li>{text}</li></ul>" if line[:2] == "* " else f"<p>{text}</p>")
-    return f"<div><h2>{html.escape(section.title)}</h2>{''.join(parts).replace('</ul><ul>', '')}</div>"
+    return (
+        f"<div><h2>{html.escape(section.title)}</h2>{''.join(parts).replace('</ul><ul>', '')}</div>"
+    )
 
 
-def listing(case: explain.Case) -> str:
+def listing(case: Case) -> str:
     """Return the list of the envelopes, or nothing if the file has one."""
-    rows = list(explain.listing(case))
-    return f"<section><h2>Envelopes</h2><pre>{html.escape(chr(10).join(rows))}</pre></section>" if rows else ""
+    rows = list(lines_of_listing(case))
+    return (
+        f"<section><h2>Envelopes</h2><pre>{html.escape(chr(10).join(rows))}</pre></section>"
+        if rows
+        else ""
+    )
 
 
-def around(case: explain.Case) -> str:
+def around(case: Case) -> str:
     """Return the bytes around the rejected one."""
     refusal = case.refusal
     if refusal is None:
         return ""
-    begin, end = max(0, refusal.octet_in_file - BEFORE), min(case.source.size, refusal.octet_in_file + AFTER)
-    spans = [Span(begin, refusal.octet_in_file, "", False, 0), Span(refusal.octet_in_file, end, "later", False, 0)]
+    begin, end = max(0, refusal.octet_in_file - BEFORE), min(
+        case.source.size, refusal.octet_in_file + AFTER
+    )
+    spans = [
+        Span(begin, refusal.octet_in_file, "", False, 0),
+        Span(refusal.octet_in_file, end, "later", False, 0),
+    ]
     return "".join(rows(case, 0, joined(spans), "around"))
 
 
 # --- An envelope
 
 
-def article(case: explain.Case, whole: explain.Whole) -> str:
+def article(case: Case, whole: Whole) -> str:
     """Return an envelope: its bytes and their meaning."""
     of_all = max(1, len(case.wholes))
     items = list(whole.items(ITEMS // of_all, LINES // of_all))
     groups = list(joined(within(list(spans(whole, items)), OCTETS // of_all)))
     texts = [*whole.instants(), *whole.sizes()]
     nth, at = whole.found.nth, whole.found.at
-    parts = "".join(part_of(case, whole, items, groups, part) for part in range(1 + max(0, len(items) - 1) // TOGETHER))
+    parts = "".join(
+        part_of(case, whole, items, groups, part)
+        for part in range(1 + max(0, len(items) - 1) // TOGETHER)
+    )
     return (
         f"<article id=envelope{nth}><h2>Envelope {nth:,}, at octet {at:,} of the file</h2>{parts}"
         f"<footer>{''.join(f'<p>{html.escape(text)}</p>' for text in texts)}</footer></article>\n"
     )
 
 
-def part_of(case: explain.Case, whole: explain.Whole, items: List[Optional[Item]], groups: List[Group], part: int) -> str:
+def part_of(
+    case: Case, whole: Whole, items: List[Optional[Item]], groups: List[Group], part: int
+) -> str:
     """Return one part of an envelope: the bytes of some items and their meaning."""
     prefix, together = f"e{whole.found.nth}", items[part * TOGETHER : (part + 1) * TOGETHER]
-    octets = "".join(rows(case, whole.found.at, (group for group in groups if group.spans[0].part == part), prefix))
+    octets = "".join(
+        rows(
+            case, whole.found.at, (group for group in groups if group.spans[0].part == part), prefix
+        )
+    )
     return (
         f'<div class=part><pre tabindex=0 aria-label="Bytes; the list after them has their meaning">{octets}</pre>'
         f'<ol aria-label="Meaning of the bytes">{"".join(meaning(whole, together, prefix))}</ol></div>'
     )
 
 
-def spans(whole: explain.Whole, items: List[Optional[Item]]) -> Iterator[Span]:
+def spans(whole: Whole, items: List[Optional[Item]]) -> Iterator[Span]:
     """Yield the spans of bytes that are shown, in order."""
     for nth, item in enumerate(items):
         if item is None:
@@ -167,7 +195,13 @@ def spans(whole: explain.Whole, items: List[Optional[Item]]) -> Iterator[Span]:
             end = begin if item.record == 8 else min(end, begin + DATA)
         yield Span(begin, min(end, whole.found.length), key, False, part)
     if whole.refusal is not None and whole.tries is not None and not whole.tries.ends:
-        yield Span(whole.found.length, whole.found.length + AFTER, "later", False, max(0, len(items) - 1) // TOGETHER)
+        yield Span(
+            whole.found.length,
+            whole.found.length + AFTER,
+            "later",
+            False,
+            max(0, len(items) - 1) // TOGETHER,
+        )
 
 
 def within(parts: List[Span], most: int) -> List[Span]:
@@ -176,10 +210,19 @@ def within(parts: List[Span], most: int) -> List[Span]:
     if sum(sizes) <= most:
         return parts
     front = [part for part, come in zip(parts, itertools.accumulate(sizes)) if come <= most // 2]
-    back = [part for part, come in zip(reversed(parts), itertools.accumulate(reversed(sizes))) if come <= most // 2]
+    back = [
+        part
+        for part, come in zip(reversed(parts), itertools.accumulate(reversed(sizes)))
+        if come <= most // 2
+    ]
     # (a single span may be longer)
     front = front or [parts[0]._replace(end=min(parts[0].end, parts[0].begin + most // 2))]
-    return [*front, *reversed(back or [parts[-1]._replace(begin=max(parts[-1].begin, parts[-1].end - most // 2))])]
+    return [
+        *front,
+        *reversed(
+            back or [parts[-1]._replace(begin=max(parts[-1].begin, parts[-1].end - most // 2))]
+        ),
+    ]
 
 
 def joined(spans: List[Span]) -> Iterator[Group]:
@@ -202,7 +245,7 @@ def joined(spans: List[Span]) -> Iterator[Group]:
         yield group
 
 
-def rows(case: explain.Case, at: int, groups: Iterable[Group], prefix: str) -> Iterator[str]:
+def rows(case: Case, at: int, groups: Iterable[Group], prefix: str) -> Iterator[str]:
     """Yield the rows of sixteen bytes, and a note for bytes that are left out."""
     mark = case.refusal.octet_in_file - at if case.refusal else -1
     for before, spans in groups:
@@ -218,7 +261,9 @@ def rows(case: explain.Case, at: int, groups: Iterable[Group], prefix: str) -> I
             yield "         [<mark>the file ends here</mark>]\n"
 
 
-def row_of(row: int, at: int, begin: int, owned: List[Tuple[int, Span]], mark: int, prefix: str) -> str:
+def row_of(
+    row: int, at: int, begin: int, owned: List[Tuple[int, Span]], mark: int, prefix: str
+) -> str:
     """Return the row at an offset: its address, its bytes in spans of their items, and its text."""
     cells: List[str] = []
     texts: List[str] = []
@@ -227,21 +272,38 @@ def row_of(row: int, at: int, begin: int, owned: List[Tuple[int, Span]], mark: i
         value, part = owned[octet - begin] if begin <= octet < begin + len(owned) else (0, None)
         names = "" if part is None else f"{part.key}{' t' if part.tag else ''}".strip()
         cell, text = (f"{value:02X}", html.escape(plain(bytes([value])))) if part else ("  ", " ")
-        between = "]" if octet == mark + 1 and mark >= begin else "[" if octet == mark and part else " "
+        between = (
+            "]" if octet == mark + 1 and mark >= begin else "[" if octet == mark and part else " "
+        )
         if octet == mark and part:
-            cell, text = f"<mark id={prefix}r><span class=vh>refused: </span>{cell}</mark>", f"<mark>{text}</mark>"
-        anchor = f"<a id={prefix}o{octet}></a>" if part and octet == part.begin and prefix != "around" else ""
+            cell, text = (
+                f"<mark id={prefix}r><span class=vh>refused: </span>{cell}</mark>",
+                f"<mark>{text}</mark>",
+            )
+        anchor = (
+            f"<a id={prefix}o{octet}></a>"
+            if part and octet == part.begin and prefix != "around"
+            else ""
+        )
         if names != last:
-            cells.append("</span>" * bool(last) + between + anchor + f'<span class="{names}">' * bool(names) + cell)
+            cells.append(
+                "</span>" * bool(last)
+                + between
+                + anchor
+                + f'<span class="{names}">' * bool(names)
+                + cell
+            )
         else:
             cells.append(between + anchor + cell)
         texts.append(text)
         last = names
-    close = "</span>" * bool(last) + ("]" if mark == row + 15 and begin <= mark < begin + len(owned) else " ")
+    close = "</span>" * bool(last) + (
+        "]" if mark == row + 15 and begin <= mark < begin + len(owned) else " "
+    )
     return f"<b>{at + row:08X}</b>{''.join(cells)}{close} {''.join(texts)}\n"
 
 
-def meaning(whole: explain.Whole, items: List[Optional[Item]], prefix: str) -> Iterator[str]:
+def meaning(whole: Whole, items: List[Optional[Item]], prefix: str) -> Iterator[str]:
     """Yield the meaning of the bytes as items of a list.
 
     The parts of a message are a nested list.
@@ -255,7 +317,9 @@ def meaning(whole: explain.Whole, items: List[Optional[Item]], prefix: str) -> I
             yield "</ol></li>" if inside else "<li><ol>"
             inside = not inside
         here = whole.tries is not None and item is whole.tries.here
-        label = f"{item.label}, {counted(item.size, 'octet')}" if item.size is not None else item.label
+        label = (
+            f"{item.label}, {counted(item.size, 'octet')}" if item.size is not None else item.label
+        )
         refused = " <b class=here>refused here</b>" if here else ""
         yield (
             f'<li class="{key_of(nth)}"><a href=#{prefix}o{item.at}><small>{item.at:,}</small>'

@@ -10,7 +10,7 @@ import tempfile
 from typing import BinaryIO, Iterator, List, NamedTuple, Optional, cast
 
 import iim
-from explain_words import counted, shown, titled, value_in_words
+from iim.explain.words import counted, shown, titled, value_in_words
 
 # The size of a block; the number of bytes at the beginning and the end of an envelope that become
 # items.
@@ -21,8 +21,30 @@ HEAD, TAIL = 98_304, 16_384
 # byte
 # after which the part is the same.
 TEXT = 9
-STEPS = {1: "SOH", 2: "number", 3: "SP", 4: "priority", 5: "SP", 6: "SP", 7: "SP", 8: "gap", 9: "STX", 10: "ETX", 11: "EOT"}
-STAYS = {0: "filler", 1: "source", 2: "number", 5: "category", 6: "words", 7: "info", 8: "gap", 10: "trailer", 11: "filler"}
+STEPS = {
+    1: "SOH",
+    2: "number",
+    3: "SP",
+    4: "priority",
+    5: "SP",
+    6: "SP",
+    7: "SP",
+    8: "gap",
+    9: "STX",
+    10: "ETX",
+    11: "EOT",
+}
+STAYS = {
+    0: "filler",
+    1: "source",
+    2: "number",
+    5: "category",
+    6: "words",
+    7: "info",
+    8: "gap",
+    10: "trailer",
+    11: "filler",
+}
 
 
 class Source:
@@ -49,7 +71,12 @@ class Source:
             self._begin = os.lseek(self._file, 0, os.SEEK_CUR)
             self.size = max(0, there.st_size - self._begin)
             return
-        if stat.S_ISBLK(there.st_mode) or stat.S_ISCHR(there.st_mode) and not opened.isatty() and opened.read(1):
+        if (
+            stat.S_ISBLK(there.st_mode)
+            or stat.S_ISCHR(there.st_mode)
+            and not opened.isatty()
+            and opened.read(1)
+        ):
             raise OSError(errno.EINVAL, "not a regular file")
         self._spool = spooled(opened)
         self._file = self._spool.fileno()
@@ -77,7 +104,9 @@ def spooled(opened: io.FileIO) -> BinaryIO:
         try:
             spool.write(piece)
         except OSError as fault:
-            raise OSError(fault.errno, f"a copy in {tempfile.gettempdir()}: {fault.strerror}") from None
+            raise OSError(
+                fault.errno, f"a copy in {tempfile.gettempdir()}: {fault.strerror}"
+            ) from None
     spool.flush()
     return spool
 
@@ -183,15 +212,36 @@ class Walk:
             return
         record, number = self.take(at + 1, 2)
         count = place.size if place.size is not None and place.begun == "data" else 0
-        value = "" if record == 8 else value_in_words(record, number, self.take(at + head, min(count, 81)), count)
-        self._data(record, number, to, Item(at, head + count, "dataset", titled(record, number), value, record, number, head, count))
+        value = (
+            ""
+            if record == 8
+            else value_in_words(record, number, self.take(at + head, min(count, 81)), count)
+        )
+        self._data(
+            record,
+            number,
+            to,
+            Item(
+                at,
+                head + count,
+                "dataset",
+                titled(record, number),
+                value,
+                record,
+                number,
+                head,
+                count,
+            ),
+        )
 
     def _cut_tag(self, at: int) -> None:
         """Add the item of an incomplete tag. If a byte is rejected, it is the last of the tag."""
         tag = self.take(at, 13)[: self._end + 1 - at]
         record, number = (tag[1] if len(tag) > 1 else 0), (tag[2] if len(tag) > 2 else None)
         label = titled(record, number) if len(tag) > 1 else "a tag"
-        self.items.append(Item(at, len(tag), "dataset", label, "", record, number, len(tag), count_of(tag)))
+        self.items.append(
+            Item(at, len(tag), "dataset", label, "", record, number, len(tag), count_of(tag))
+        )
 
     def _data(self, record: int, number: Optional[int], to: int, item: Item) -> None:
         """Add the item of a dataset, and consume its data."""
@@ -199,7 +249,15 @@ class Walk:
         if not item.label:
             # (the dataset begins in the gap)
             end = min(to, self.octets + (self._receiver.place.to_come or 0))
-            item = Item(self.octets, end - self.octets, "dataset", f"{titled(record, number)}, continued", "", record, number)
+            item = Item(
+                self.octets,
+                end - self.octets,
+                "dataset",
+                f"{titled(record, number)}, continued",
+                "",
+                record,
+                number,
+            )
         self.items.append(item)
         if record == 8:
             self._message(end)
@@ -220,10 +278,21 @@ class Walk:
     def _part(self, at: int, label: str) -> None:
         """Add a byte of a part to the item of that part, or as a new item."""
         last = self.items[-1]
-        if last.kind == "part" and last.label == label and last.at + last.length == at and label != "SP":
+        if (
+            last.kind == "part"
+            and last.label == label
+            and last.at + last.length == at
+            and label != "SP"
+        ):
             at = self.items.pop().at
         octets = self.take(at, self.octets - at)
-        value = "" if label in ("SOH", "STX", "ETX", "EOT", "SP") else octets.hex(" ").upper() if label in ("gap", "filler") else shown(octets, 64)
+        value = (
+            ""
+            if label in ("SOH", "STX", "ETX", "EOT", "SP")
+            else octets.hex(" ").upper()
+            if label in ("gap", "filler")
+            else shown(octets, 64)
+        )
         self.items.append(Item(at, self.octets - at, "part", label, value))
 
     def _line(self, to: int) -> bool:
@@ -232,15 +301,32 @@ class Walk:
         Return `False` if the next byte is not part of a line.
         """
         octets = self.take(self.octets, min(BLOCK, to - self.octets))
-        end = next((at for at in sorted((octets.find(b"\n") + 1 or len(octets) + 1, octets.find(b"\3") + 1 or len(octets) + 1))), 0)
+        end = next(
+            (
+                at
+                for at in sorted(
+                    (
+                        octets.find(b"\n") + 1 or len(octets) + 1,
+                        octets.find(b"\3") + 1 or len(octets) + 1,
+                    )
+                )
+            ),
+            0,
+        )
         line = octets[:end] if octets[end - 1 : end] == b"\n" else octets[: max(0, end - 1)]
         if not line:
             return False
-        ends = " ".join(["CR"] * (len(line[:-1]) - len(line[:-1].rstrip(b"\r")))) + " LF" if line.endswith(b"\n") else ""
+        ends = (
+            " ".join(["CR"] * (len(line[:-1]) - len(line[:-1].rstrip(b"\r")))) + " LF"
+            if line.endswith(b"\n")
+            else ""
+        )
         at = self.octets
         self._go(len(line))
         body = line.rstrip(b"\r\n") if ends else line
-        self.items.append(Item(at, len(line), "line", "line" + f", {ends.strip()}" * bool(ends), shown(body, 64)))
+        self.items.append(
+            Item(at, len(line), "line", "line" + f", {ends.strip()}" * bool(ends), shown(body, 64))
+        )
         return True
 
 

@@ -8,7 +8,7 @@ import re
 import stat
 from typing import Any, Callable, Iterator, List, NamedTuple, Optional, Tuple, Union
 
-from archive_rows import LONGEST, NOT_REGULAR, reached
+from iim.archive.rows import LONGEST, NOT_REGULAR, reached
 
 # An entry of a directory: its name, followed by `/` if it is a directory, and its `os.DirEntry`.
 Entry = Tuple[bytes, "os.DirEntry[Any]"]
@@ -116,4 +116,6 @@ def files_of(tree: bytes, pattern: str) -> Iterator[Found]:
             yield from enter(folder + name)
         elif (matches is None or matches(os.fsdecode(name))) and not is_link_to_folder(entry):
             path = folder + name
-            yield found_at(path, entry.stat) if len(path) <= LONGEST else found_at(path, functools.partial(status_of, path))
+            yield found_at(path, entry.stat) if len(path) <= LONGEST else found_at(
+                path, functools.partial(status_of, path)
+            )

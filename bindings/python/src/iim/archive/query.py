@@ -1,4 +1,4 @@
-"""Query the indexes of archive.py: yield the selected rows, ordered by the files' names."""
+"""Query the indexes of iim-archive: yield the selected rows, ordered by the files' names."""
 from __future__ import annotations
 
 import argparse
@@ -11,9 +11,16 @@ import os
 import sqlite3
 from typing import Any, Callable, Dict, Iterable, Iterator, List, Optional, Tuple
 
-import archive_rows
-from archive_index import CACHE, COUNT_OF_TABLES, FORM, HAS_TABLES, LOCK_WAIT, check_path
-from archive_rows import NoIndex
+from iim.archive.index import CACHE, COUNT_OF_TABLES, FORM, HAS_TABLES, LOCK_WAIT, check_path
+from iim.archive.rows import (
+    NoIndex,
+    envelope_front,
+    file_line,
+    name_of,
+    refusal_line,
+    repeats_end,
+    seconds,
+)
 
 # The number of lines that are printed at a time.
 LINES = 1_000
@@ -67,7 +74,11 @@ def opened(paths: List[str]) -> sqlite3.Connection:
         try:
             database.execute(f"ATTACH ? AS part{part}", (path,))
             form = database.execute(f"PRAGMA part{part}.user_version").fetchone()[0]
-            if form != FORM or database.execute(HAS_TABLES.format(f"part{part}.")).fetchone()[0] != COUNT_OF_TABLES:
+            if (
+                form != FORM
+                or database.execute(HAS_TABLES.format(f"part{part}.")).fetchone()[0]
+                != COUNT_OF_TABLES
+            ):
                 raise NoIndex(f"{path}: not an index of this version of archive.py")
         except sqlite3.Error as fault:
             raise NoIndex(f"{path}: {fault}") from None
@@ -81,7 +92,7 @@ class Query:
         self._words = words
         self._parts = range(len(words.index))
         self._database = opened(words.index)
-        self._second = archive_rows.seconds(words.now)
+        self._second = seconds(words.now)
         self.kinds = {words.only} if words.only else {"envelope", "refused", "empty", "failed"}
         if words.cause is not None:
             self.kinds &= {"refused"}
@@ -104,9 +115,14 @@ class Query:
             values.append(self._words.service)
         return " AND ".join(terms), values
 
-    def _merged(self, text: str, values: List[Any], row: Callable[[Any], Row], **more: str) -> Iterable[Row]:
+    def _merged(
+        self, text: str, values: List[Any], row: Callable[[Any], Row], **more: str
+    ) -> Iterable[Row]:
         """Return the rows of all indexes, in order."""
-        parts = (map(row, self._database.execute(text.format(part=part, **more), values)) for part in self._parts)
+        parts = (
+            map(row, self._database.execute(text.format(part=part, **more), values))
+            for part in self._parts
+        )
         return heapq.merge(*parts, key=lambda found: found[0])
 
     def rows(self) -> Iterable[Row]:
@@ -114,31 +130,66 @@ class Query:
         where, values = self._where()
         streams: List[Iterable[Row]] = []
         if "envelope" in self.kinds:
-            self._database.executescript(REPEATS.format(ids=self._of_parts(IDS), places=self._of_parts(PLACES)))
+            self._database.executescript(
+                REPEATS.format(ids=self._of_parts(IDS), places=self._of_parts(PLACES))
+            )
             join = "JOIN" if self._words.repeats else "LEFT JOIN"
-            streams.append(self._merged(ENVELOPES, values, lambda found: ((found[0], found[2]), ("envelope", found)), join=join, where=where))
+            streams.append(
+                self._merged(
+                    ENVELOPES,
+                    values,
+                    lambda found: ((found[0], found[2]), ("envelope", found)),
+                    join=join,
+                    where=where,
+                )
+            )
         if "refused" in self.kinds:
             cause = self._words.cause
-            of_cause = "" if cause is None else " AND e.cause = ?" if cause.isdigit() else " AND e.cause_name = ?"
+            of_cause = (
+                ""
+                if cause is None
+                else " AND e.cause = ?"
+                if cause.isdigit()
+                else " AND e.cause_name = ?"
+            )
             of = [*values, *([] if cause is None else [int(cause) if cause.isdigit() else cause])]
-            streams.append(self._merged(REFUSALS, of, lambda found: ((found[0], found[1]), ("refused", found)), where=where + of_cause))
+            streams.append(
+                self._merged(
+                    REFUSALS,
+                    of,
+                    lambda found: ((found[0], found[1]), ("refused", found)),
+                    where=where + of_cause,
+                )
+            )
         states = self.kinds & {"empty", "failed"}
         if states or "gone" in self.kinds:
-            which = "gone = 1" if "gone" in self.kinds else f"gone = 0 AND state IN ({', '.join(map(repr, sorted(states)))})"
+            which = (
+                "gone = 1"
+                if "gone" in self.kinds
+                else f"gone = 0 AND state IN ({', '.join(map(repr, sorted(states)))})"
+            )
             # (after the envelopes of the file)
-            streams.append(self._merged(FILES, [], lambda found: ((found[0], 2**63), ("file", found)), where=which))
+            streams.append(
+                self._merged(
+                    FILES, [], lambda found: ((found[0], 2**63), ("file", found)), where=which
+                )
+            )
         return heapq.merge(*streams, key=lambda found: found[0])
 
     def line(self, found: Found) -> str:
         """Return the line of a row, as a run without an index prints it."""
         kind, columns = found
-        name = archive_rows.name_of(columns[0])
+        name = name_of(columns[0])
         if kind == "envelope":
-            first = None if columns[16] is None else (archive_rows.name_of(columns[16]), columns[17])
-            return archive_rows.envelope_front(name, columns[1:16], self._words.now, self._second) + archive_rows.repeats_end(first)
+            first = None if columns[16] is None else (name_of(columns[16]), columns[17])
+            return envelope_front(name, columns[1:16], self._words.now, self._second) + repeats_end(
+                first
+            )
         if kind == "refused":
-            return archive_rows.refusal_line(name, columns[2])
-        return archive_rows.file_line(name, "gone" if columns[3] else columns[1], None if columns[3] else columns[2])
+            return refusal_line(name, columns[2])
+        return file_line(
+            name, "gone" if columns[3] else columns[1], None if columns[3] else columns[2]
+        )
 
     def cells(self, found: Found) -> Dict[str, Any]:
         """Return a row as the cells of CSV."""
@@ -172,7 +223,11 @@ def csv_line(cells: Dict[str, Any]) -> str:
 
 def told(value: Any) -> Optional[str]:
     """Return a cell. Bytes of a text that can't be written as UTF-8 become `\\x` and two digits."""
-    return value.encode("utf-8", "surrogateescape").decode("utf-8", "backslashreplace") if isinstance(value, str) else value
+    return (
+        value.encode("utf-8", "surrogateescape").decode("utf-8", "backslashreplace")
+        if isinstance(value, str)
+        else value
+    )
 
 
 def joined(texts: Iterator[str]) -> Iterator[str]:

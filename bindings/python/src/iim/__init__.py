@@ -1,0 +1,124 @@
+"""Read, check, audit and pack IIM envelopes that carry wire copy.
+
+IIM is the Information Interchange Model, version 4. The work is done by the C library libiim.so.
+
+    import iim
+
+    for envelope in iim.read("copy.iim"):
+        print(envelope.id.service, envelope.headline, envelope.bylines, envelope.lines)
+
+    $ python3 -m iim FILE..           prints one line of JSON per envelope
+    $ python3 -m iim explain FILE     shows what a file contains and why it was rejected
+
+Memory: `read` and `audit` read a file in blocks and never hold all of it.
+
+Text: values are `Octets`, a subclass of `bytes`. IIM does not state the character set, so you pass
+an encoding to `text(encoding)`.
+
+Errors: invalid input raises `Refused`, which has the layer, the dataset, the offset of the byte and
+the cause. Input that ends inside an envelope raises its subclass `Truncated`. docs/CAUSES.md lists
+all causes, docs/FORMAT.md describes the format, docs/guide/python.md has complete programs; the
+package python3-iim has all three in /usr/share/doc/python3-iim.
+
+Threads: any number of threads may call the functions of this module and read the same `Envelope` or
+`Refused` at the same time. Give each thread its own `Receiver` and `Auditor`: a call on one that
+another thread is using raises `RuntimeError` and changes nothing.
+
+Library: at the first call libiim.so is loaded from the path in the environment variable
+IIM_LIBRARY; otherwise from the directory of this package; otherwise, in a clone, from bindings/out,
+where bindings/build writes it; otherwise from the system's library path.
+"""
+from __future__ import annotations
+
+import importlib
+from typing import Any
+
+from iim.auditing import LAST_SECOND, Auditor, AuditRow, RawRow, audit, audit_blocks
+from iim.errors import Refused, ScriptRefused, TicketRefused, Truncated
+from iim.octets import AnyFile, AnyOctets, Octets
+from iim.packing import pack, script
+from iim.reader import BLOCK, Fed, Place, Receiver, check, read
+from iim.values import (
+    GREATEST,
+    GREATEST_LIMIT,
+    WIRE,
+    Envelope,
+    Field,
+    Header,
+    Id,
+    Limits,
+    PartId,
+    Rule,
+    Sizes,
+    admits,
+    cause_name,
+    cause_text,
+    dataset_name,
+    layer_name,
+    row,
+)
+
+__all__ = [
+    "AnyFile",
+    "AnyOctets",
+    "AuditRow",
+    "Auditor",
+    "BLOCK",
+    "Envelope",
+    "Fed",
+    "Field",
+    "GREATEST",
+    "GREATEST_LIMIT",
+    "Header",
+    "Id",
+    "LAST_SECOND",
+    "Limits",
+    "Octets",
+    "PartId",
+    "Place",
+    "RawRow",
+    "Receiver",
+    "Refused",
+    "Rule",
+    "ScriptRefused",
+    "Sizes",
+    "TicketRefused",
+    "Truncated",
+    "WIRE",
+    "admits",
+    "audit",
+    "audit_blocks",
+    "cause_name",
+    "cause_text",
+    "check",
+    "dataset_name",
+    "layer_name",
+    "pack",
+    "read",
+    "row",
+    "script",
+]
+
+# The names of the command, which `iim.program` has. They are imported when they are first used.
+_OF_PROGRAM = frozenset(
+    (
+        "FAILED",
+        "STOPPED",
+        "CannotWrite",
+        "Failed",
+        "Terminated",
+        "complain",
+        "main",
+        "naming",
+        "print_line",
+        "print_text",
+        "program_name",
+    )
+)
+
+
+def __getattr__(name: str) -> Any:
+    """Return a name of the command."""
+    if name in _OF_PROGRAM:
+        return getattr(importlib.import_module("iim.program"), name)
+    raise AttributeError(f"module {__name__!r} has no attribute {name!r}")

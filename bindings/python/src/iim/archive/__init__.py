@@ -1,0 +1,1 @@
+"""Check and audit archives of files of envelopes: the program iim-archive."""

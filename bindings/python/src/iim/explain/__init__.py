@@ -1,0 +1,1 @@
+"""Explain a file of envelopes: the program iim-explain."""

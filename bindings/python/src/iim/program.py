@@ -1,0 +1,232 @@
+"""The command `python3 -m iim`, and what its subcommands share: output, failures and signals."""
+from __future__ import annotations
+
+import argparse
+import contextlib
+import errno
+import json
+import os
+import signal
+import sys
+import threading
+from typing import Any, Dict, Iterator, List, Optional, Tuple
+
+from iim.errors import Refused
+from iim.reader import read
+from iim.values import GREATEST_LIMIT, WIRE, Limits
+
+# The exit status of a failure, and that of a program ended by a signal.
+FAILED = 3
+STOPPED = 130
+
+
+# The help of --limits.
+_LIMITS_HELP = "maximum bytes of data, and number of datasets, in records 1 and 2 together [default: 65536 512]"
+
+
+class CannotWrite(Exception):
+    """Raised if standard output can't be written. Its text is the reason."""
+
+
+class Failed(Exception):
+    """Raised if a file can't be read or written. Its text is `what: reason`."""
+
+
+class Terminated(KeyboardInterrupt):
+    """Raised by SIGTERM."""
+
+
+@contextlib.contextmanager
+def naming(what: str) -> Iterator[None]:
+    """Raise `Failed`, which names a file, for an `OSError` or `MemoryError` of the block.
+
+    The exception of a signal that ends the block names the file, too.
+    """
+    try:
+        yield
+    except KeyboardInterrupt as stop:
+        stop.args = stop.args or (what,)
+        raise
+    except OSError as fault:
+        raise Failed(f"{what}: {fault.strerror or fault}") from None
+    except MemoryError:
+        raise Failed(f"{what}: out of memory") from None
+
+
+def program_name(explains: bool) -> str:
+    """Return the name under which the program was started."""
+    if os.path.basename(sys.argv[0]) == "iim-explain":
+        return "iim-explain"
+    return "python3 -m iim explain" if explains else "python3 -m iim"
+
+
+def abandon(stream: Any) -> None:
+    """Discard the unwritten output of a stream, so that Python's exit neither fails nor blocks."""
+    with contextlib.suppress(OSError, ValueError, AttributeError):
+        null = os.open(os.devnull, os.O_WRONLY)
+        os.dup2(null, stream.fileno())
+        os.close(null)
+
+
+def complain(text: str) -> None:
+    """Print an error as one line of standard error, if that can be written."""
+    try:
+        sys.stderr.write(f"{text}\n")
+        sys.stderr.flush()
+    except (OSError, ValueError, AttributeError):
+        abandon(sys.stderr)
+
+
+def print_text(text: str) -> None:
+    """Print text and flush it. Raise `CannotWrite` on failure; then nothing more is written."""
+    if sys.stdout is None:
+        raise CannotWrite(os.strerror(errno.EBADF))
+    try:
+        sys.stdout.write(text)
+        sys.stdout.flush()
+    except OSError as fault:
+        abandon(sys.stdout)
+        raise CannotWrite(fault.strerror or str(fault)) from None
+
+
+def print_line(value: Dict[str, Any]) -> None:
+    """Print a value as a line of JSON and flush it. Raise `CannotWrite` as `print_text` does."""
+    print_text(json.dumps(value) + "\n")
+
+
+def _print_file(named: Dict[str, str], file: Any, limits: Limits) -> int:
+    """Print the lines of a file, and return the exit status."""
+    try:
+        for envelope in read(file, limits):
+            print_line({**named, **envelope.as_json()})
+    except Refused as refusal:
+        print_line({**named, **refusal.as_json()})
+        return 1
+    except OSError as fault:
+        print_line({**named, "failed": f"cannot read: {fault.strerror or fault}"})
+        return FAILED
+    return 0
+
+
+def _print_named(name: str, limits: Limits) -> int:
+    """Open a file, print its lines, each with the file's name, and return the exit status."""
+    with naming(name if name.isprintable() else ascii(name)[1:-1]):
+        try:
+            file = open(name, "rb", buffering=0)
+        except OSError as fault:
+            print_line({"file": name, "failed": f"cannot open: {fault.strerror}"})
+            return FAILED
+        with file:
+            return _print_file({"file": name}, file, limits)
+
+
+def _explain(arguments: List[str]) -> int:
+    """Explain a file, and return the exit status."""
+    from iim.explain.program import main, parse
+
+    return main(parse(arguments))
+
+
+def _print_files(arguments: List[str]) -> int:
+    """Print the lines of the files given, or of standard input, and return the exit status."""
+    parser = argparse.ArgumentParser(
+        "python3 -m iim",
+        description="Print one line of JSON for each envelope. Bytes are written as Latin-1.",
+        epilog="`%(prog)s explain FILE` shows what a file contains and why it was rejected; see `%(prog)s explain --help`.",
+    )
+    parser.add_argument(
+        "files", metavar="FILE", nargs="*", help="file to read [default: standard input]"
+    )
+    parser.add_argument(
+        "--limits", metavar=("OCTETS", "FIELDS"), type=int, nargs=2, default=WIRE, help=_LIMITS_HELP
+    )
+    asked = parser.parse_args(arguments)
+    limits = Limits(*asked.limits)
+    if not all(1 <= limit <= GREATEST_LIMIT for limit in limits):
+        parser.error(f"a limit must be from 1 to {GREATEST_LIMIT}")
+    if asked.files:
+        return max([_print_named(name, limits) for name in asked.files])
+    with naming("standard input"):
+        if sys.stdin is None:
+            raise OSError(errno.EBADF, os.strerror(errno.EBADF))
+        return _print_file({}, sys.stdin.buffer, limits)
+
+
+def _prepare() -> None:
+    """Make SIGINT and SIGTERM raise exceptions, and standard output accept any name."""
+    if sys.stdout is not None and hasattr(sys.stdout, "reconfigure"):
+        # (a name may have characters that the encoding of the output lacks)
+        sys.stdout.reconfigure(errors="backslashreplace")
+    if threading.current_thread() is threading.main_thread():
+        # (the process that started this one may have set a signal to be ignored)
+        if signal.getsignal(signal.SIGINT) is signal.SIG_DFL:
+            signal.signal(signal.SIGINT, signal.default_int_handler)
+        if signal.getsignal(signal.SIGTERM) is signal.SIG_DFL:
+            signal.signal(signal.SIGTERM, _terminate)
+
+
+def _terminate(*_: Any) -> None:
+    raise Terminated
+
+
+def _place_of_fault(fault: BaseException) -> str:
+    """Return the file and the line at which an exception was raised."""
+    trace = fault.__traceback__
+    while trace is not None and trace.tb_next is not None:
+        trace = trace.tb_next
+    return (
+        f"{os.path.basename(trace.tb_frame.f_code.co_filename)}:{trace.tb_lineno}" if trace else "?"
+    )
+
+
+def _ended(fault: BaseException) -> Tuple[str, int]:
+    """Return why an exception ends the program, and the exit status."""
+    if isinstance(fault, KeyboardInterrupt):
+        return (
+            ": ".join(
+                [*fault.args, "terminated" if isinstance(fault, Terminated) else "interrupted"]
+            ),
+            STOPPED,
+        )
+    if isinstance(fault, CannotWrite):
+        return f"standard output: {fault}", FAILED
+    if isinstance(fault, (Failed, ImportError)):
+        return str(fault), FAILED
+    if isinstance(fault, MemoryError):
+        return "out of memory", FAILED
+    return f"internal error: {type(fault).__name__}: {fault} ({_place_of_fault(fault)})", FAILED
+
+
+def main(words: Optional[List[str]] = None) -> int:
+    """Run `python3 -m iim`.
+
+    It prints a line of JSON for each envelope and for each refusal, or explains a file.
+    Each failure is one line of standard error, `program: what: reason`.
+
+    Args:
+        words: The command-line arguments [default: those of the process]. If the first is
+            `explain`, a file is explained.
+
+    Returns:
+        The exit status: 0 if all is accepted, 1 if input was rejected, 2 for a usage error, 3 if a
+        file, the output or memory failed, and 130 after SIGINT or SIGTERM.
+    """
+    words = sys.argv[1:] if words is None else words
+    explains = words[:1] == ["explain"]
+    try:
+        _prepare()
+        try:
+            return _explain(words[1:]) if explains else _print_files(words)
+        except SystemExit as end:
+            if not end.code:
+                # (--help was printed, but not yet flushed)
+                print_text("")
+            raise
+    except (Exception, KeyboardInterrupt) as fault:
+        reason, status = _ended(fault)
+        with contextlib.suppress(ValueError):
+            # (against a second Ctrl-C while the program ends)
+            signal.signal(signal.SIGINT, signal.SIG_IGN)
+        abandon(sys.stdout)
+        complain(f"{program_name(explains)}: {reason}")
+        return status

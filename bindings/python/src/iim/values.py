@@ -1,0 +1,395 @@
+"""Values of envelopes, and the standard's tables."""
+from __future__ import annotations
+
+import ctypes
+import functools
+import struct
+from typing import (
+    Any,
+    Callable,
+    Dict,
+    List,
+    NamedTuple,
+    Optional,
+    Tuple,
+)
+
+from iim import _library
+from iim._library import library
+from iim.datasets import ATTRIBUTES, NamedDatasets
+from iim.octets import AnyOctets, Octets, as_bytes
+
+# The maximum size of an object, and the maximum of a limit.
+GREATEST = 2**63 - 1
+GREATEST_LIMIT = 2**32 - 1
+
+
+# --- The tables ---
+
+
+def name_of(function: Callable[..., int], *numbers: int) -> Optional[str]:
+    """Return the name that a C function writes for some numbers, or `None`."""
+    out = ctypes.create_string_buffer(128)
+    return out.value.decode("ascii") if function(*numbers, out, len(out)) else None
+
+
+@functools.lru_cache(maxsize=None)
+def dataset_name(record: int, number: int) -> Optional[str]:
+    """Return the standard's name of a dataset, such as "Headline" for 2:105, or `None`.
+
+    Args:
+        record: The record number, 0 to 255.
+        number: The dataset number, 0 to 255.
+
+    Raises:
+        ValueError: A number is out of range.
+    """
+    return name_of(library.iim_dataset_name, *_numbers_of(record, number))
+
+
+@functools.lru_cache(maxsize=None)
+def cause_name(cause: int) -> Optional[str]:
+    """Return the name of a cause, such as "CountRange" for 13, or `None` if it does not exist."""
+    return name_of(library.iim_cause_name, *_numbers_of(cause))
+
+
+@functools.lru_cache(maxsize=None)
+def cause_text(cause: int) -> Optional[str]:
+    """Return the meaning of a cause, or `None` if there is no such cause.
+
+    The text is that of docs/CAUSES.md, such as "9:10 is not the total" for 25.
+    """
+    return name_of(library.iim_cause_text, *_numbers_of(cause))
+
+
+@functools.lru_cache(maxsize=None)
+def layer_name(layer: int) -> Optional[str]:
+    """Return the name of a layer, such as "dataset" for 1, or `None` if there is no such layer."""
+    return name_of(library.iim_layer_name, *_numbers_of(layer))
+
+
+def _numbers_of(*numbers: int) -> Tuple[int, ...]:
+    """Return the numbers. Raise `ValueError` if one does not fit in a byte."""
+    for number in numbers:
+        if not 0 <= number <= 255:
+            raise ValueError(f"{number} is not from 0 to 255")
+    return numbers
+
+
+def row(record: int, number: int) -> Optional[Rule]:
+    """Return the rule of the standard's tables for a dataset, or `None` if it has no row.
+
+    Args:
+        record: The record number, 0 to 255.
+        number: The dataset number, 0 to 255.
+
+    Raises:
+        ValueError: A number is out of range.
+    """
+    rule = _library.Rule()
+    if not library.iim_row(*_numbers_of(record, number), rule):
+        return None
+    return Rule(rule.min, rule.max, rule.kind, rule.duty, rule.repeats)
+
+
+def admits(record: int, number: int, octets: AnyOctets) -> bool:
+    """Check whether a dataset has a row in the tables and accepts these bytes as its value.
+
+    Args:
+        record: The record number, 0 to 255.
+        number: The dataset number, 0 to 255.
+        octets: The value.
+
+    Raises:
+        ValueError: A number is out of range.
+    """
+    octets = as_bytes(octets)
+    return bool(library.iim_admits(*_numbers_of(record, number), octets, len(octets)))
+
+
+# --- Values ---
+
+
+class Limits(NamedTuple):
+    """Limits on records 1 and 2 of an envelope, which protect the receiver's memory.
+
+    Attributes:
+        octets: The maximum number of bytes of data in both records together.
+        fields: The maximum number of datasets in both records together.
+    """
+
+    octets: int = 65_536
+    fields: int = 512
+
+
+# The limits of the command.
+WIRE = Limits()
+
+
+class Rule(NamedTuple):
+    """The rule of the standard's tables for one dataset.
+
+    Attributes:
+        least: The minimum size, in bytes.
+        greatest: The maximum size, in bytes.
+        kind: The kind of value, as iim.h numbers it.
+        duty: Whether the dataset is mandatory, as iim.h numbers it.
+        repeats: Whether the dataset may occur more than once.
+    """
+
+    least: int
+    greatest: int
+    kind: int
+    duty: int
+    repeats: bool
+
+
+class Field(NamedTuple):
+    """One dataset of record 1 or 2.
+
+    Attributes:
+        record: The record number.
+        number: The dataset number.
+        octets: The value, as bytes.
+    """
+
+    record: int
+    number: int
+    octets: Octets
+
+    @property
+    def dataset(self) -> str:
+        """The record and dataset number, such as "2:105"."""
+        return f"{self.record}:{self.number:02}"
+
+    @property
+    def name(self) -> Optional[str]:
+        """The standard's name of the dataset, such as "Headline", or `None`."""
+        return dataset_name(self.record, self.number)
+
+    def as_json(self) -> Dict[str, Any]:
+        """Return the dataset as a value of JSON, with its bytes as Latin-1."""
+        return {"dataset": self.dataset, "name": self.name, "octets": as_latin(self.octets)}
+
+
+class Id(NamedTuple):
+    """The identifier of an envelope. Envelopes with equal ids are one envelope, sent repeatedly.
+
+    Attributes:
+        service: The service identifier, 1:30.
+        number: The envelope number, 1:40.
+        date_sent: The date sent, 1:70.
+    """
+
+    service: Octets
+    number: Octets
+    date_sent: Octets
+
+
+class PartId(NamedTuple):
+    """The identifier of a rejected envelope. A part that was not received is `None`.
+
+    Attributes:
+        service: The service identifier, 1:30.
+        number: The envelope number, 1:40.
+        date_sent: The date sent, 1:70.
+    """
+
+    service: Optional[Octets]
+    number: Optional[Octets]
+    date_sent: Optional[Octets]
+
+
+class Header(NamedTuple):
+    """The header of an IPTC 7901 message.
+
+    Attributes:
+        source: The identifier of the source.
+        number: The message number.
+        priority: The priority, one digit.
+        category: The category of the subject.
+        words: The announced number of words.
+        info: The free text at the end of the header.
+    """
+
+    source: Octets
+    number: Octets
+    priority: Octets
+    category: Octets
+    words: Octets
+    info: Octets
+
+
+class Sizes(NamedTuple):
+    """The sizes of an object, from records 7 to 9.
+
+    Attributes:
+        mode: The size mode, 7:10: 1 if the size is announced, and 0 otherwise.
+        subfile: The maximum size of a subfile, 7:20, in bytes.
+        announced: The announced size, 7:90, or `None`.
+        maximum: The maximum size, 7:95, or `None`.
+        subfiles: The number of subfiles received.
+        total: The number of bytes received in all subfiles.
+    """
+
+    mode: int
+    subfile: int
+    announced: Optional[int]
+    maximum: Optional[int]
+    subfiles: int
+    total: int
+
+
+# --- Envelopes ---
+
+
+# A dataset as the library writes it: record, number, and its value's offset and size in the ticket.
+_DATASET = struct.Struct("BBNN")
+
+# The initial capacity of the array of datasets: more than most envelopes have.
+_FIELDS = 64
+
+
+def fields_of(ticket: bytes) -> List[Field]:
+    """Return the datasets of a ticket, in the order sent. An empty ticket has none."""
+    answer, capacity = _library.Answer(), _FIELDS
+    while True:
+        array = ctypes.create_string_buffer(capacity * _DATASET.size)
+        library.iim_fields(ticket, len(ticket), 0, array, capacity, answer)
+        if answer.status != _library.SHORT:
+            break
+        capacity = answer.written
+    if answer.status != _library.DONE:
+        return []
+    # (the same as calling the class, in less than half the time)
+    made, new = array.raw[: answer.written * _DATASET.size], tuple.__new__
+    return [
+        new(Field, (record, number, Octets(ticket[at : at + count])))
+        for record, number, at, count in _DATASET.iter_unpack(made)
+    ]
+
+
+class Envelope(NamedDatasets):
+    """A complete envelope.
+
+    Each dataset of records 1 and 2 that the standard names is an attribute. A dataset that may occur
+    once, such as `headline`, `date_sent` or `urgency`, is its value, or `None` if the envelope does
+    not have it. A dataset that may repeat has a plural name, such as `bylines`, `keywords` or
+    `supplemental_categories`, and is a list. `dir(envelope)` lists all names. `first` and `all`
+    look a dataset up by its numbers.
+
+    Attributes:
+        nth: The number of the envelope in the input, from 1.
+        at: The offset of its first byte in the input.
+        length: Its size, in bytes.
+        story: The lines of the story joined by LF, or `None` if `read` passed them to `on_text` or
+            a `Receiver` returned them chunk by chunk.
+    """
+
+    def __init__(
+        self, ticket: bytes, nth: int, at: int, length: int, story: Optional[bytes]
+    ) -> None:
+        # The ticket of the complete envelope, which has all of it but the story.
+        self._ticket = as_bytes(ticket)
+        self.nth, self.at, self.length = nth, at, length
+        self.story: Optional[Octets] = None if story is None else Octets(story)
+
+    def _octets(self, span: _library.Span) -> Octets:
+        return Octets(self._ticket[span.offset : span.offset + span.count])
+
+    @functools.cached_property
+    def fields(self) -> List[Field]:
+        """All datasets of records 1 and 2, in the order in which they were sent."""
+        return fields_of(self._ticket)
+
+    @functools.cached_property
+    def _by_number(self) -> Dict[Tuple[int, int], List[Octets]]:
+        found: Dict[Tuple[int, int], List[Octets]] = {}
+        for record, number, octets in self.fields:
+            found.setdefault((record, number), []).append(octets)
+        return found
+
+    def all(self, record: int, number: int) -> List[Octets]:
+        """Return the values of all datasets with these numbers, in the order sent."""
+        return list(self._by_number.get((record, number), ()))
+
+    def first(self, record: int, number: int) -> Optional[Octets]:
+        """Return the value of the first dataset with these numbers, or `None` if there is none."""
+        return next(iter(self._by_number.get((record, number), ())), None)
+
+    def __repr__(self) -> str:
+        return f"<envelope {self.nth} {' '.join(part.text('latin-1') for part in self.id)}, {self.length} octets>"
+
+    @property
+    def id(self) -> Id:
+        """The identifier: the service, the envelope number and the date sent."""
+        return Id(self.service_identifier, self.envelope_number, self.date_sent)
+
+    @functools.cached_property
+    def _message(self) -> _library.Message:
+        message = _library.Message()
+        library.iim_header(self._ticket, len(self._ticket), message, _library.Answer())
+        return message
+
+    @property
+    def header(self) -> Header:
+        """The header of the message."""
+        return Header(*(self._octets(getattr(self._message, name)) for name in Header._fields))
+
+    @property
+    def trailer(self) -> Octets:
+        """The trailer of the message: the bytes after the story."""
+        return self._octets(self._message.trailer)
+
+    @functools.cached_property
+    def sizes(self) -> Sizes:
+        """The sizes of the object, from records 7 to 9."""
+        found = _library.Object()
+        library.iim_sizes(self._ticket, len(self._ticket), found, _library.Answer())
+        announced = found.announced if found.has_announced else None
+        maximum = found.maximum if found.has_maximum else None
+        return Sizes(found.mode, found.subfile, announced, maximum, found.subfiles, found.octets)
+
+    @property
+    def lines(self) -> List[Octets]:
+        """The lines of the story. Raises `ValueError` if the envelope has no `story`."""
+        if self.story is None:
+            raise ValueError("the envelope has no story: it was passed on while it was received")
+        return [Octets(line) for line in self.story.split(b"\n")]
+
+    def text(self, encoding: str, errors: str = "strict") -> str:
+        """Return the story decoded as text, with a line feed between two lines.
+
+        Args:
+            encoding: The encoding, such as "latin-1" or "utf-8".
+            errors: How to handle bytes that cannot be decoded, as for `bytes.decode`.
+
+        Raises:
+            ValueError: The envelope has no `story`.
+        """
+        return "\n".join(line.text(encoding, errors) for line in self.lines)
+
+    def as_json(self) -> Dict[str, Any]:
+        """Return the envelope as a value of JSON, with bytes as Latin-1."""
+        named: Dict[str, Any] = {}
+        for name, (record, number, repeats) in ATTRIBUTES.items():
+            found = self._by_number.get((record, number))
+            if found:
+                named[name] = (
+                    [as_latin(octets) for octets in found] if repeats else as_latin(found[0])
+                )
+        return {
+            "envelope": self.nth,
+            "at": self.at,
+            "length": self.length,
+            "named": named,
+            "fields": [field.as_json() for field in self.fields],
+            "header": {name: as_latin(octets) for name, octets in self.header._asdict().items()},
+            "trailer": as_latin(self.trailer),
+            "sizes": self.sizes._asdict(),
+            "lines": None if self.story is None else [as_latin(line) for line in self.lines],
+        }
+
+
+def as_latin(octets: bytes) -> str:
+    return octets.decode("latin-1")
