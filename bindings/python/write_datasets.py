@@ -31,6 +31,10 @@ from typing import Dict, List, Optional, Tuple, cast
 
 from iim.octets import Octets
 
+# The standard's name of each dataset, by its record number and its number.
+TITLES: Dict[Tuple[int, int], str] = {
+@TITLES@}
+
 # The attribute of each dataset, with its record number, its number and whether it repeats.
 ATTRIBUTES: Dict[str, Tuple[int, int, bool]] = {
 '''
@@ -113,12 +117,13 @@ def property_lines(dataset: Dataset) -> Iterator[str]:
 
 def module_text(datasets: List[Dataset]) -> str:
     """Return the text of the module."""
+    titles = "".join(f'    ({each.record}, {each.number}): "{each.title}",\n' for each in datasets)
     rows = "".join(
         f'    "{each.attribute}": ({each.record}, {each.number}, {each.repeats}),\n'
         for each in datasets
     )
     properties = "".join(f"{line}\n" for each in datasets for line in property_lines(each))
-    return f"{HEAD}{rows}{CLASS}{properties}"
+    return f"{HEAD.replace('@TITLES@', titles)}{rows}{CLASS}{properties}"
 
 
 def main() -> int:

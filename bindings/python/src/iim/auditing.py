@@ -6,13 +6,25 @@ import datetime
 import os
 import struct
 import threading
-from typing import BinaryIO, Callable, Iterator, List, NamedTuple, NoReturn, Optional, Tuple, cast
+from typing import (
+    BinaryIO,
+    Callable,
+    Generator,
+    Iterator,
+    List,
+    NamedTuple,
+    NoReturn,
+    Optional,
+    Tuple,
+    cast,
+)
 
 from iim import _library
 from iim._library import library
-from iim.errors import Refused
+from iim.errors import RefusedError
 from iim.octets import AnyFile, Octets
-from iim.reader import BLOCK, Receiver, raise_in_use
+from iim.receiver import BLOCK, Receiver, raise_in_use
+from iim.streams import Stream
 from iim.values import WIRE, Limits
 
 
@@ -59,24 +71,24 @@ LAST_SECOND = 253_402_207_200
 
 # The fields of a row as the library writes it; of an instant, only its second.
 RawRow = Tuple[
-    int,
-    int,
-    int,
-    int,
-    int,
-    int,
-    int,
-    int,
-    int,
-    bool,
-    bool,
-    bool,
-    int,
-    int,
-    int,
-    bytes,
-    bytes,
-    bytes,
+    int,  # at
+    int,  # length
+    int,  # size
+    int,  # subfiles
+    int,  # announced
+    int,  # counted
+    int,  # age
+    int,  # release
+    int,  # expires
+    bool,  # whether it has an age
+    bool,  # whether it has a release
+    bool,  # whether it has an expiration
+    int,  # the index of the copy in "free", "held", "expired"
+    int,  # priority, or 0
+    int,  # the size of the service
+    bytes,  # service, followed by zeros
+    bytes,  # number
+    bytes,  # date sent
 ]
 _ROW = struct.Struct("6Qqq8xq8x3?3B10s8s8s")
 
@@ -109,9 +121,21 @@ def _row_of(raw: RawRow) -> AuditRow:
         date,
     ) = raw
     return AuditRow(
-        at, length, Octets(service[:count]), Octets(number), Octets(date), Octets((priority,)) if priority else None, size, subfiles, announced, counted,
-        age if has_age else None, _COPY[copy], release if has_release else None, expires if has_expires else None,
-    )  # fmt: skip
+        at,
+        length,
+        Octets(service[:count]),
+        Octets(number),
+        Octets(date),
+        Octets((priority,)) if priority else None,
+        size,
+        subfiles,
+        announced,
+        counted,
+        age if has_age else None,
+        _COPY[copy],
+        release if has_release else None,
+        expires if has_expires else None,
+    )
 
 
 class Auditor:
@@ -154,27 +178,41 @@ class Auditor:
             "an Auditor can't be copied or pickled: make one of the same limits and instant"
         )
 
-    def blocks(self, fill: Callable[[memoryview], Optional[int]]) -> Iterator[List[AuditRow]]:
-        """Yield the rows of an input in lists.
+    def blocks(self, fill: Callable[[memoryview], Optional[int]]) -> Stream[List[AuditRow]]:
+        """Return an iterator over the rows of an input, in lists.
+
+        The auditor is in use until the iterator ends or is closed.
 
         Args:
             fill: Writes the next bytes of the input into a buffer and returns their number: 0 at
                 the end of the input, and `None` if no bytes are available now.
 
+        Returns:
+            The iterator. The exceptions are raised when it is advanced.
+
         Raises:
-            Refused: A byte is invalid. The rows before it are yielded first.
-            Truncated: The input ends inside an envelope. The rows before it are yielded first.
+            RefusedError: A byte is invalid. The rows before it are yielded first.
+            TruncatedError: The input ends inside an envelope. The rows before it are yielded first.
             RuntimeError: The auditor is in use.
             BlockingIOError: `fill` returned `None`.
         """
-        for rows in self.raw_blocks(fill):
-            yield [*map(_row_of, rows)]
+        return Stream([*map(_row_of, rows)] for rows in self._exclusive_blocks(fill))
 
-    def raw_blocks(self, fill: Callable[[memoryview], Optional[int]]) -> Iterator[List[RawRow]]:
-        """Yield the rows in lists as the library writes them, which is fastest.
+    def raw_blocks(self, fill: Callable[[memoryview], Optional[int]]) -> Stream[List[RawRow]]:
+        """Return the same as `blocks`, with the rows as the library writes them: the fastest form.
 
-        The arguments and exceptions are those of `blocks`.
+        Args:
+            fill: As for `blocks`.
+
+        Returns:
+            The iterator. Its exceptions are those of `blocks`.
         """
+        return Stream(self._exclusive_blocks(fill))
+
+    def _exclusive_blocks(
+        self, fill: Callable[[memoryview], Optional[int]]
+    ) -> Generator[List[RawRow], None, None]:
+        """Yield the rows of an input. Raise `RuntimeError` if the auditor is in use."""
         if not self._lock.acquire(False):
             raise_in_use(self)
         try:
@@ -268,7 +306,7 @@ class Auditor:
         """Raise the refusal of a byte of a chunk as a receiver does, but without the story."""
         try:
             self._receiver_at(nth, octets).feed(piece)
-        except Refused as refusal:
+        except RefusedError as refusal:
             refusal.story = Octets(b"")
             raise
 
@@ -293,21 +331,8 @@ def _filler_of(file: BinaryIO) -> Callable[[memoryview], Optional[int]]:
 
 def audit_blocks(
     file: AnyFile, limits: Limits = WIRE, *, now: Optional[datetime.datetime] = None
-) -> Iterator[List[AuditRow]]:
-    """Yield the rows of `audit` in lists. The arguments and exceptions are those of `audit`."""
-    if isinstance(file, (str, bytes, os.PathLike)):
-        with open(file, "rb", buffering=0) as opened:
-            yield from audit_blocks(opened, limits, now=now)
-        return
-    yield from Auditor(limits, now=now).blocks(_filler_of(file))
-
-
-def audit(
-    file: AnyFile, limits: Limits = WIRE, *, now: Optional[datetime.datetime] = None
-) -> Iterator[AuditRow]:
-    """Yield a row for each envelope of a file.
-
-    The rows are those of `iimwire audit`, but do not name the envelope that an envelope repeats.
+) -> Stream[List[AuditRow]]:
+    """Return an iterator over the rows of `audit` in lists.
 
     Args:
         file: A path, or an object whose `read` returns bytes.
@@ -315,11 +340,45 @@ def audit(
         now: The instant, with a time zone, from which ages are counted and copy is held or expired
             [default: the present].
 
+    Returns:
+        The iterator. Its exceptions are those of `audit`.
+    """
+    return Stream(_audit_blocks(file, limits, now))
+
+
+def audit(
+    file: AnyFile, limits: Limits = WIRE, *, now: Optional[datetime.datetime] = None
+) -> Stream[AuditRow]:
+    """Return an iterator over a row for each envelope of a file.
+
+    The rows are those of `iimwire audit`, but do not name the envelope that an envelope repeats. The
+    file is opened at the first row, and closed at the end or by `close`. As a context manager the
+    iterator closes it, too.
+
+    Args:
+        file: A path, or an object whose `read` returns bytes.
+        limits: The limits on records 1 and 2.
+        now: The instant, with a time zone, from which ages are counted and copy is held or expired
+            [default: the present].
+
+    Returns:
+        The iterator. The exceptions are raised when it is advanced.
+
     Raises:
-        Refused: A byte is invalid. Its `story` is empty.
-        Truncated: The file ends inside an envelope.
+        RefusedError: A byte is invalid. Its `story` is empty.
+        TruncatedError: The file ends inside an envelope.
         ValueError: A limit is out of range, or `now` is after 9999-12-30T22:00:00Z.
         OSError: The file can't be read. `BlockingIOError` if `read` returned `None`.
     """
-    for rows in audit_blocks(file, limits, now=now):
-        yield from rows
+    return Stream(row for rows in _audit_blocks(file, limits, now) for row in rows)
+
+
+def _audit_blocks(
+    file: AnyFile, limits: Limits, now: Optional[datetime.datetime]
+) -> Generator[List[AuditRow], None, None]:
+    """Yield the rows of a file in lists."""
+    if isinstance(file, (str, bytes, os.PathLike)):
+        with open(file, "rb", buffering=0) as opened:
+            yield from _audit_blocks(opened, limits, now)
+        return
+    yield from Auditor(limits, now=now).blocks(_filler_of(file))

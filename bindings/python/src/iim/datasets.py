@@ -8,6 +8,50 @@ from typing import Dict, List, Optional, Tuple, cast
 
 from iim.octets import Octets
 
+# The standard's name of each dataset, by its record number and its number.
+TITLES: Dict[Tuple[int, int], str] = {
+    (1, 0): "Model Version",
+    (1, 5): "Destination",
+    (1, 20): "File Format",
+    (1, 22): "File Format Version",
+    (1, 30): "Service Identifier",
+    (1, 40): "Envelope Number",
+    (1, 50): "Product I.D.",
+    (1, 60): "Envelope Priority",
+    (1, 70): "Date Sent",
+    (1, 80): "Time Sent",
+    (1, 90): "Coded Character Set",
+    (1, 100): "Unique Name of Object",
+    (2, 0): "Record Version",
+    (2, 5): "Object Name",
+    (2, 7): "Edit Status",
+    (2, 10): "Urgency",
+    (2, 15): "Category",
+    (2, 20): "Supplemental Category",
+    (2, 22): "Fixture Identifier",
+    (2, 25): "Keywords",
+    (2, 30): "Release Date",
+    (2, 35): "Release Time",
+    (2, 37): "Expiration Date",
+    (2, 38): "Expiration Time",
+    (2, 40): "Special Instructions",
+    (2, 55): "Date Created",
+    (2, 60): "Time Created",
+    (2, 80): "By-line",
+    (2, 85): "By-line Title",
+    (2, 90): "City",
+    (2, 95): "Province/State",
+    (2, 100): "Country Code",
+    (2, 101): "Country Name",
+    (2, 103): "Original Transmission Reference",
+    (2, 105): "Headline",
+    (2, 110): "Credit",
+    (2, 115): "Source",
+    (2, 116): "Copyright Notice",
+    (2, 120): "Caption/Abstract",
+    (2, 122): "Writer/Editor",
+}
+
 # The attribute of each dataset, with its record number, its number and whether it repeats.
 ATTRIBUTES: Dict[str, Tuple[int, int, bool]] = {
     "model_version": (1, 0, False),

@@ -1,15 +1,22 @@
 """The exceptions that report invalid input."""
 from __future__ import annotations
 
-import functools
+import json
+from dataclasses import dataclass
 from typing import Any, Dict, List, Tuple
 
+from iim._deprecated import warn_of_old_name
 from iim.octets import Octets
-from iim.values import Field, PartId, as_latin, cause_name, dataset_name, fields_of
+from iim.values import Field, PartialId, as_latin, cause_name, datasets_of, dataset_name
 
 
-class Refused(Exception):
-    """Raised if input is invalid. `str()` is the line that `iimwire check` prints.
+class IimError(Exception):
+    """Base class of the exceptions that report invalid input."""
+
+
+@dataclass(frozen=True)
+class Refusal:
+    """Where and why input was rejected. `str()` is the line that `iimwire check` prints.
 
     Attributes:
         nth: The number of the envelope in the input, from 1.
@@ -18,53 +25,18 @@ class Refused(Exception):
         record: The record number of the dataset named.
         number: The dataset number of the dataset named.
         octet: The offset of the rejected byte from the envelope's first byte.
-        cause: The number of the cause; `cause_name` and `cause_text` describe it.
-        story: The story that was received before the error: from `Receiver.feed`, the part in the
-            last chunk; from `read` without `on_text`, all of it.
+        cause: The number of the cause; `iim.cause_text` describes it.
+        cause_name: The name of the cause, such as "BadValue".
     """
 
-    def __init__(
-        self,
-        nth: int,
-        at: int,
-        layer: str,
-        record: int,
-        number: int,
-        octet: int,
-        cause: int,
-        story: bytes = b"",
-    ) -> None:
-        super().__init__(nth, at, layer, record, number, octet, cause, story)
-        self.nth, self.at = nth, at
-        self.layer, self.record, self.number = layer, record, number
-        self.octet, self.cause = octet, cause
-        self.story = Octets(story)
-        # The ticket of the state before the rejected byte, if it is known.
-        self._ticket = b""
-
-    @property
-    def ticket(self) -> bytes:
-        """The saved state before the rejected byte; `Receiver.resume` continues from it.
-
-        It is empty if `check` raised the error.
-        """
-        return self._ticket
-
-    @functools.cached_property
-    def fields(self) -> List[Field]:
-        """The datasets of records 1 and 2 received before the error, in the order sent.
-
-        The list is empty if `check` raised the error.
-        """
-        return fields_of(self._ticket)
-
-    @property
-    def id(self) -> PartId:
-        """The identifier of the envelope; parts that were not received are `None`."""
-        first: Dict[Tuple[int, int], Octets] = {}
-        for record, number, octets in self.fields:
-            first.setdefault((record, number), octets)
-        return PartId(first.get((1, 30)), first.get((1, 40)), first.get((1, 70)))
+    nth: int
+    at: int
+    layer: str
+    record: int
+    number: int
+    octet: int
+    cause: int
+    cause_name: str
 
     @property
     def dataset(self) -> str:
@@ -76,38 +48,94 @@ class Refused(Exception):
         """The offset of the rejected byte from the first byte of the input."""
         return self.at + self.octet
 
-    @property
-    def cause_name(self) -> str:
-        """The name of the cause, such as "BadValue"."""
-        return cause_name(self.cause) or ""
-
     def __str__(self) -> str:
         """Return the line that `iimwire check` prints."""
-        return f"{self.nth} refused at octet {self.octet} by layer {self.layer} on {self.dataset}, cause {self.cause} {self.cause_name}"
+        where = f"{self.nth} refused at octet {self.octet} by layer {self.layer} on {self.dataset}"
+        return f"{where}, cause {self.cause} {self.cause_name}"
 
-    def as_json(self) -> Dict[str, Any]:
-        """Return the error as a value of JSON, with bytes as Latin-1."""
-        refused = {
-            name: getattr(self, name)
-            for name in ("layer", "dataset", "octet", "octet_in_file", "cause", "cause_name")
-        }
+
+class RefusedError(IimError):
+    """Raised if input is invalid. `str()` is the line that `iimwire check` prints.
+
+    It has the attributes of `Refusal`, too.
+
+    Attributes:
+        refusal: Where and why the input was rejected.
+        story: The story that was received before the error: from `Receiver.feed`, the part in the
+            last chunk; from `read` without `on_text`, all of it.
+        ticket: The saved state before the rejected byte; `Receiver.resume` continues from it. It is
+            empty if `check` raised the error.
+        datasets: The datasets of records 1 and 2 received before the error, in the order sent. The
+            list is empty if `check` raised the error.
+    """
+
+    def __init__(self, *parts: Any, story: bytes = b"", ticket: bytes = b"", **old: Any) -> None:
+        """Create the exception.
+
+        Args:
+            parts: The `Refusal`. The parts of a refusal, followed by the story, are deprecated.
+            story: The story that was received before the error.
+            ticket: The saved state before the rejected byte.
+            old: The parts of a refusal by their names, which are deprecated.
+        """
+        if len(parts) == 1 and isinstance(parts[0], Refusal) and not old:
+            refusal = parts[0]
+        else:
+            warn_of_old_name(f"{type(self).__name__} of single values", "that of a Refusal")
+            story = parts[7] if len(parts) == 8 else story
+            refusal = refusal_of(*parts[:7], **old)
+        super().__init__(refusal)
+        self.refusal = refusal
+        self.nth, self.at = refusal.nth, refusal.at
+        self.layer, self.record, self.number = refusal.layer, refusal.record, refusal.number
+        self.octet, self.octet_in_file = refusal.octet, refusal.octet_in_file
+        self.cause, self.cause_name = refusal.cause, refusal.cause_name
+        self.dataset = refusal.dataset
+        self.story, self.ticket = Octets(story), ticket
+        self.datasets: List[Field] = datasets_of(ticket) if ticket else []
+
+    @property
+    def fields(self) -> List[Field]:
+        """The `datasets`. Deprecated."""
+        warn_of_old_name("fields", "datasets")
+        return self.datasets
+
+    @property
+    def id(self) -> PartialId:
+        """The identifier of the envelope; parts that were not received are `None`."""
+        first: Dict[Tuple[int, int], Octets] = {}
+        for record, number, octets in self.datasets:
+            first.setdefault((record, number), octets)
+        return PartialId(first.get((1, 30)), first.get((1, 40)), first.get((1, 70)))
+
+    def to_dict(self) -> Dict[str, Any]:
+        """Return the error as a dictionary for JSON, with bytes as Latin-1."""
+        names = "layer", "dataset", "octet", "octet_in_file", "cause", "cause_name"
+        refused = {name: getattr(self, name) for name in names}
+        parts = self.id._asdict().items()
         return {
             "envelope": self.nth,
             "at": self.at,
             "refused": {**refused, "name": dataset_name(self.record, self.number)},
-            "id": {
-                name: None if octets is None else as_latin(octets)
-                for name, octets in self.id._asdict().items()
-            },
-            "fields": [field.as_json() for field in self.fields],
+            "id": {name: None if octets is None else as_latin(octets) for name, octets in parts},
+            "fields": [field.to_dict() for field in self.datasets],
         }
 
+    def to_json(self) -> str:
+        """Return the error as a line of JSON, with bytes as Latin-1."""
+        return json.dumps(self.to_dict())
 
-class Truncated(Refused):
+    def as_json(self) -> Dict[str, Any]:
+        """Return the same as `to_dict`. Deprecated."""
+        warn_of_old_name("as_json", "to_dict")
+        return self.to_dict()
+
+
+class TruncatedError(RefusedError):
     """Raised if the input ends inside an envelope. More bytes may complete it."""
 
 
-class TicketRefused(Exception):
+class TicketError(IimError):
     """Raised if bytes are not a valid ticket, so that no receiver can resume from them.
 
     Attributes:
@@ -115,14 +143,16 @@ class TicketRefused(Exception):
     """
 
     def __init__(self, cause: int) -> None:
+        """Create the exception for the number of a cause."""
         super().__init__(cause)
         self.cause = cause
 
     def __str__(self) -> str:
+        """Return the cause as text."""
         return f"no ticket: cause {self.cause} {cause_name(self.cause)}"
 
 
-class ScriptRefused(Exception):
+class ScriptError(IimError):
     """Raised if a script is invalid. `str()` is the line that `iimwire pack` prints.
 
     Attributes:
@@ -131,9 +161,24 @@ class ScriptRefused(Exception):
     """
 
     def __init__(self, line: int, cause: int) -> None:
+        """Create the exception for a line and the number of a cause."""
         super().__init__(line, cause)
         self.line, self.cause = line, cause
 
     def __str__(self) -> str:
         """Return the line that `iimwire pack` prints."""
         return f"refused: script line {self.line} cause {self.cause} {cause_name(self.cause)}"
+
+
+def refusal_of(
+    nth: int, at: int, layer: str, record: int, number: int, octet: int, cause: int
+) -> Refusal:
+    """Return a refusal, with the name of its cause."""
+    return Refusal(nth, at, layer, record, number, octet, cause, cause_name(cause) or "")
+
+
+# The names of release 2.
+Refused = RefusedError
+Truncated = TruncatedError
+TicketRefused = TicketError
+ScriptRefused = ScriptError

@@ -6,7 +6,7 @@ from typing import Iterable, Optional, Tuple
 
 from iim import _library
 from iim._library import library
-from iim.errors import ScriptRefused
+from iim.errors import ScriptError
 from iim.octets import AnyOctets, as_bytes
 from iim.values import GREATEST, Header
 
@@ -83,7 +83,7 @@ def pack(
         maximum: The maximum size of the object, 7:95. Only an object of unknown size has one.
 
     Raises:
-        ScriptRefused: The script is invalid.
+        ScriptError: The script is invalid.
         ValueError: A size is out of range, or `maximum` is given without `unknown`.
         MemoryError: The library could not allocate memory.
     """
@@ -104,7 +104,7 @@ def pack(
     if answer.status == _library.NO_MEMORY:
         raise MemoryError
     if answer.status == _library.REFUSED:
-        raise ScriptRefused(answer.octet, answer.cause)
+        raise ScriptError(answer.octet, answer.cause)
     if answer.status != _library.DONE:
         raise RuntimeError(f"the library returned the unexpected status {answer.status}")
     return bytes(out[: answer.written])

@@ -11,7 +11,7 @@ import sys
 import threading
 from typing import Any, Dict, Iterator, List, Optional, Tuple
 
-from iim.errors import Refused
+from iim.errors import RefusedError
 from iim.reader import read
 from iim.values import GREATEST_LIMIT, WIRE, Limits
 
@@ -98,9 +98,9 @@ def _print_file(named: Dict[str, str], file: Any, limits: Limits) -> int:
     """Print the lines of a file, and return the exit status."""
     try:
         for envelope in read(file, limits):
-            print_line({**named, **envelope.as_json()})
-    except Refused as refusal:
-        print_line({**named, **refusal.as_json()})
+            print_line({**named, **envelope.to_dict()})
+    except RefusedError as refusal:
+        print_line({**named, **refusal.to_dict()})
         return 1
     except OSError as fault:
         print_line({**named, "failed": f"cannot read: {fault.strerror or fault}"})

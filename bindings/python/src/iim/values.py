@@ -3,20 +3,14 @@ from __future__ import annotations
 
 import ctypes
 import functools
+import json
 import struct
-from typing import (
-    Any,
-    Callable,
-    Dict,
-    List,
-    NamedTuple,
-    Optional,
-    Tuple,
-)
+from typing import Any, Callable, Dict, List, NamedTuple, Optional, Tuple
 
 from iim import _library
+from iim._deprecated import warn_of_old_name
 from iim._library import library
-from iim.datasets import ATTRIBUTES, NamedDatasets
+from iim.datasets import ATTRIBUTES, TITLES, NamedDatasets
 from iim.octets import AnyOctets, Octets, as_bytes
 
 # The maximum size of an object, and the maximum of a limit.
@@ -49,7 +43,14 @@ def dataset_name(record: int, number: int) -> Optional[str]:
 
 @functools.lru_cache(maxsize=None)
 def cause_name(cause: int) -> Optional[str]:
-    """Return the name of a cause, such as "CountRange" for 13, or `None` if it does not exist."""
+    """Return the name of a cause, such as "CountRange" for 13, or `None` if it does not exist.
+
+    Args:
+        cause: The number of the cause, 0 to 255.
+
+    Raises:
+        ValueError: The number is out of range.
+    """
     return name_of(library.iim_cause_name, *_numbers_of(cause))
 
 
@@ -58,13 +59,26 @@ def cause_text(cause: int) -> Optional[str]:
     """Return the meaning of a cause, or `None` if there is no such cause.
 
     The text is that of docs/CAUSES.md, such as "9:10 is not the total" for 25.
+
+    Args:
+        cause: The number of the cause, 0 to 255.
+
+    Raises:
+        ValueError: The number is out of range.
     """
     return name_of(library.iim_cause_text, *_numbers_of(cause))
 
 
 @functools.lru_cache(maxsize=None)
 def layer_name(layer: int) -> Optional[str]:
-    """Return the name of a layer, such as "dataset" for 1, or `None` if there is no such layer."""
+    """Return the name of a layer, such as "dataset" for 1, or `None` if there is no such layer.
+
+    Args:
+        layer: The number of the layer, 0 to 255.
+
+    Raises:
+        ValueError: The number is out of range.
+    """
     return name_of(library.iim_layer_name, *_numbers_of(layer))
 
 
@@ -165,11 +179,25 @@ class Field(NamedTuple):
     @property
     def name(self) -> Optional[str]:
         """The standard's name of the dataset, such as "Headline", or `None`."""
-        return dataset_name(self.record, self.number)
+        return TITLES.get((self.record, self.number))
+
+    def text(self, encoding: str, errors: str = "strict") -> str:
+        """Return the value decoded as text.
+
+        Args:
+            encoding: The encoding, such as "latin-1" or "utf-8".
+            errors: How to handle bytes that cannot be decoded, as for `bytes.decode`.
+        """
+        return self.octets.text(encoding, errors)
+
+    def to_dict(self) -> Dict[str, Any]:
+        """Return the dataset as a dictionary for JSON, with its bytes as Latin-1."""
+        return {"dataset": self.dataset, "name": self.name, "octets": as_latin(self.octets)}
 
     def as_json(self) -> Dict[str, Any]:
-        """Return the dataset as a value of JSON, with its bytes as Latin-1."""
-        return {"dataset": self.dataset, "name": self.name, "octets": as_latin(self.octets)}
+        """Return the same as `to_dict`. Deprecated."""
+        warn_of_old_name("as_json", "to_dict")
+        return self.to_dict()
 
 
 class Id(NamedTuple):
@@ -186,7 +214,7 @@ class Id(NamedTuple):
     date_sent: Octets
 
 
-class PartId(NamedTuple):
+class PartialId(NamedTuple):
     """The identifier of a rejected envelope. A part that was not received is `None`.
 
     Attributes:
@@ -198,6 +226,10 @@ class PartId(NamedTuple):
     service: Optional[Octets]
     number: Optional[Octets]
     date_sent: Optional[Octets]
+
+
+# The name of release 2.
+PartId = PartialId
 
 
 class Header(NamedTuple):
@@ -250,7 +282,7 @@ _DATASET = struct.Struct("BBNN")
 _FIELDS = 64
 
 
-def fields_of(ticket: bytes) -> List[Field]:
+def datasets_of(ticket: bytes) -> List[Field]:
     """Return the datasets of a ticket, in the order sent. An empty ticket has none."""
     answer, capacity = _library.Answer(), _FIELDS
     while True:
@@ -272,11 +304,10 @@ def fields_of(ticket: bytes) -> List[Field]:
 class Envelope(NamedDatasets):
     """A complete envelope.
 
-    Each dataset of records 1 and 2 that the standard names is an attribute. A dataset that may occur
+    Each dataset of records 1 and 2 that the standard names is a property. A dataset that may occur
     once, such as `headline`, `date_sent` or `urgency`, is its value, or `None` if the envelope does
     not have it. A dataset that may repeat has a plural name, such as `bylines`, `keywords` or
-    `supplemental_categories`, and is a list. `dir(envelope)` lists all names. `first` and `all`
-    look a dataset up by its numbers.
+    `supplemental_categories`, and is a list. `first` and `all` look a dataset up by its numbers.
 
     Attributes:
         nth: The number of the envelope in the input, from 1.
@@ -287,25 +318,41 @@ class Envelope(NamedDatasets):
     """
 
     def __init__(
-        self, ticket: bytes, nth: int, at: int, length: int, story: Optional[bytes]
+        self, ticket: bytes, nth: int, at: int, length: int, story: Optional[bytes] = None
     ) -> None:
+        """Create an envelope.
+
+        Args:
+            ticket: The ticket of the complete envelope.
+            nth: The number of the envelope in the input, from 1.
+            at: The offset of its first byte in the input.
+            length: Its size, in bytes.
+            story: The lines of the story joined by LF, or `None`.
+        """
         # The ticket of the complete envelope, which has all of it but the story.
         self._ticket = as_bytes(ticket)
         self.nth, self.at, self.length = nth, at, length
         self.story: Optional[Octets] = None if story is None else Octets(story)
 
     def _octets(self, span: _library.Span) -> Octets:
+        """Return the bytes of a span of the ticket."""
         return Octets(self._ticket[span.offset : span.offset + span.count])
 
     @functools.cached_property
-    def fields(self) -> List[Field]:
+    def datasets(self) -> List[Field]:
         """All datasets of records 1 and 2, in the order in which they were sent."""
-        return fields_of(self._ticket)
+        return datasets_of(self._ticket)
+
+    @property
+    def fields(self) -> List[Field]:
+        """The `datasets`. Deprecated."""
+        warn_of_old_name("fields", "datasets")
+        return self.datasets
 
     @functools.cached_property
     def _by_number(self) -> Dict[Tuple[int, int], List[Octets]]:
         found: Dict[Tuple[int, int], List[Octets]] = {}
-        for record, number, octets in self.fields:
+        for record, number, octets in self.datasets:
             found.setdefault((record, number), []).append(octets)
         return found
 
@@ -318,7 +365,8 @@ class Envelope(NamedDatasets):
         return next(iter(self._by_number.get((record, number), ())), None)
 
     def __repr__(self) -> str:
-        return f"<envelope {self.nth} {' '.join(part.text('latin-1') for part in self.id)}, {self.length} octets>"
+        name = " ".join(part.text("latin-1") for part in self.id)
+        return f"<envelope {self.nth} {name}, {self.length} octets>"
 
     @property
     def id(self) -> Id:
@@ -350,12 +398,21 @@ class Envelope(NamedDatasets):
         maximum = found.maximum if found.has_maximum else None
         return Sizes(found.mode, found.subfile, announced, maximum, found.subfiles, found.octets)
 
-    @property
-    def lines(self) -> List[Octets]:
-        """The lines of the story. Raises `ValueError` if the envelope has no `story`."""
+    def story_lines(self) -> List[Octets]:
+        """Return the lines of the story, without line ends.
+
+        Raises:
+            ValueError: The envelope has no `story`.
+        """
         if self.story is None:
             raise ValueError("the envelope has no story: it was passed on while it was received")
         return [Octets(line) for line in self.story.split(b"\n")]
+
+    @property
+    def lines(self) -> List[Octets]:
+        """The same as `story_lines()`. Deprecated."""
+        warn_of_old_name("lines", "story_lines()")
+        return self.story_lines()
 
     def text(self, encoding: str, errors: str = "strict") -> str:
         """Return the story decoded as text, with a line feed between two lines.
@@ -367,29 +424,38 @@ class Envelope(NamedDatasets):
         Raises:
             ValueError: The envelope has no `story`.
         """
-        return "\n".join(line.text(encoding, errors) for line in self.lines)
+        return "\n".join(line.text(encoding, errors) for line in self.story_lines())
+
+    def to_json(self) -> str:
+        """Return the envelope as a line of JSON, with bytes as Latin-1."""
+        return json.dumps(self.to_dict())
 
     def as_json(self) -> Dict[str, Any]:
-        """Return the envelope as a value of JSON, with bytes as Latin-1."""
+        """Return the same as `to_dict`. Deprecated."""
+        warn_of_old_name("as_json", "to_dict")
+        return self.to_dict()
+
+    def to_dict(self) -> Dict[str, Any]:
+        """Return the envelope as a dictionary for JSON, with bytes as Latin-1."""
         named: Dict[str, Any] = {}
         for name, (record, number, repeats) in ATTRIBUTES.items():
-            found = self._by_number.get((record, number))
+            found = [as_latin(octets) for octets in self.all(record, number)]
             if found:
-                named[name] = (
-                    [as_latin(octets) for octets in found] if repeats else as_latin(found[0])
-                )
+                named[name] = found if repeats else found[0]
+        lines = None if self.story is None else [as_latin(line) for line in self.story_lines()]
         return {
             "envelope": self.nth,
             "at": self.at,
             "length": self.length,
             "named": named,
-            "fields": [field.as_json() for field in self.fields],
+            "fields": [field.to_dict() for field in self.datasets],
             "header": {name: as_latin(octets) for name, octets in self.header._asdict().items()},
             "trailer": as_latin(self.trailer),
             "sizes": self.sizes._asdict(),
-            "lines": None if self.story is None else [as_latin(line) for line in self.lines],
+            "lines": lines,
         }
 
 
 def as_latin(octets: bytes) -> str:
+    """Return bytes decoded as Latin-1."""
     return octets.decode("latin-1")

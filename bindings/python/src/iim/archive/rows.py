@@ -365,7 +365,7 @@ def read_file(
                 for nth, raw in enumerate(block, nth + 1):
                     rows += envelope_row(file, nth, second, raw)
                 read = block[-1][0] + block[-1][1]
-    except iim.Refused as refused:
+    except iim.RefusedError as refused:
         state, refusal = "refused", refusal_row(file, refused)
     except OSError as fault:
         state, reason = "failed", fault.strerror or str(fault)
@@ -379,9 +379,9 @@ def read_file(
     return FileRows(file, path, size, changed, read, state, reason, rows, refusal)
 
 
-def refusal_row(file: int, refused: iim.Refused) -> RefusalRow:
+def refusal_row(file: int, refused: iim.RefusedError) -> RefusalRow:
     """Return the index's row of a refusal."""
-    value = refused.as_json()
+    value = refused.to_dict()
     known = value["id"]
     return (
         file, refused.nth, refused.at, refused.cause, refused.cause_name, known["service"], known["number"], known["date_sent"],

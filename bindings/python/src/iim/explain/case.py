@@ -35,7 +35,7 @@ class Whole:
     """An envelope that is shown byte by byte."""
 
     def __init__(
-        self, source: Source, found: Found, refusal: Optional[iim.Refused], limits: iim.Limits
+        self, source: Source, found: Found, refusal: Optional[iim.RefusedError], limits: iim.Limits
     ) -> None:
         self.found, self.refusal = found, refusal
         self.walk = Walk(source, found.at, found.length, limits)
@@ -86,10 +86,10 @@ class Case:
         self.count = 0
         self.first: List[Found] = []
         self.last: Deque[Found] = collections.deque(maxlen=LISTED)
-        self.refusal: Optional[iim.Refused] = None
+        self.refusal: Optional[iim.RefusedError] = None
         try:
             self._read()
-        except iim.Refused as refusal:
+        except iim.RefusedError as refusal:
             self.refusal = refusal
             self._add(Found(refusal.nth, refusal.at, refusal.octet, refusal.id))
 
@@ -121,7 +121,7 @@ class Case:
     def _add(self, found: Found) -> None:
         (self.first if len(self.first) < LISTED else self.last).append(found)
 
-    def _refusal_of(self, found: Found) -> Optional[iim.Refused]:
+    def _refusal_of(self, found: Found) -> Optional[iim.RefusedError]:
         return self.refusal if self.refusal and found.nth == self.refusal.nth else None
 
     def listed(self) -> List[Found]:

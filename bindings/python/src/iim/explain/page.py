@@ -257,7 +257,7 @@ def rows(case: Case, at: int, groups: Iterable[Group], prefix: str) -> Iterator[
         owned = list(zip(octets, owners))
         for row in range((at + begin) // 16 * 16, at + end, 16):
             yield row_of(row - at, at, begin, owned, mark, prefix)
-        if isinstance(case.refusal, iim.Truncated) and end == mark:
+        if isinstance(case.refusal, iim.TruncatedError) and end == mark:
             yield "         [<mark>the file ends here</mark>]\n"
 
 

@@ -71,7 +71,7 @@ def main(asked: argparse.Namespace) -> int:
                 ]
             )
             page = page_of(case) if asked.html is not None else ""
-        except iim.Refused:
+        except iim.RefusedError:
             # (bytes that were accepted a moment ago)
             raise Failed(f"{name}: the file was changed while it was read") from None
         except OutputRefused as fault:

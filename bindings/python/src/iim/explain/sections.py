@@ -55,7 +55,7 @@ def sections(case: Case) -> Iterator[Section]:
     yield Section("Note", [NOTE])
 
 
-def where(refusal: iim.Refused, tries: Tries, whole: Whole) -> Iterator[str]:
+def where(refusal: iim.RefusedError, tries: Tries, whole: Whole) -> Iterator[str]:
     """Yield sentences on the position of the rejected byte."""
     at, here = tries.octet, tries.here
     what = "The file ends after octet" if tries.ends else "Octet"
@@ -86,7 +86,7 @@ def where(refusal: iim.Refused, tries: Tries, whole: Whole) -> Iterator[str]:
         yield " ".join(f">{part}<" if nth == row else part for nth, part in enumerate(words.ROW))
 
 
-def why(refusal: iim.Refused, tries: Tries, whole: Whole) -> Iterator[str]:
+def why(refusal: iim.RefusedError, tries: Tries, whole: Whole) -> Iterator[str]:
     """Yield sentences on the cause, its likely reason, and what to do."""
     cause, here = CAUSES[refusal.cause], tries.here
     named = titled(refusal.record, refusal.number)

@@ -102,7 +102,7 @@ def dump(case: Case, paint: Paint) -> Iterator[str]:
     """Yield a hexadecimal dump of the bytes around the rejected one, which is marked."""
     if case.refusal is None:
         return
-    mark, ends = case.refusal.octet_in_file, isinstance(case.refusal, iim.Truncated)
+    mark, ends = case.refusal.octet_in_file, isinstance(case.refusal, iim.TruncatedError)
     yield ""
     for row in range(max(0, mark // 16 - 3) * 16, min(case.source.size + ends, mark + 32), 16):
         octets = case.source.take(row, 16)

@@ -84,13 +84,13 @@ class Tries:
     """The changes that are tried on a rejected envelope."""
 
     def __init__(
-        self, source: Source, refusal: iim.Refused, walk: Walk, limits: iim.Limits
+        self, source: Source, refusal: iim.RefusedError, walk: Walk, limits: iim.Limits
     ) -> None:
         self._source, self.refusal, self.walk, self._limits = source, refusal, walk, limits
         self.at, self.octet, self.ends = (
             refusal.at,
             refusal.octet,
-            isinstance(refusal, iim.Truncated),
+            isinstance(refusal, iim.TruncatedError),
         )
         self.datasets = [item for item in walk.items if item.kind == "dataset"]
         self._short = self.take(0, self.octet + REST) if self.octet <= SHORT else None
@@ -98,7 +98,7 @@ class Tries:
         self._start = iim.Receiver(limits)
         self._near = self._start
         before = self.before(self.octet)
-        self.place, self.could = before.place, before.next
+        self.place, self.could = before.current_position(), before.next_bytes()
         self.here = self.datasets[-1] if self.place.begun in ("tag", "data") else None
         self.begin = self._token()
 
@@ -130,9 +130,11 @@ class Tries:
             is a complete envelope.
         """
         if self._short is not None:
-            reach, whole = self._start.tries(self._short[:octet] + put + self._short[octet + cut :])
+            reach, whole = self._start.try_bytes(
+                self._short[:octet] + put + self._short[octet + cut :]
+            )
         else:
-            reach, whole = self.before(octet).tries(put + self._rest(octet + cut))
+            reach, whole = self.before(octet).try_bytes(put + self._rest(octet + cut))
             reach += octet
         return (reach + cut - len(put) if reach >= octet + len(put) else octet), whole
 
@@ -147,7 +149,7 @@ class Tries:
 
     def of_whole(self, octets: bytes) -> Tuple[int, bool]:
         """Return the size of the valid prefix of these bytes, and whether it is an envelope."""
-        return self._start.tries(octets)
+        return self._start.try_bytes(octets)
 
     # --- Single-byte fixes
 
@@ -433,7 +435,7 @@ class Tries:
         """
         receiver = iim.Receiver(self._limits)
         record_1 = b"".join(placeholder(1, number) for number in (0, 20, 22, 30, 40, 70))
-        if receiver.tries(record_1)[0] < len(record_1):
+        if receiver.try_bytes(record_1)[0] < len(record_1):
             # (the limits are too small for a record 1)
             return at, False, False, 0
         receiver.feed(record_1)
@@ -444,10 +446,12 @@ class Tries:
                 before = receiver.octets
                 try:
                     fed = receiver.feed(piece, start)
-                except iim.Refused as refusal:
-                    record = iim.Receiver.resume(
-                        refusal.ticket, refusal.octet, self._limits
-                    ).place.record
+                except iim.RefusedError as refusal:
+                    record = (
+                        iim.Receiver.resume(refusal.ticket, refusal.octet, self._limits)
+                        .current_position()
+                        .record
+                    )
                     return (
                         (at + start + refusal.octet - before, False, False, record)
                         if ended is None
@@ -456,7 +460,7 @@ class Tries:
                 start += fed.used
                 ended = at + start if fed.envelope and ended is None else ended
             at += len(piece)
-        record = receiver.place.record
+        record = receiver.current_position().record
         return (
             (at, False, False, record)
             if ended is None
@@ -512,5 +516,5 @@ def placeholder(record: int, number: int) -> bytes:
     head = bytes([0x1C, record, number, 0, len(value)])
     likely = [head + value[:-1] + last for last in SINGLY] if kind == words.BINARY and value else []
     return next(
-        (each for each in likely if iim.Receiver().tries(each)[0] == len(each)), head + value
+        (each for each in likely if iim.Receiver().try_bytes(each)[0] == len(each)), head + value
     )

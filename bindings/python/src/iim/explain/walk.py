@@ -189,13 +189,13 @@ class Walk:
         begin = self.octets
         while self.octets < to:
             self._go(min(BLOCK, to - self.octets))
-        self.places.append((self.octets, self._receiver.ticket))
+        self.places.append((self.octets, self._receiver.current_ticket()))
         self.gap = begin, to
 
     def _tell(self, to: int) -> None:
         """Add the items of the datasets up to an offset."""
         while self.octets < to and self.envelope is None:
-            place = self._receiver.place
+            place = self._receiver.current_position()
             if place.begun == "data":
                 self._data(place.record, place.number, to, Item(self.octets, 0, "dataset", "", ""))
             else:
@@ -204,7 +204,7 @@ class Walk:
     def _dataset(self, to: int, at: int) -> None:
         """Add the items of the dataset that begins at an offset."""
         self._go(min(max(at + 5 - self.octets, 1), to - self.octets))
-        while (place := self._receiver.place).begun == "tag" and self.octets < to:
+        while (place := self._receiver.current_position()).begun == "tag" and self.octets < to:
             self._go(1)
         head = self.octets - at
         if place.begun == "tag":
@@ -248,7 +248,7 @@ class Walk:
         end = min(to, item.at + item.length)
         if not item.label:
             # (the dataset begins in the gap)
-            end = min(to, self.octets + (self._receiver.place.to_come or 0))
+            end = min(to, self.octets + (self._receiver.current_position().to_come or 0))
             item = Item(
                 self.octets,
                 end - self.octets,
@@ -266,13 +266,13 @@ class Walk:
 
     def _message(self, to: int) -> None:
         """Add the items of the parts of the message up to an offset."""
-        part = self._receiver.place.part
+        part = self._receiver.current_position().part
         while self.octets < to:
             if part == TEXT and self._line(to):
                 continue
             at, before = self.octets, part
             self._go(1)
-            part = self._receiver.place.part
+            part = self._receiver.current_position().part
             self._part(at, (STAYS if part == before else STEPS)[part])
 
     def _part(self, at: int, label: str) -> None:
