@@ -12,7 +12,7 @@ PAGE = "bindings/python/src/iim/explain/causes.py"
 # What stands around the entries.
 HEAD, FOOT = "CAUSES: Dict[int, Cause] = {\n", "}\n# fmt: on\n"
 # The columns of a line, without its quotation marks and what follows them.
-WIDTH = 137
+WIDTH = 96
 INDENT = " " * 8
 
 

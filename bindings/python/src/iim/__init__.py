@@ -15,10 +15,11 @@ Memory: `read` and `audit` read a file in blocks and never hold all of it.
 Text: values are `Octets`, a subclass of `bytes`. IIM does not state the character set, so you pass
 an encoding to `text(encoding)`.
 
-Errors: invalid input raises `RefusedError`, which has the layer, the dataset, the offset of the byte
-and the cause. Input that ends inside an envelope raises its subclass `TruncatedError`. Both are
-`IimError`. docs/CAUSES.md lists all causes, docs/FORMAT.md describes the format, docs/guide/python.md has complete programs; the
-package python3-iim has all three in /usr/share/doc/python3-iim.
+Errors: invalid input raises `RefusedError`, which has the layer, the dataset, the offset of the
+byte and the cause. Input that ends inside an envelope raises its subclass `TruncatedError`. Both
+are `IimError`. docs/CAUSES.md lists all causes, docs/FORMAT.md describes the format, and
+docs/guide/python.md has complete programs; the package python3-iim has all three in
+/usr/share/doc/python3-iim.
 
 Threads: any number of threads may call the functions of this module and read the same `Envelope` or
 error at the same time. Give each thread its own `Receiver` and `Auditor`: a call on one that

@@ -13,10 +13,14 @@ from typing import Any, Dict, List, Tuple
 
 
 class Limits(ctypes.Structure):
+    """The struct iim_limits."""
+
     _fields_ = [("octets", ctypes.c_uint32), ("fields", ctypes.c_uint32)]
 
 
 class Answer(ctypes.Structure):
+    """The struct iim_answer."""
+
     _fields_ = [
         *((name, ctypes.c_uint8) for name in ("status", "layer", "cause", "rec", "set")),
         ("octet", ctypes.c_uint64),
@@ -25,19 +29,27 @@ class Answer(ctypes.Structure):
 
 
 class Span(ctypes.Structure):
+    """The struct iim_span."""
+
     _fields_ = [("offset", ctypes.c_size_t), ("count", ctypes.c_size_t)]
 
 
 class Dataset(ctypes.Structure):
+    """The struct iim_dataset."""
+
     _fields_ = [("rec", ctypes.c_uint8), ("set", ctypes.c_uint8), ("data", Span)]
 
 
 class Message(ctypes.Structure):
+    """The struct iim_message."""
+
     TEXTS = "source", "number", "priority", "category", "words", "info", "trailer"
     _fields_ = [("part", ctypes.c_uint8), *((name, Span) for name in TEXTS)]
 
 
 class Object(ctypes.Structure):
+    """The struct iim_object."""
+
     _fields_ = [
         *((f"has_{name}", ctypes.c_bool) for name in ("mode", "subfile", "announced", "maximum")),
         *(
@@ -48,6 +60,8 @@ class Object(ctypes.Structure):
 
 
 class Packing(ctypes.Structure):
+    """The struct iim_packing."""
+
     _fields_ = [
         ("subfile", ctypes.c_uint64),
         ("unknown", ctypes.c_bool),
@@ -57,6 +71,8 @@ class Packing(ctypes.Structure):
 
 
 class Rule(ctypes.Structure):
+    """The struct iim_rule."""
+
     _fields_ = [
         *((name, ctypes.c_uint64) for name in ("min", "max")),
         *((name, ctypes.c_uint8) for name in ("kind", "duty")),
@@ -65,10 +81,14 @@ class Rule(ctypes.Structure):
 
 
 class OctetSet(ctypes.Structure):
+    """The struct iim_octet_set."""
+
     _fields_ = [("bits", ctypes.c_uint8 * 32)]
 
 
 class Begun(ctypes.Structure):
+    """The struct iim_begun."""
+
     _fields_ = [
         *(
             (name, ctypes.c_uint8)
@@ -80,10 +100,14 @@ class Begun(ctypes.Structure):
 
 
 class Instant(ctypes.Structure):
+    """The struct iim_instant."""
+
     _fields_ = [("second", ctypes.c_int64), ("nanosecond", ctypes.c_uint32)]
 
 
 class SoFar(ctypes.Structure):
+    """The struct iim_so_far."""
+
     _fields_ = [
         *((name, ctypes.c_uint64) for name in ("at", "octets", "words")),
         ("inside", ctypes.c_bool),
@@ -91,6 +115,8 @@ class SoFar(ctypes.Structure):
 
 
 class AuditRow(ctypes.Structure):
+    """The struct iim_audit_row."""
+
     _fields_ = [
         *(
             (name, ctypes.c_uint64)
@@ -209,6 +235,7 @@ class Library:
     """The C library. It is loaded at the first call, so the module can be imported without it."""
 
     def __getattr__(self, name: str) -> Any:
+        """Load the library, and return one of its functions."""
         loaded = load()
         for each in FUNCTIONS:
             setattr(self, each, getattr(loaded, each))

@@ -174,6 +174,7 @@ class Auditor:
         self._next = _library.buffer(1_024)
 
     def __reduce__(self) -> NoReturn:
+        """Raise `TypeError`."""
         raise TypeError(
             "an Auditor can't be copied or pickled: make one of the same limits and instant"
         )
@@ -320,6 +321,7 @@ def _filler_of(file: BinaryIO) -> Callable[[memoryview], Optional[int]]:
     take = getattr(file, "read1", file.read)
 
     def fill(buffer: memoryview) -> Optional[int]:
+        """Read the next bytes of the file."""
         piece = take(len(buffer))
         if piece is None:
             return None
@@ -351,9 +353,9 @@ def audit(
 ) -> Stream[AuditRow]:
     """Return an iterator over a row for each envelope of a file.
 
-    The rows are those of `iimwire audit`, but do not name the envelope that an envelope repeats. The
-    file is opened at the first row, and closed at the end or by `close`. As a context manager the
-    iterator closes it, too.
+    The rows are those of `iimwire audit`, but do not name the envelope that an envelope repeats.
+    The file is opened at the first row, and closed at the end or by `close`. As a context manager
+    the iterator closes it, too.
 
     Args:
         file: A path, or an object whose `read` returns bytes.

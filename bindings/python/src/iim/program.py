@@ -9,7 +9,8 @@ import os
 import signal
 import sys
 import threading
-from typing import Any, Dict, Iterator, List, Optional, Tuple
+from pathlib import Path
+from typing import Any, Dict, Iterator, List, Optional, Sequence, Tuple
 
 from iim.errors import RefusedError
 from iim.reader import read
@@ -18,10 +19,6 @@ from iim.values import GREATEST_LIMIT, WIRE, Limits
 # The exit status of a failure, and that of a program ended by a signal.
 FAILED = 3
 STOPPED = 130
-
-
-# The help of --limits.
-_LIMITS_HELP = "maximum bytes of data, and number of datasets, in records 1 and 2 together [default: 65536 512]"
 
 
 class CannotWrite(Exception):
@@ -55,7 +52,7 @@ def naming(what: str) -> Iterator[None]:
 
 def program_name(explains: bool) -> str:
     """Return the name under which the program was started."""
-    if os.path.basename(sys.argv[0]) == "iim-explain":
+    if Path(sys.argv[0]).name == "iim-explain":
         return "iim-explain"
     return "python3 -m iim explain" if explains else "python3 -m iim"
 
@@ -127,25 +124,42 @@ def _explain(arguments: List[str]) -> int:
     return main(parse(arguments))
 
 
-def _print_files(arguments: List[str]) -> int:
+def add_limits(parser: argparse.ArgumentParser) -> None:
+    """Add the option --limits to a parser."""
+    parser.add_argument(
+        "--limits",
+        metavar=("OCTETS", "FIELDS"),
+        type=int,
+        nargs=2,
+        default=WIRE,
+        help="maximum bytes of data, and number of datasets, in records 1 and 2 together"
+        " [default: 65536 512]",
+    )
+
+
+def check_limits(parser: argparse.ArgumentParser, limits: Sequence[int]) -> None:
+    """Exit with a usage error if a limit is out of range."""
+    if not all(1 <= limit <= GREATEST_LIMIT for limit in limits):
+        parser.error(f"a limit must be from 1 to {GREATEST_LIMIT}")
+
+
+def _print_files(words: List[str]) -> int:
     """Print the lines of the files given, or of standard input, and return the exit status."""
     parser = argparse.ArgumentParser(
         "python3 -m iim",
         description="Print one line of JSON for each envelope. Bytes are written as Latin-1.",
-        epilog="`%(prog)s explain FILE` shows what a file contains and why it was rejected; see `%(prog)s explain --help`.",
+        epilog="`%(prog)s explain FILE` shows what a file contains and why it was rejected; see"
+        " `%(prog)s explain --help`.",
     )
     parser.add_argument(
         "files", metavar="FILE", nargs="*", help="file to read [default: standard input]"
     )
-    parser.add_argument(
-        "--limits", metavar=("OCTETS", "FIELDS"), type=int, nargs=2, default=WIRE, help=_LIMITS_HELP
-    )
-    asked = parser.parse_args(arguments)
-    limits = Limits(*asked.limits)
-    if not all(1 <= limit <= GREATEST_LIMIT for limit in limits):
-        parser.error(f"a limit must be from 1 to {GREATEST_LIMIT}")
-    if asked.files:
-        return max([_print_named(name, limits) for name in asked.files])
+    add_limits(parser)
+    arguments = parser.parse_args(words)
+    check_limits(parser, arguments.limits)
+    limits = Limits(*arguments.limits)
+    if arguments.files:
+        return max([_print_named(name, limits) for name in arguments.files])
     with naming("standard input"):
         if sys.stdin is None:
             raise OSError(errno.EBADF, os.strerror(errno.EBADF))
@@ -166,6 +180,7 @@ def _prepare() -> None:
 
 
 def _terminate(*_: Any) -> None:
+    """Raise `Terminated`."""
     raise Terminated
 
 
@@ -174,20 +189,16 @@ def _place_of_fault(fault: BaseException) -> str:
     trace = fault.__traceback__
     while trace is not None and trace.tb_next is not None:
         trace = trace.tb_next
-    return (
-        f"{os.path.basename(trace.tb_frame.f_code.co_filename)}:{trace.tb_lineno}" if trace else "?"
-    )
+    if trace is None:
+        return "?"
+    return f"{Path(trace.tb_frame.f_code.co_filename).name}:{trace.tb_lineno}"
 
 
-def _ended(fault: BaseException) -> Tuple[str, int]:
+def _reason_and_status(fault: BaseException) -> Tuple[str, int]:
     """Return why an exception ends the program, and the exit status."""
     if isinstance(fault, KeyboardInterrupt):
-        return (
-            ": ".join(
-                [*fault.args, "terminated" if isinstance(fault, Terminated) else "interrupted"]
-            ),
-            STOPPED,
-        )
+        signalled = "terminated" if isinstance(fault, Terminated) else "interrupted"
+        return ": ".join([*fault.args, signalled]), STOPPED
     if isinstance(fault, CannotWrite):
         return f"standard output: {fault}", FAILED
     if isinstance(fault, (Failed, ImportError)):
@@ -223,7 +234,7 @@ def main(words: Optional[List[str]] = None) -> int:
                 print_text("")
             raise
     except (Exception, KeyboardInterrupt) as fault:
-        reason, status = _ended(fault)
+        reason, status = _reason_and_status(fault)
         with contextlib.suppress(ValueError):
             # (against a second Ctrl-C while the program ends)
             signal.signal(signal.SIGINT, signal.SIG_IGN)

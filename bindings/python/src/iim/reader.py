@@ -19,7 +19,8 @@ def read(
     """Return an iterator over the envelopes of a file, each as soon as its last byte is read.
 
     The file is opened at the first envelope, and closed at the end or by `close`. As a context
-    manager the iterator closes it, too. The file is read in blocks. Only the story of the current envelope is stored in memory.
+    manager the iterator closes it, too. The file is read in blocks. Only the story of the current
+    envelope is stored in memory.
 
     Args:
         file: A path, or an object whose `read` returns bytes.

@@ -115,6 +115,7 @@ def exclusive(method: _Method) -> _Method:
 
     @functools.wraps(method)
     def guarded(self: Any, *args: Any, **kwargs: Any) -> Any:
+        """Call the method while the lock is held."""
         if not self._lock.acquire(False):
             raise_in_use(self)
         try:
@@ -195,9 +196,9 @@ class Receiver:
         return receiver
 
     def __reduce__(self) -> NoReturn:
-        raise TypeError(
-            "a Receiver can't be copied or pickled: keep its ticket and octets, from which Receiver.resume goes on"
-        )
+        """Raise `TypeError`."""
+        what = "a Receiver can't be copied or pickled"
+        raise TypeError(f"{what}: keep its ticket and octets, from which Receiver.resume goes on")
 
     @exclusive
     def current_ticket(self) -> bytes:
@@ -259,7 +260,8 @@ class Receiver:
             octets: The bytes to try.
 
         Returns:
-            The number of bytes that would be consumed, and whether the envelope would end with them.
+            The number of bytes that would be consumed, and whether the envelope would end with
+            them.
 
         Raises:
             RefusedError: An earlier call was refused.
@@ -281,7 +283,8 @@ class Receiver:
     def feed(self, piece: AnyOctets, start: int = 0) -> FeedResult:
         """Consume the bytes of a chunk up to the end of the current envelope.
 
-        A chunk that is not `bytes` is copied by each call: convert it first if it has many envelopes.
+        A chunk that is not `bytes` is copied by each call: convert it first if it has many
+        envelopes.
 
         Args:
             piece: The chunk.
@@ -313,12 +316,16 @@ class Receiver:
             if answer.status == _library.MORE:
                 self._ticket = ticket
                 return FeedResult(answer.used, story, None)
-            envelope = Envelope(ticket, self.nth, self.at, self.octets)
-            self.nth, self.at = self.nth + 1, self.at + self.octets
-            self._ticket, self.octets = b"", 0
-            return FeedResult(answer.used, story, envelope)
+            return FeedResult(answer.used, story, self._complete(ticket))
         finally:
             self._lock.release()
+
+    def _complete(self, ticket: bytes) -> Envelope:
+        """Return the envelope that ends here, and begin the next one."""
+        envelope = Envelope(ticket, self.nth, self.at, self.octets)
+        self.nth, self.at = self.nth + 1, self.at + self.octets
+        self._ticket, self.octets = b"", 0
+        return envelope
 
     def _refuse(self, before: bytes, start: int, story: bytes) -> NoReturn:
         """Raise the refusal that the library returned for the byte after those in `before`."""

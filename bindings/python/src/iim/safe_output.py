@@ -1,8 +1,8 @@
 """Write output files without damage to existing files.
 
 A file is written under another name in the same directory, and renamed to its path when it is
-complete: a failure leaves the old file unchanged. A path is rejected if it is an input, a directory,
-not a regular file, or a file that was not written by this package.
+complete: a failure leaves the old file unchanged. A path is rejected if it is an input, a
+directory, not a regular file, or a file that was not written by this package.
 """
 from __future__ import annotations
 
@@ -10,13 +10,17 @@ import contextlib
 import os
 import secrets
 import stat
+from pathlib import Path
 from typing import Callable, Iterable, Iterator, Optional, TextIO, Union
 
 # An input file: its path, or the descriptor that it is read from.
 Input = Union[str, bytes, int]
 
 # The beginning of each page of this package. The generator is named before any text of a user.
-PAGE_HEAD = '<!doctype html>\n<html lang="en"><head><meta charset="utf-8"><meta name="generator" content="iim">'
+PAGE_HEAD = (
+    "<!doctype html>\n"
+    '<html lang="en"><head><meta charset="utf-8"><meta name="generator" content="iim">'
+)
 
 # The number of bytes at the beginning of a file that identify it.
 HEAD = 512
@@ -44,7 +48,8 @@ def check_output(
     Args:
         path: The path of the output.
         inputs: The input files, which are never replaced.
-        is_ours: Called with the first bytes of an existing file; returns whether it may be replaced.
+        is_ours: Called with the first bytes of an existing file. Returns whether it may be
+            replaced.
         force: Whether to replace any regular file or symbolic link, except an input.
 
     Raises:
@@ -69,7 +74,8 @@ def replace_file(
     Args:
         path: The path of the output.
         inputs: The input files, which are never replaced.
-        is_ours: Called with the first bytes of an existing file; returns whether it may be replaced.
+        is_ours: Called with the first bytes of an existing file. Returns whether it may be
+            replaced.
         force: Whether to replace any regular file or symbolic link, except an input.
 
     Raises:
@@ -78,7 +84,7 @@ def replace_file(
     """
     inputs = list(inputs)
     check_output(path, inputs, is_ours, force)
-    beside = os.path.join(os.path.dirname(path), f".iim-{secrets.token_hex(8)}.part")
+    beside = str(Path(path).parent / f".iim-{secrets.token_hex(8)}.part")
     try:
         file = os.open(beside, os.O_WRONLY | os.O_CREAT | os.O_EXCL | os.O_CLOEXEC, 0o666)
         with open(file, "w", encoding="utf-8", newline="\n") as to:
@@ -103,7 +109,7 @@ def _reason(
     try:
         there = os.stat(path)
     except FileNotFoundError:
-        return LINK if os.path.islink(path) and not force else None
+        return LINK if Path(path).is_symlink() and not force else None
     if stat.S_ISDIR(there.st_mode):
         return "is a directory"
     if any(_is_same(each, there) for each in inputs):
@@ -112,7 +118,7 @@ def _reason(
         return "is not a regular file"
     if force:
         return None
-    if os.path.islink(path):
+    if Path(path).is_symlink():
         return LINK
     return (
         None

@@ -351,6 +351,7 @@ class Envelope(NamedDatasets):
 
     @functools.cached_property
     def _by_number(self) -> Dict[Tuple[int, int], List[Octets]]:
+        """The values of each dataset, by its record number and its number."""
         found: Dict[Tuple[int, int], List[Octets]] = {}
         for record, number, octets in self.datasets:
             found.setdefault((record, number), []).append(octets)
@@ -365,6 +366,7 @@ class Envelope(NamedDatasets):
         return next(iter(self._by_number.get((record, number), ())), None)
 
     def __repr__(self) -> str:
+        """Return the number, the id and the size as text."""
         name = " ".join(part.text("latin-1") for part in self.id)
         return f"<envelope {self.nth} {name}, {self.length} octets>"
 
@@ -375,6 +377,7 @@ class Envelope(NamedDatasets):
 
     @functools.cached_property
     def _message(self) -> _library.Message:
+        """The parts of the message, as spans of the ticket."""
         message = _library.Message()
         library.iim_header(self._ticket, len(self._ticket), message, _library.Answer())
         return message

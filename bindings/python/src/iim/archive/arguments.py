@@ -9,6 +9,7 @@ from typing import Any, List, Tuple
 import iim
 from iim.archive.output import write
 from iim.archive.rows import LONGEST_TIME, seconds
+from iim.program import add_limits, check_limits
 
 # The maximum number of processes.
 MOST_WORKERS = 1_000
@@ -71,33 +72,32 @@ def dates(word: str) -> Tuple[str, str]:
     return first, last or first
 
 
-# Help of options that several commands have.
-LIMITS_HELP = "maximum bytes of data, and number of datasets, in records 1 and 2 together [default: 65536 512]"
-NOW_HELP = "instant for ages, and for copy that is held or expired, such as 2024-03-01T12:00:00Z [default: the present]"
-
-
-def parse(words: List[str]) -> argparse.Namespace:
-    """Parse the arguments of a run."""
-    parser = Parser(
-        description="Check and audit a directory tree of files of envelopes, and print lines of JSON.",
-        epilog="Other commands: `%(prog)s query` prints rows of an index, and `%(prog)s report` summarizes an archive; see their `--help`.",
-    )
-    parser.add_argument("tree", metavar="TREE", nargs="+", help="directory or file to read")
+def add_now(parser: argparse.ArgumentParser) -> None:
+    """Add the option --now, which several commands have."""
     parser.add_argument(
-        "--into",
-        metavar="INDEX",
-        help="store the rows in this database, and read only files that are new or changed",
+        "--now",
+        metavar="INSTANT",
+        type=instant,
+        help="instant for ages, and for copy that is held or expired, such as 2024-03-01T12:00:00Z"
+        " [default: the present]",
     )
-    engine = parser.add_mutually_exclusive_group()
-    engine.add_argument(
+
+
+def add_readers(parser: argparse.ArgumentParser) -> None:
+    """Add the options that select what reads the files."""
+    readers = parser.add_mutually_exclusive_group()
+    readers.add_argument(
         "--workers", metavar="N", type=workers, help="read with N processes on this machine"
     )
-    engine.add_argument(
+    readers.add_argument(
         "--scheduler",
         metavar="ADDRESS",
         help="read with the workers of this Dask scheduler, such as tcp://host:8786",
     )
-    parser.add_argument("--now", metavar="INSTANT", type=instant, help=NOW_HELP)
+
+
+def add_tasks(parser: argparse.ArgumentParser) -> None:
+    """Add the options on the files to read, and on the tasks that they are read in."""
     parser.add_argument(
         "--name",
         metavar="PATTERN",
@@ -111,14 +111,26 @@ def parse(words: List[str]) -> argparse.Namespace:
         default=128,
         help="maximum number of files in one task [default: 128]",
     )
-    parser.add_argument(
-        "--limits",
-        metavar=("OCTETS", "FIELDS"),
-        type=int,
-        nargs=2,
-        default=iim.WIRE,
-        help=LIMITS_HELP,
+
+
+def parse(words: List[str]) -> argparse.Namespace:
+    """Parse the arguments of a run."""
+    parser = Parser(
+        description="Check and audit a directory tree of files of envelopes, and print lines of"
+        " JSON.",
+        epilog="Other commands: `%(prog)s query` prints rows of an index, and `%(prog)s report`"
+        " summarizes an archive; see their `--help`.",
     )
+    parser.add_argument("tree", metavar="TREE", nargs="+", help="directory or file to read")
+    parser.add_argument(
+        "--into",
+        metavar="INDEX",
+        help="store the rows in this database, and read only files that are new or changed",
+    )
+    add_readers(parser)
+    add_now(parser)
+    add_tasks(parser)
+    add_limits(parser)
     parser.add_argument(
         "--timeout",
         metavar="SECONDS",
@@ -126,21 +138,16 @@ def parse(words: List[str]) -> argparse.Namespace:
         default=LONGEST_TIME,
         help="maximum time for one file [default: 300]",
     )
-    asked = parser.parse_args(words)
-    if not all(1 <= limit <= iim.GREATEST_LIMIT for limit in asked.limits):
-        parser.error(f"a limit must be from 1 to {iim.GREATEST_LIMIT}")
-    return asked
-
-
-def parse_query(words: List[str]) -> argparse.Namespace:
-    """Parse the arguments of `query`."""
-    parser = Parser("query", description="Print the rows of indexes, ordered by the files' names.")
     parser.add_argument(
-        "index",
-        metavar="INDEX",
-        nargs="+",
-        help="index written by a run with --into; the rows of several are merged",
+        "--verbose", action="store_true", help="log the steps of the run to standard error"
     )
+    arguments = parser.parse_args(words)
+    check_limits(parser, arguments.limits)
+    return arguments
+
+
+def add_selection(parser: argparse.ArgumentParser) -> None:
+    """Add the options that select rows."""
     parser.add_argument(
         "--date",
         metavar="DATE[..DATE]",
@@ -154,14 +161,25 @@ def parse_query(words: List[str]) -> argparse.Namespace:
     parser.add_argument(
         "--repeats", action="store_true", help="only envelopes that repeat another one"
     )
-    kinds = ("envelope", "refused", "empty", "failed", "gone")
     parser.add_argument(
         "--only",
         metavar="KIND",
-        choices=kinds,
+        choices=("envelope", "refused", "empty", "failed", "gone"),
         help="only rows of this kind: envelope, refused, empty, failed or gone",
     )
-    parser.add_argument("--now", metavar="INSTANT", type=instant, help=NOW_HELP)
+
+
+def parse_query(words: List[str]) -> argparse.Namespace:
+    """Parse the arguments of `query`."""
+    parser = Parser("query", description="Print the rows of indexes, ordered by the files' names.")
+    parser.add_argument(
+        "index",
+        metavar="INDEX",
+        nargs="+",
+        help="index written by a run with --into; the rows of several are merged",
+    )
+    add_selection(parser)
+    add_now(parser)
     parser.add_argument(
         "--csv", action="store_true", help="print CSV with a header line [default: lines of JSON]"
     )
@@ -182,13 +200,6 @@ def parse_report(words: List[str]) -> argparse.Namespace:
         action="store_true",
         help="replace symbolic links, and files that are no pages of this program",
     )
-    parser.add_argument("--now", metavar="INSTANT", type=instant, help=NOW_HELP)
-    parser.add_argument(
-        "--limits",
-        metavar=("OCTETS", "FIELDS"),
-        type=int,
-        nargs=2,
-        default=iim.WIRE,
-        help=LIMITS_HELP,
-    )
+    add_now(parser)
+    add_limits(parser)
     return parser.parse_args(words)

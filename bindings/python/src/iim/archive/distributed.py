@@ -9,10 +9,14 @@ import logging
 import sys
 from typing import Any, Deque, Iterable, Iterator, List, NoReturn, Tuple
 
-from iim.archive.rows import AHEAD, Asked, Blocks, Failure, Reader, lost
+from iim.archive.output import LOGGER
+from iim.archive.rows import AHEAD, Blocks, Failure, FileRequest, Reader, lost_block
 
 # The seconds after which a missing worker is reported, and after which the run fails.
 FIRST_WAIT, LAST_WAIT = 10, 300
+
+# The packages that log.
+SILENT = "asyncio", "bokeh", "dask", "distributed", "tornado"
 
 # The exceptions of a timeout. Before Python 3.11 they are different classes.
 TIMEOUTS = TimeoutError, asyncio.TimeoutError, concurrent.futures.TimeoutError
@@ -36,8 +40,7 @@ def client_of(address: str) -> Iterator[Any]:
     import distributed
     import distributed.comm
 
-    # (Dask logs at length what a `Failure` states in one line)
-    logging.disable(logging.CRITICAL)
+    silence_logs()
     sys.unraisablehook = lambda *_: None
     try:
         distributed.comm.get_address_host_port(address)
@@ -54,6 +57,19 @@ def client_of(address: str) -> Iterator[Any]:
             client.close(timeout=2)
 
 
+def silence_logs() -> None:
+    """Disable all logs but that of iim-archive.
+
+    Dask logs at length what a `Failure` states in one line.
+    """
+    for name, logger in list(logging.root.manager.loggerDict.items()):
+        if isinstance(logger, logging.Logger) and name.partition(".")[0] != "iim":
+            logger.disabled = True
+    for name in SILENT:
+        # (a logger that is made later has the level of the one above it)
+        logging.getLogger(name).setLevel(logging.CRITICAL + 1)
+
+
 def wait_for_worker(client: Any, address: str) -> None:
     """Wait until the scheduler has a worker.
 
@@ -61,10 +77,8 @@ def wait_for_worker(client: Any, address: str) -> None:
     """
     if has_worker(client, address, FIRST_WAIT):
         return
-    if sys.stderr is not None:
-        sys.stderr.write(
-            f"iim-archive: {address}: the scheduler has no worker yet; waiting {LAST_WAIT} seconds at most\n"
-        )
+    wait = f"waiting {LAST_WAIT} seconds at most"
+    LOGGER.warning("%s: the scheduler has no worker yet; %s", address, wait)
     if not has_worker(client, address, LAST_WAIT - FIRST_WAIT):
         raise Failure(f"{address}: the scheduler had no worker for {LAST_WAIT} seconds")
 
@@ -84,17 +98,25 @@ class Tasks:
     """The batches that were submitted to a scheduler."""
 
     def __init__(self, client: Any, address: str, reader: Reader) -> None:
+        """Create an empty list of batches.
+
+        Args:
+            client: The client of the scheduler.
+            address: The address of the scheduler, for messages.
+            reader: The function that reads a batch.
+        """
         import distributed
 
         self._client, self._address, self._reader = client, address, reader
         self._killed = distributed.KilledWorker
         # (its futures have no types)
-        self._waiting: Deque[Tuple[List[Asked], Any]] = collections.deque()
+        self._waiting: Deque[Tuple[List[FileRequest], Any]] = collections.deque()
 
     def __len__(self) -> int:
+        """Return the number of batches that are not finished."""
         return len(self._waiting)
 
-    def start(self, files: List[Asked]) -> None:
+    def start(self, files: List[FileRequest]) -> None:
         """Submit a batch."""
         self._waiting.append((files, self._submit(files)))
 
@@ -110,13 +132,15 @@ class Tasks:
         except self._killed:
             yield from map(self._alone, files)
 
-    def _submit(self, files: List[Asked]) -> Any:
+    def _submit(self, files: List[FileRequest]) -> Any:
+        """Submit some files. Raise `Failure` if the scheduler was lost."""
         try:
             return self._client.submit(self._reader, files, pure=False)
         except (*LOST, RuntimeError) as fault:
             fail(f"{self._address}: the scheduler was lost", fault)
 
     def _result(self, future: Any) -> bytes:
+        """Return the block of a submitted batch."""
         try:
             block: bytes = future.result()
             return block
@@ -127,14 +151,15 @@ class Tasks:
         except LOST as fault:
             fail(f"{self._address}: the scheduler was lost", fault)
 
-    def _alone(self, file: Asked) -> bytes:
+    def _alone(self, file: FileRequest) -> bytes:
+        """Return the block of one file, which may be lost."""
         try:
             return self._result(self._submit([file]))
         except self._killed:
-            return lost(file, self._reader)
+            return lost_block(file, self._reader)
 
 
-def by_distributed(batches: Iterable[List[Asked]], reader: Reader, address: str) -> Blocks:
+def by_distributed(batches: Iterable[List[FileRequest]], reader: Reader, address: str) -> Blocks:
     """Run the batches on the workers of a Dask scheduler, and yield their blocks in order."""
     with client_of(address) as client:
         tasks = Tasks(client, address, reader)

@@ -8,7 +8,7 @@ import re
 import stat
 from typing import Any, Callable, Iterator, List, NamedTuple, Optional, Tuple, Union
 
-from iim.archive.rows import LONGEST, NOT_REGULAR, reached
+from iim.archive.rows import LONGEST, NOT_REGULAR, open_parent
 
 # An entry of a directory: its name, followed by `/` if it is a directory, and its `os.DirEntry`.
 Entry = Tuple[bytes, "os.DirEntry[Any]"]
@@ -31,6 +31,7 @@ class Found(NamedTuple):
 
     @property
     def is_folder(self) -> bool:
+        """Whether it is a directory."""
         return self.path.endswith(b"/")
 
 
@@ -47,7 +48,7 @@ def found_at(path: bytes, look: Callable[[], os.stat_result]) -> Found:
 
 def status_of(path: bytes) -> os.stat_result:
     """Return the status of a file whose path may be longer than the system accepts."""
-    with reached(path) as (folder, rest):
+    with open_parent(path) as (folder, rest):
         return os.stat(rest, dir_fd=folder)
 
 
@@ -55,13 +56,12 @@ def entries_of(path: bytes) -> List[Entry]:
     """Return the entries of a directory, in order. Raise `OSError` if it can't be listed."""
     listed: Union[bytes, int] = path
     if len(path) > LONGEST:
-        with reached(path) as (folder, rest):
+        with open_parent(path) as (folder, rest):
             listed = os.open(rest, os.O_RDONLY | os.O_DIRECTORY | os.O_CLOEXEC, dir_fd=folder)
     try:
         with os.scandir(listed) as entries:
             # (links to directories are skipped later; a directory sorts with the `/` that follows
-            # its
-            # name in the paths of its files)
+            # its name in the paths of its files)
             return sorted((name_in(entry), entry) for entry in entries)
     finally:
         if isinstance(listed, int):
@@ -94,11 +94,11 @@ def files_of(tree: bytes, pattern: str) -> Iterator[Found]:
         yield found_at(tree, lambda: os.stat(tree))
         return
     matches = None if pattern == "*" else re.compile(fnmatch.translate(pattern)).match
-    # The open directories, from the root of the tree down: the path of each, and its remaining
-    # entries.
+    # The path and the remaining entries of each open directory, from the root of the tree down.
     entered: List[Tuple[bytes, Iterator[Entry]]] = []
 
     def enter(path: bytes) -> Iterator[Found]:
+        """Open a directory, or yield it if it can't be listed."""
         try:
             entered.append((path, iter(entries_of(path.rstrip(b"/") or b"/"))))
         except OSError as fault:
@@ -116,6 +116,7 @@ def files_of(tree: bytes, pattern: str) -> Iterator[Found]:
             yield from enter(folder + name)
         elif (matches is None or matches(os.fsdecode(name))) and not is_link_to_folder(entry):
             path = folder + name
-            yield found_at(path, entry.stat) if len(path) <= LONGEST else found_at(
-                path, functools.partial(status_of, path)
-            )
+            if len(path) > LONGEST:
+                yield found_at(path, functools.partial(status_of, path))
+            else:
+                yield found_at(path, entry.stat)

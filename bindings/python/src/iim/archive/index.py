@@ -27,7 +27,7 @@ CREATE TABLE files (
     file INTEGER PRIMARY KEY,
     path BLOB NOT NULL UNIQUE,   -- its name, as bytes
     size INTEGER NOT NULL,       -- in bytes, when it was read
-    changed INTEGER NOT NULL,    -- time of its last change, in nanoseconds since 1970, when it was read
+    changed INTEGER NOT NULL,    -- time of its last change then, in nanoseconds since 1970
     read INTEGER NOT NULL,       -- size of its envelopes together, in bytes
     state TEXT NOT NULL,         -- 'accepted', 'refused', 'empty' or 'failed'
     reason TEXT,                 -- why it can't be read
@@ -77,9 +77,10 @@ CREATE INDEX IF NOT EXISTS by_gone ON files (file) WHERE gone = 1;
 HERE = "file NOT IN (SELECT file FROM files WHERE gone = 1)"
 
 # The totals that a run stores. They are deleted when anything is written later.
+_IDS = f"SELECT count(*) AS n FROM envelopes WHERE {HERE} GROUP BY date_sent, service, number"
 SUMS = {
     "envelopes": f"SELECT count(*) FROM envelopes WHERE {HERE}",
-    "repeated": f"SELECT coalesce(sum(n - 1), 0) FROM (SELECT count(*) AS n FROM envelopes WHERE {HERE} GROUP BY date_sent, service, number HAVING n > 1)",
+    "repeated": f"SELECT coalesce(sum(n - 1), 0) FROM ({_IDS} HAVING n > 1)",
     **{
         state: f"SELECT count(*) FROM files WHERE state = '{state}' AND gone = 0"
         for state in ("refused", "empty", "failed")
@@ -87,8 +88,7 @@ SUMS = {
 }
 HELD = f"SELECT count(*) FROM envelopes WHERE release > ? AND {HERE}"
 
-# The number of an index's tables in a database, whose name is before the dot.
-HAS_TABLES = "SELECT count(*) FROM {}sqlite_master WHERE type = 'table' AND name IN ('files', 'envelopes', 'refusals', 'sums')"
+# The number of tables of an index.
 COUNT_OF_TABLES = 4
 
 # The maximum wait for a lock of another program, in seconds.
@@ -111,7 +111,7 @@ INSERT = "INSERT INTO envelopes VALUES "
 ROW = f"({', '.join('?' * COLUMNS)})"
 
 
-class Known(NamedTuple):
+class IndexedFile(NamedTuple):
     """The entry of a file in the index.
 
     Attributes:
@@ -129,7 +129,7 @@ class Known(NamedTuple):
     gone: int
 
 
-def connected(path: str) -> sqlite3.Connection:
+def open_database(path: str) -> sqlite3.Connection:
     """Open the database of an index. A new one gets its tables.
 
     Raises:
@@ -144,9 +144,7 @@ def connected(path: str) -> sqlite3.Connection:
             database.executescript(
                 f"BEGIN IMMEDIATE; {TABLES} PRAGMA user_version = {FORM}; COMMIT;"
             )
-        elif (
-            form != FORM or database.execute(HAS_TABLES.format("")).fetchone()[0] != COUNT_OF_TABLES
-        ):
+        elif form != FORM or not has_tables(database):
             raise NoIndex(f"{path}: not an index of this version of archive.py")
         database.execute("PRAGMA synchronous = NORMAL")
         database.execute(f"PRAGMA wal_autocheckpoint = {CHECKPOINT}")
@@ -155,23 +153,30 @@ def connected(path: str) -> sqlite3.Connection:
     return database
 
 
+def has_tables(database: sqlite3.Connection, schema: str = "main") -> bool:
+    """Check whether a database, or one attached as a schema, has the tables of an index."""
+    tables = f"SELECT count(*) FROM {schema}.sqlite_master WHERE type = 'table' AND name IN"
+    found = database.execute(f"{tables} ('files', 'envelopes', 'refusals', 'sums')").fetchone()
+    return bool(found[0] == COUNT_OF_TABLES)
+
+
 def check_path(path: str) -> None:
     """Raise `NoIndex` if the path has a file that can't be an index.
 
     Nothing is written beside it.
     """
     with contextlib.suppress(FileNotFoundError):
-        there = os.stat(path)
-        if stat.S_ISDIR(there.st_mode):
+        mode = os.stat(path).st_mode
+        if stat.S_ISDIR(mode):
             raise NoIndex(f"{path}: is a directory")
-        if not stat.S_ISREG(there.st_mode):
+        if not stat.S_ISREG(mode):
             raise NoIndex(f"{path}: is not a regular file")
         with open(path, "rb") as octets:
             if octets.read(len(MAGIC)) not in (b"", MAGIC):
                 raise NoIndex(f"{path}: file is not a database")
 
 
-def locked(path: str) -> BinaryIO:
+def lock_index(path: str) -> BinaryIO:
     """Lock an index for one run.
 
     Raises:
@@ -179,12 +184,9 @@ def locked(path: str) -> BinaryIO:
     """
     try:
         # (neither follows a link nor waits for a FIFO)
-        number = os.open(
-            f"{path}{LOCK}",
-            os.O_WRONLY | os.O_CREAT | os.O_NOFOLLOW | os.O_NONBLOCK | os.O_NOCTTY | os.O_CLOEXEC,
-            0o666,
-        )
-        lock = open(number, "ab")
+        flags = os.O_WRONLY | os.O_CREAT | os.O_CLOEXEC
+        careful = os.O_NOFOLLOW | os.O_NONBLOCK | os.O_NOCTTY
+        lock = open(os.open(f"{path}{LOCK}", flags | careful, 0o666), "ab")
         fcntl.flock(lock, fcntl.LOCK_EX | fcntl.LOCK_NB)
         return lock
     except BlockingIOError:
@@ -194,17 +196,27 @@ def locked(path: str) -> BinaryIO:
 
 
 class Index:
-    """An index that one process writes. A batch of files is written as a whole or not at all."""
+    """An index that one process writes. A batch of files is written as a whole or not at all.
+
+    It is a context manager that closes it.
+    """
 
     def __init__(self, path: str) -> None:
+        """Open and lock an index.
+
+        Args:
+            path: The path of the database. A new one gets its tables.
+
+        Raises:
+            NoIndex: The path has a file that is not an index, or another run has locked it.
+        """
         check_path(path)
-        self._lock = locked(path)
+        self._lock = lock_index(path)
         try:
-            self._database = connected(path)
+            self._database = open_database(path)
             # The first number that this run assigns, and the next one.
-            self._first: int = self._database.execute(
-                "SELECT coalesce(max(file), 0) + 1 FROM files"
-            ).fetchone()[0]
+            first = "SELECT coalesce(max(file), 0) + 1 FROM files"
+            self._first: int = self._database.execute(first).fetchone()[0]
         except sqlite3.Error as fault:
             raise NoIndex(f"{path}: {fault}") from None
         self._next = self._first
@@ -214,18 +226,19 @@ class Index:
         self._next += 1
         return self._next - 1
 
-    def known(self, first: bytes, end: bytes) -> Iterator[Tuple[bytes, Known]]:
+    def entries(self, first: bytes, end: bytes) -> Iterator[Tuple[bytes, IndexedFile]]:
         """Yield the path and the entry of each file, ordered by name.
 
         Args:
             first: The first name.
             end: The name before which to end.
         """
-        words = "SELECT path, file, size, changed, state, gone FROM files WHERE path >= ? AND path < ? ORDER BY path LIMIT ?"
+        columns = "SELECT path, file, size, changed, state, gone FROM files"
+        query = f"{columns} WHERE path >= ? AND path < ? ORDER BY path LIMIT ?"
         while True:
-            page = self._database.execute(words, (first, end, PAGE)).fetchall()
-            for path, *known in page:
-                yield path, Known(*known)
+            page = self._database.execute(query, (first, end, PAGE)).fetchall()
+            for path, *entry in page:
+                yield path, IndexedFile(*entry)
             if len(page) < PAGE:
                 return
             first = page[-1][0] + b"\0"
@@ -240,28 +253,22 @@ class Index:
                 for table in "envelopes", "refusals":
                     run.executemany(f"DELETE FROM {table} WHERE file = ?", again)
             run.executemany("INSERT OR REPLACE INTO files VALUES (?, ?, ?, ?, ?, ?, ?, 0)", files)
-            whole = len(envelopes) // AT_ONCE * AT_ONCE
-            run.executemany(
-                INSERT + ROW + f", {ROW}" * (AT_ONCE // COLUMNS - 1),
-                (envelopes[at : at + AT_ONCE] for at in range(0, whole, AT_ONCE)),
-            )
-            run.executemany(
-                INSERT + ROW,
-                (envelopes[at : at + COLUMNS] for at in range(whole, len(envelopes), COLUMNS)),
-            )
+            end, many = len(envelopes), len(envelopes) // AT_ONCE * AT_ONCE
+            rows_at_once = INSERT + ROW + f", {ROW}" * (AT_ONCE // COLUMNS - 1)
+            run.executemany(rows_at_once, slices_of(envelopes, 0, many, AT_ONCE))
+            run.executemany(INSERT + ROW, slices_of(envelopes, many, end, COLUMNS))
             if refusals:
                 run.executemany("INSERT INTO refusals VALUES (?, ?, ?, ?, ?, ?, ?, ?, ?)", refusals)
 
     def mark(self, numbers: Sequence[int], gone: bool) -> None:
         """Mark files as gone, or as present again."""
         with self._transaction() as run:
-            run.executemany(
-                f"UPDATE files SET gone = {int(gone)} WHERE file = ?",
-                [(number,) for number in numbers],
-            )
+            update = f"UPDATE files SET gone = {int(gone)} WHERE file = ?"
+            run.executemany(update, [(number,) for number in numbers])
 
     @contextlib.contextmanager
     def _transaction(self) -> Iterator[sqlite3.Cursor]:
+        """Run statements as one transaction, which deletes the stored totals."""
         run = self._database.cursor()
         run.execute("BEGIN IMMEDIATE")
         try:
@@ -279,9 +286,9 @@ class Index:
         run.executescript(INDEXES)
         sums = dict(run.execute("SELECT name, value FROM sums"))
         if not sums:
-            sums = self._sums()
+            sums = self._count()
             run.executemany("INSERT INTO sums VALUES (?, ?)", sums.items())
-        return self._in_order(sums, second)
+        return self._totals(sums, second)
 
     def sums_so_far(self, second: int) -> Dict[str, int]:
         """Return the same totals of a run that failed, or none if they can't be read.
@@ -289,21 +296,34 @@ class Index:
         Nothing is written.
         """
         try:
-            return self._in_order(self._sums(), second)
+            return self._totals(self._count(), second)
         except sqlite3.Error:
             return {}
 
-    def _sums(self) -> Dict[str, int]:
-        return {name: self._database.execute(words).fetchone()[0] for name, words in SUMS.items()}
+    def _count(self) -> Dict[str, int]:
+        """Return the totals that do not depend on the instant."""
+        return {name: self._database.execute(query).fetchone()[0] for name, query in SUMS.items()}
 
-    def _in_order(self, sums: Dict[str, int], second: int) -> Dict[str, int]:
+    def _totals(self, sums: Dict[str, int], second: int) -> Dict[str, int]:
+        """Return all totals in order, with the envelopes that are held at an instant."""
         held = self._database.execute(HELD, (second,)).fetchone()[0]
-        return {
-            name: sums.get(name, held)
-            for name in ("envelopes", "repeated", "held", "refused", "empty", "failed")
-        }
+        names = "envelopes", "repeated", "held", "refused", "empty", "failed"
+        return {name: sums.get(name, held) for name in names}
 
     def close(self) -> None:
         """Close the database, and release the lock."""
         self._database.close()
         self._lock.close()
+
+    def __enter__(self) -> Index:
+        """Return the index."""
+        return self
+
+    def __exit__(self, *_: object) -> None:
+        """Close the index."""
+        self.close()
+
+
+def slices_of(cells: Cells, begin: int, end: int, size: int) -> Iterator[Cells]:
+    """Yield the slices of a list between two offsets, all of one size."""
+    return (cells[at : at + size] for at in range(begin, end, size))

@@ -2,10 +2,14 @@
 from __future__ import annotations
 
 import contextlib
+import logging
 import os
 import sys
 
 from iim.archive.rows import Failure
+
+# The log of iim-archive. It is written to standard error (`log_to_standard_error`).
+LOGGER = logging.getLogger("iim.archive")
 
 
 class ReaderStopped(Exception):
@@ -27,10 +31,10 @@ def write(text: str) -> None:
     if sys.stdout is None:
         raise OutputFailed("standard output: closed")
     # (Python's own stream loses the rest of a long text if a signal arrives)
-    left = memoryview(text.encode("utf-8"))
+    remaining = memoryview(text.encode("utf-8"))
     try:
-        while left:
-            left = left[os.write(sys.stdout.fileno(), left) :]
+        while remaining:
+            remaining = remaining[os.write(sys.stdout.fileno(), remaining) :]
     except OSError as fault:
         # (so that Python doesn't retry when it exits)
         with contextlib.suppress(OSError):
@@ -46,3 +50,23 @@ def write_error(text: str) -> None:
         if sys.stderr is not None:
             sys.stderr.write(text)
             sys.stderr.flush()
+
+
+class ErrorHandler(logging.Handler):
+    """Write each record of the log as one line of standard error, `iim-archive: message`."""
+
+    def emit(self, record: logging.LogRecord) -> None:
+        """Write a record."""
+        write_error(f"iim-archive: {one_line(record.getMessage())}\n")
+
+
+def log_to_standard_error(level: int) -> None:
+    """Write the log from a level on to standard error, and nowhere else."""
+    LOGGER.handlers[:] = [ErrorHandler()]
+    LOGGER.propagate = False
+    LOGGER.setLevel(level)
+
+
+def one_line(text: str) -> str:
+    """Return a text as one line, with escapes for characters that can't be printed."""
+    return "".join(each if each.isprintable() else repr(each)[1:-1] for each in text)

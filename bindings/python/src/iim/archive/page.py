@@ -7,6 +7,8 @@ from __future__ import annotations
 import io
 import os
 import re
+import urllib.parse
+from pathlib import Path
 from typing import List, Optional, Tuple
 
 import jinja2
@@ -14,8 +16,8 @@ import matplotlib
 from markupsafe import Markup
 
 import iim
-from iim.archive.report import Bars, Told, named
-from iim.archive.rows import opened
+from iim.archive.report import Bars, Content, named
+from iim.archive.rows import open_regular
 from iim.explain import page as explain_page
 from iim.explain.case import Case
 from iim.explain.walk import Source
@@ -35,42 +37,8 @@ matplotlib.rcParams.update(
     }
 )
 
-TEMPLATE = (
-    PAGE_HEAD
-    + """<title>{{ told.name }}</title>
-<meta http-equiv="Content-Security-Policy" content="default-src 'none'; style-src 'unsafe-inline'"><meta name="viewport" content="width=device-width">
-<style>
-:root { color-scheme: light dark; --back: #f1f3f5; --card: #fff; --text: #1d2530; --dim: #5d6874; --line: #ccd3da }
-@media (prefers-color-scheme: dark) { :root { --back: #14181d; --card: #1d232a; --text: #e6eaee; --dim: #9aa5b1; --line: #3a444f } }
-body { margin: 0; padding: 0 20px 20px; font: 15px/1.45 system-ui, sans-serif; color: var(--text); background: var(--back) }
-h1 { font-size: 20px; margin: 16px 0 0 } h2 { font-size: 16px; margin: 0 0 6px } h1 + p { margin: 0 0 12px; color: var(--dim) }
-section, figure { background: var(--card); border: 1px solid var(--line); border-radius: 6px; padding: 12px 16px; margin: 0 0 14px; overflow-x: auto }
-dl { display: flex; flex-wrap: wrap; gap: 4px 32px; margin: 0 } dt { color: var(--dim) } dd { margin: 0; font-size: 20px; font-weight: 600 }
-.pictures { display: grid; grid-template-columns: repeat(auto-fit, minmax(440px, 1fr)); gap: 0 14px; align-items: start }
-svg { width: 100%; height: auto } svg text { fill: var(--text) } svg path { stroke: none }
-table { border-collapse: collapse; font-size: 14px } td, th { padding: 2px 14px 2px 0; text-align: left; vertical-align: top } th { color: var(--dim); font-weight: 400 }
-.no { color: var(--dim) } a { color: inherit }
-@media print { body { background: none; padding: 0 } section, figure { border: none; break-inside: avoid } }
-</style></head>
-<body><header><h1>{{ told.name }}</h1><p>at {{ told.now }}</p></header><main>
-<section><h2>Sums</h2><dl>{% for name, count in told.sums %}<div><dt>{{ name }}</dt><dd>{{ "{:,}".format(count) }}</dd></div>{% endfor %}</dl></section>
-<div class=pictures>{% for bars in told.bars %}<figure><h2>{{ bars.title }}</h2>
-{% if bars.rows %}<div role="img" aria-label="{{ bars.title }}, as bars">{{ picture(bars) }}</div>
-<details><summary>as numbers</summary><table>{% for name, count in bars.rows %}<tr><th>{{ name }}</th><td>{{ "{:,}".format(count) }}</td></tr>{% endfor %}</table></details>
-{% else %}<p class=no>none</p>{% endif %}</figure>{% endfor %}</div>
-{% for table in told.tables %}<section><h2>{{ table.title }}</h2>{% if table.rows %}<table>
-<tr>{% for name in table.names %}<th>{{ name }}</th>{% endfor %}</tr>
-{% for row in table.rows %}<tr>{% for cell in row %}<td>{{ cell }}</td>{% endfor %}</tr>
-{% endfor %}</table>{% else %}<p class=no>none</p>{% endif %}</section>{% endfor %}
-<section><h2>Damaged files</h2>{% if told.damaged %}<table>
-<tr><th>file</th><th>envelope</th><th>octet of the file</th><th>dataset</th><th>cause</th><th>id</th></tr>
-{% for each in told.damaged %}<tr><td>{% if each.page %}<a href="{{ each.page }}">{{ named(each.path) }}</a>{% else %}{{ named(each.path) }}{% endif %}</td>
-<td>{{ each.envelope }}</td><td>{{ "{:,}".format(each.at) }}</td><td>{{ each.dataset }}</td><td>{{ each.cause }}</td><td>{{ each.id }}</td></tr>
-{% endfor %}</table><p class=no>A file's name links to its explanation. Without a link, <code>python3 -m iim explain FILE --html OUT</code> writes that page.</p>
-{% else %}<p class=no>none</p>{% endif %}</section>
-</main></body></html>
-"""
-)
+# The rest of the page, as a template of jinja2.
+TEMPLATE = Path(__file__).with_name("report.html")
 
 
 class Pages:
@@ -79,7 +47,15 @@ class Pages:
     def __init__(
         self, report: str, limits: Tuple[int, int], inputs: List[Input], force: bool
     ) -> None:
-        self._folder = f"{re.sub('[.]html?$', '', report)}.files"
+        """Choose the directory for a report.
+
+        Args:
+            report: The path of the report.
+            limits: The limits on records 1 and 2.
+            inputs: The files that must not be replaced.
+            force: Whether to replace files that are no pages, and symbolic links.
+        """
+        self._folder = Path(f"{re.sub('[.]html?$', '', report)}.files")
         self._limits, self._count = iim.Limits(*limits), 0
         self._inputs, self._force = inputs, force
 
@@ -96,32 +72,25 @@ class Pages:
         text = self._text_of(path) if self._count < PAGES else None
         if text is None:
             return None
-        if os.path.islink(self._folder) and not self._force:
+        if self._folder.is_symlink() and not self._force:
             raise OutputRefused(f"{self._folder}: {LINK}")
-        if not os.path.isdir(self._folder):
-            os.mkdir(self._folder)
+        if not self._folder.is_dir():
+            self._folder.mkdir()
         self._count += 1
-        name = f"{self._count}.html"
-        with replace_file(
-            os.path.join(self._folder, name), [*self._inputs, path], force=self._force
-        ) as to:
+        page = self._folder / f"{self._count}.html"
+        with replace_file(str(page), [*self._inputs, path], force=self._force) as to:
             to.write(text)
-        return f"{quoted(os.path.basename(self._folder))}/{name}"
+        return f"{urllib.parse.quote(os.fsencode(self._folder.name))}/{page.name}"
 
     def _text_of(self, path: bytes) -> Optional[str]:
+        """Return the page of a file, or `None` if it can't be read."""
         try:
             # (a path that is no longer a regular file could block without end)
-            os.close(opened(path))
-            return explain_page.page(Case(Source(os.fsdecode(path)), self._limits))
+            os.close(open_regular(path))
+            with Source(os.fsdecode(path)) as source:
+                return explain_page.page(Case(source, self._limits))
         except OSError:
             return None
-
-
-def quoted(name: str) -> str:
-    """Return a name quoted as part of a link."""
-    import urllib.parse
-
-    return urllib.parse.quote(os.fsencode(name))
 
 
 def picture(bars: Bars) -> Markup:
@@ -147,13 +116,12 @@ def picture(bars: Bars) -> Markup:
     out = io.StringIO()
     figure.savefig(out, format="svg", metadata={"Date": None, "Creator": None})
     # (the prolog before the element is for files)
-    drawn_as = re.sub(
-        r"<metadata>.*?</metadata>", "", out.getvalue()[out.getvalue().index("<svg") :], flags=re.S
-    )
-    return Markup(drawn_as)
+    element = out.getvalue()[out.getvalue().index("<svg") :]
+    return Markup(re.sub(r"<metadata>.*?</metadata>", "", element, flags=re.S))
 
 
-def page(told: Told) -> str:
+def page(content: Content) -> str:
     """Return the page of a report."""
-    template = jinja2.Environment(autoescape=True).from_string(TEMPLATE)
-    return template.render(told=told, picture=picture, named=named)
+    text = PAGE_HEAD + TEMPLATE.read_text(encoding="utf-8")
+    template = jinja2.Environment(autoescape=True).from_string(text)
+    return template.render(content=content, picture=picture, named=named)

@@ -1,7 +1,7 @@
 """Check and audit a directory tree of files of envelopes, on one machine or several, and index it.
 
     iim-archive [--workers N | --scheduler ADDRESS] [--now INSTANT] [--name PATTERN] [--batch N]
-                [--limits OCTETS FIELDS] [--timeout SECONDS] TREE..
+                [--limits OCTETS FIELDS] [--timeout SECONDS] [--verbose] TREE..
     iim-archive --into INDEX [the same options] TREE..
     iim-archive report [--html OUT [--force]] [--now INSTANT] [--limits OCTETS FIELDS] INDEX
     iim-archive query [--date DATE[..DATE]] [--service SERVICE] [--cause CAUSE] [--repeats]
@@ -21,11 +21,14 @@ a run that was interrupted. `query` prints the rows of one or several indexes. `
 an archive as text, or as a page with charts and links to explanations of the damaged files.
 
 --workers N runs N processes on this machine. --scheduler ADDRESS runs on Dask distributed: each
-worker must have the same files under the same names, and this package. Without either option all files are read in this process.
+worker must have the same files under the same names, and this package. Without either option all
+files are read in this process.
 
-Exit status: 0 if all is accepted, 1 if input was rejected, 2 for a usage error, 3 if a file can't be
-read or the run failed, which prints one line `iim-archive: what: reason`, and 130 after Ctrl-C or
-SIGTERM.
+Failures, and with --verbose the steps of a run, are logged to standard error.
+
+Exit status: 0 if all is accepted, 1 if input was rejected, 2 for a usage error, 3 if a file can't
+be read or the run failed, which prints one line `iim-archive: what: reason`, and 130 after Ctrl-C
+or SIGTERM.
 """
 from __future__ import annotations
 
@@ -35,6 +38,7 @@ import datetime
 import functools
 import itertools
 import json
+import logging
 import marshal
 import os
 import sqlite3
@@ -44,10 +48,17 @@ from typing import Any, Callable, Dict, Iterable, Iterator, List, NoReturn, Opti
 import iim
 from iim.archive.arguments import parse, parse_query, parse_report
 from iim.archive.files import files_of
-from iim.archive.output import OutputFailed, ReaderStopped, write, write_error
-from iim.archive.progress import Interrupt, Silence, Teller, progress_over
+from iim.archive.output import (
+    LOGGER,
+    OutputFailed,
+    ReaderStopped,
+    log_to_standard_error,
+    write,
+    write_error,
+)
+from iim.archive.progress import Interrupt, Silence, progress_over
 from iim.archive.rows import (
-    Asked,
+    FileRequest,
     Failure,
     Form,
     Lines,
@@ -68,10 +79,13 @@ Command = Callable[[argparse.Namespace, Interrupt], int]
 # The size, in bytes, from which on a batch is full.
 BATCH_OCTETS = 2 << 20
 
+# The exit status after a signal.
+STOPPED = 130
 
-def batches_of(files: Iterable[Asked], most: int) -> Iterator[List[Asked]]:
+
+def batches_of(files: Iterable[FileRequest], most: int) -> Iterator[List[FileRequest]]:
     """Yield the files in batches of at most `most`, and of fewer if they are long."""
-    batch: List[Asked] = []
+    batch: List[FileRequest] = []
     octets = 0
     for file in files:
         batch.append(file)
@@ -83,44 +97,47 @@ def batches_of(files: Iterable[Asked], most: int) -> Iterator[List[Asked]]:
         yield batch
 
 
-def load_library(words: argparse.Namespace) -> None:
+def load_library(arguments: argparse.Namespace) -> None:
     """Load the library once if this machine reads the files. Raise `ImportError` if it has none."""
-    if words.scheduler is None:
+    if arguments.scheduler is None:
         iim.cause_name(1)
 
 
-def told_of(files: Iterable[Asked], words: argparse.Namespace, form: Form) -> Iterator[List[Any]]:
+def read_blocks(
+    files: Iterable[FileRequest], arguments: argparse.Namespace, form: Form
+) -> Iterator[List[Any]]:
     """Return the rows of the files, batch by batch, as the arguments specify."""
-    of_run = {
-        "limits": iim.Limits(*words.limits),
-        "now": words.now,
+    options = {
+        "limits": iim.Limits(*arguments.limits),
+        "now": arguments.now,
         "form": form,
-        "most": words.timeout,
+        "most": arguments.timeout,
     }
-    reader = functools.partial(read_batch, **of_run)
-    batches = batches_of(files, words.batch)
-    if words.scheduler is not None:
+    reader = functools.partial(read_batch, **options)
+    batches = batches_of(files, arguments.batch)
+    if arguments.scheduler is not None:
         from iim.archive.distributed import by_distributed
 
-        return map(marshal.loads, by_distributed(batches, reader, words.scheduler))
-    if words.workers is not None:
+        return map(marshal.loads, by_distributed(batches, reader, arguments.scheduler))
+    if arguments.workers is not None:
         from iim.archive.workers import by_processes
 
-        return map(marshal.loads, by_processes(batches, reader, words.workers, words.timeout))
+        count, most = arguments.workers, arguments.timeout
+        return map(marshal.loads, by_processes(batches, reader, count, most))
     interrupt_reads()
-    return map(functools.partial(read_files, **of_run), batches)
+    return map(functools.partial(read_files, **options), batches)
 
 
 class Report:
     """Print the rows of all files, each with the envelope that it repeats, and count them."""
 
     def __init__(self) -> None:
-        self.sums = dict.fromkeys(
-            ("files", "envelopes", "repeated", "held", "refused", "empty", "failed"), 0
-        )
+        """Create a report without rows."""
+        names = "files", "envelopes", "repeated", "held", "refused", "empty", "failed"
+        self.sums = dict.fromkeys(names, 0)
         self._first: Dict[str, Tuple[str, int]] = {}
 
-    def add(self, files: List[Lines], progress: Teller) -> None:
+    def add(self, files: List[Lines], progress: Silence) -> None:
         """Print the rows of some files."""
         text: List[str] = []
         sums = self.sums
@@ -144,27 +161,28 @@ class Report:
         return 3 if self.sums["failed"] else 1 if self.sums["refused"] else 0
 
 
-def print_trees(words: argparse.Namespace, interrupt: Interrupt) -> int:
+def print_trees(arguments: argparse.Namespace, interrupt: Interrupt) -> int:
     """Audit the trees that the arguments name, print the rows, and return the exit status."""
-    trees = [os.fsencode(tree) for tree in words.tree]
+    trees = [os.fsencode(tree) for tree in arguments.tree]
     report = Report()
 
-    def files() -> Iterator[Asked]:
-        for number, found in enumerate(
-            itertools.chain.from_iterable(files_of(tree, words.name) for tree in trees)
-        ):
+    def files() -> Iterator[FileRequest]:
+        """Yield the files to read, and count them."""
+        found_files = (files_of(tree, arguments.name) for tree in trees)
+        for number, found in enumerate(itertools.chain.from_iterable(found_files)):
             report.sums["files"] += not found.is_folder
-            yield Asked(number, *found)
+            yield FileRequest(number, *found)
 
     write("")
-    load_library(words)
-    progress: Teller = Silence()
-    status = 130
+    load_library(arguments)
+    progress = Silence()
+    status = STOPPED
     try:
         with contextlib.suppress(KeyboardInterrupt):
-            progress = progress_over(trees, words.name, interrupt)
-            for block in interrupt.each(told_of(files(), words, lines_of)):
+            progress = progress_over(trees, arguments.name, interrupt)
+            for block in interrupt.each(read_blocks(files(), arguments, lines_of)):
                 report.add(block, progress)
+                LOGGER.info("%d files are read and printed", report.sums["files"])
             status = report.status()
     except (ReaderStopped, OutputFailed):
         raise
@@ -175,45 +193,50 @@ def print_trees(words: argparse.Namespace, interrupt: Interrupt) -> int:
     return status
 
 
-def end_early(fault: Exception, progress: Teller, sums: Dict[str, int]) -> NoReturn:
+def end_early(fault: Exception, progress: Silence, sums: Dict[str, int]) -> NoReturn:
     """Print the totals so far of a run that failed, and raise its exception."""
     progress.end()
     write(json.dumps(sums) + "\n")
     raise fault from None
 
 
-def write_index(words: argparse.Namespace, interrupt: Interrupt) -> int:
+def check_inputs(index: str, trees: List[str]) -> None:
+    """Raise `Failure` if the index is one of the trees."""
+    for tree in trees:
+        with contextlib.suppress(OSError, ValueError):
+            if os.path.samefile(index, tree):
+                raise Failure(f"{index}: is an input")
+
+
+def write_index(arguments: argparse.Namespace, interrupt: Interrupt) -> int:
     """Update an index from the trees given, print the totals, and return the exit status."""
     from iim.archive.index import Index
-    from iim.archive.updating import Kept, separate
+    from iim.archive.updating import Update, separate_trees
 
     write("")
-    load_library(words)
-    for tree in words.tree:
-        if (
-            os.path.exists(words.into)
-            and os.path.exists(tree)
-            and os.path.samefile(words.into, tree)
-        ):
-            raise Failure(f"{words.into}: is an input")
-    with contextlib.closing(Index(words.into)) as index:
-        progress: Teller = Silence()
-        kept = Kept(index, words, progress)
+    load_library(arguments)
+    check_inputs(arguments.into, arguments.tree)
+    now = seconds(arguments.now)
+    with Index(arguments.into) as index:
+        progress = Silence()
+        update = Update(index, arguments, progress)
         stopped = True
         try:
             with contextlib.suppress(KeyboardInterrupt):
-                trees = separate(words.tree)
-                kept.progress = progress = progress_over(trees, words.name, interrupt)
-                for block in interrupt.each(told_of(kept.files(trees), words, kept_rows)):
-                    kept.add(block)
+                trees = separate_trees(arguments.tree)
+                update.progress = progress = progress_over(trees, arguments.name, interrupt)
+                blocks = read_blocks(update.files(trees), arguments, kept_rows)
+                for block in interrupt.each(blocks):
+                    update.add(block)
+                    LOGGER.info("%d files are found, and their rows are stored", update.found)
                 stopped = False
             progress.end()
-            sums = index.end(seconds(words.now))
+            sums = index.end(now)
         except Exception as fault:
-            so_far = {**kept.of_run(), **index.sums_so_far(seconds(words.now))}
-            end_early(in_index(fault, words.into), progress, so_far)
-        write(json.dumps({**kept.of_run(), **sums}) + "\n")
-        return 130 if stopped else 3 if sums["failed"] else 1 if sums["refused"] else 0
+            so_far = {**update.totals(), **index.sums_so_far(now)}
+            end_early(in_index(fault, arguments.into), progress, so_far)
+        write(json.dumps({**update.totals(), **sums}) + "\n")
+        return STOPPED if stopped else 3 if sums["failed"] else 1 if sums["refused"] else 0
 
 
 def in_index(fault: Exception, *names: str) -> Exception:
@@ -224,88 +247,92 @@ def in_index(fault: Exception, *names: str) -> Exception:
     return NoIndex(f"{', '.join(names)}: {fault}") if isinstance(fault, sqlite3.Error) else fault
 
 
-def print_query(words: argparse.Namespace, interrupt: Interrupt) -> int:
+def print_query(arguments: argparse.Namespace, interrupt: Interrupt) -> int:
     """Print the rows of indexes that the arguments select, and return the exit status."""
     from iim.archive import query
 
     write("")
     try:
-        for text in interrupt.each(query.lines(words)):
+        for text in interrupt.each(query.lines(arguments)):
             write(text)
     except sqlite3.Error as fault:
-        raise in_index(fault, *words.index) from None
+        raise in_index(fault, *arguments.index) from None
     except KeyboardInterrupt:
-        return 130
+        return STOPPED
     return 0
 
 
-def print_report(words: argparse.Namespace, interrupt: Interrupt) -> int:
+def print_report(arguments: argparse.Namespace, interrupt: Interrupt) -> int:
     """Print the report on an archive or write it as a page, and return the exit status."""
     from iim.archive import report
 
-    if words.html is None:
+    if arguments.html is None:
         write("")
-    found: Dict[str, Any] = {}
+    parts: Dict[str, Any] = {}
     try:
-        found.update(interrupt.each(report.parts(words)))
+        parts.update(interrupt.each(report.parts(arguments)))
     except sqlite3.Error as fault:
-        raise in_index(fault, words.index) from None
+        raise in_index(fault, arguments.index) from None
     except KeyboardInterrupt:
-        return 130
-    told = report.told_of(found)
-    if words.html is not None and report.can_draw():
+        return STOPPED
+    content = report.Content(**parts)
+    if arguments.html is not None and report.can_draw():
         from iim.archive import page
 
-        text = page.page(told)
-        with replace_file(words.html, words.inputs, force=words.force) as to:
+        text = page.page(content)
+        with replace_file(arguments.html, arguments.inputs, force=arguments.force) as to:
             to.write(text)
         return 0
-    if words.html is not None:
+    if arguments.html is not None:
         write_error("no page is written: python3-matplotlib or python3-jinja2 is not installed\n")
-    write("\n".join([*report.lines(told), ""]))
+    write("\n".join([*report.lines(content), ""]))
     return 0
 
 
-def command_of(words: List[str]) -> Tuple[Command, argparse.Namespace]:
+def parse_command(words: List[str]) -> Tuple[Command, argparse.Namespace]:
     """Return the function that runs the command line, and its arguments."""
     if words[:1] == ["query"]:
         return print_query, parse_query(words[1:])
     if words[:1] == ["report"]:
         return print_report, parse_report(words[1:])
-    asked = parse(words)
-    return (print_trees if asked.into is None else write_index), asked
+    arguments = parse(words)
+    if arguments.verbose:
+        log_to_standard_error(logging.INFO)
+    return (print_trees if arguments.into is None else write_index), arguments
 
 
 def main(words: Optional[List[str]] = None) -> int:
-    """Run the command, and return its exit status."""
-    words = sys.argv[1:] if words is None else words
+    """Run the command.
+
+    Args:
+        words: The command-line arguments [default: those of the process].
+
+    Returns:
+        The exit status.
+    """
+    log_to_standard_error(logging.WARNING)
     try:
-        run, asked = command_of(words)
-        asked.now = asked.now or datetime.datetime.now(datetime.timezone.utc)
-        return run(asked, Interrupt())
+        run, arguments = parse_command(sys.argv[1:] if words is None else words)
+        arguments.now = arguments.now or datetime.datetime.now(datetime.timezone.utc)
+        return run(arguments, Interrupt())
     except ReaderStopped:
         return 3
     except KeyboardInterrupt:
-        return 130
+        return STOPPED
     except Exception as fault:
         if sys.flags.dev_mode:
             raise
-        write_error(f"iim-archive: {one_line(reason_of(fault))}\n")
+        LOGGER.error("%s", reason_of(fault))
         return 3
 
 
 def reason_of(fault: Exception) -> str:
-    """Return the text that is printed for a fault that ended the run: `what: reason`."""
+    """Return the text that is logged for a fault that ended the run: `what: reason`."""
     if isinstance(fault, MemoryError):
         return "out of memory"
     if isinstance(fault, ModuleNotFoundError) and fault.name == "distributed":
         return "--scheduler: Dask distributed is not installed (Debian: python3-distributed)"
     if isinstance(fault, OSError) and fault.filename is not None:
         return f"{os.fsdecode(fault.filename)}: {fault.strerror}"
-    known = isinstance(fault, (Failure, OutputRefused, ImportError, OSError))
-    return str(fault) if known else f"{type(fault).__name__}: {fault}"
-
-
-def one_line(text: str) -> str:
-    """Return a text as one line, with escapes for characters that can't be printed."""
-    return "".join(each if each.isprintable() else repr(each)[1:-1] for each in text)
+    has_reason = isinstance(fault, (Failure, OutputRefused, ImportError, OSError))
+    return str(fault) if has_reason else f"{type(fault).__name__}: {fault}"

@@ -7,12 +7,12 @@ import itertools
 import signal
 import sys
 import time
-from typing import Any, Iterator, List, TypeVar, Union
+from typing import Any, Iterator, List, TypeVar
 
 from iim.archive.files import files_of
 from iim.archive.output import write_error
 
-Thing = TypeVar("Thing")
+Item = TypeVar("Item")
 
 
 class Interrupt:
@@ -23,50 +23,60 @@ class Interrupt:
     """
 
     def __init__(self) -> None:
-        self._pressed = self._waits = False
+        """Handle the signals from now on."""
+        self._arrived = self._waits = False
         for each in signal.SIGINT, signal.SIGTERM:
-            signal.signal(each, self._press)
+            signal.signal(each, self._note)
 
-    def _press(self, *_: object) -> None:
-        self._pressed = True
+    def _note(self, *_: object) -> None:
+        """Note that a signal arrived, and end a wait."""
+        self._arrived = True
         if self._waits:
             raise KeyboardInterrupt
 
-    def each(self, things: Iterator[Thing]) -> Iterator[Thing]:
-        """Yield the things. Raise `KeyboardInterrupt` if a signal arrives before the next one."""
+    def each(self, items: Iterator[Item]) -> Iterator[Item]:
+        """Yield the items. Raise `KeyboardInterrupt` if a signal arrives before the next one."""
         while True:
             self._waits = True
             try:
-                if self._pressed:
+                if self._arrived:
                     raise KeyboardInterrupt
-                thing = next(things, None)
+                item = next(items, None)
             finally:
                 self._waits = False
-            if thing is None:
+            if item is None:
                 return
-            yield thing
+            yield item
 
 
-class Progress:
+class Silence:
+    """Report no progress."""
+
+    def add(self, files: int, octets: int, envelopes: int, refused: int) -> None:
+        """Ignore the counts."""
+
+    def end(self) -> None:
+        """End the report."""
+
+
+class Progress(Silence):
     """Report progress on a terminal: by tqdm if installed, or else by a line every two seconds."""
 
     EVERY = 2.0
 
     def __init__(self, files: int, octets: int) -> None:
+        """Create a report for a number of files, of this size together."""
         self.files = self.envelopes = self.refused = self.octets = 0
-        self._of_files, self._of_octets = files, octets
-        self._begun = self._told = time.monotonic()
+        self._all_files, self._all_octets = files, octets
+        self._start = self._reported = time.monotonic()
         # (tqdm has no types)
         self._bar: Any = None
         with contextlib.suppress(ImportError):
             from tqdm import tqdm
 
+            interval = min(self.EVERY, 0.1)
             self._bar = tqdm(
-                total=octets,
-                unit="B",
-                unit_scale=True,
-                leave=False,
-                mininterval=min(self.EVERY, 0.1),
+                total=octets, unit="B", unit_scale=True, leave=False, mininterval=interval
             )
 
     def add(self, files: int, octets: int, envelopes: int, refused: int) -> None:
@@ -78,16 +88,20 @@ class Progress:
         if self._bar is not None:
             self._bar.set_postfix_str(self._counts(), refresh=False)
             self._bar.update(octets)
-        elif time.monotonic() - self._told >= self.EVERY:
-            self._told = time.monotonic()
+        elif time.monotonic() - self._reported >= self.EVERY:
+            self._reported = time.monotonic()
             write_error(f"{self._counts()}, {self._speed()}\n")
 
     def _counts(self) -> str:
-        return f"{self.files:,} of {self._of_files:,} files, {self.envelopes:,} envelopes, {self.refused:,} refused"
+        """Return the counts as text."""
+        files = f"{self.files:,} of {self._all_files:,} files"
+        return f"{files}, {self.envelopes:,} envelopes, {self.refused:,} refused"
 
     def _speed(self) -> str:
-        a_second = self.octets / max(time.monotonic() - self._begun, 0.001)
-        left = datetime.timedelta(seconds=round((self._of_octets - self.octets) / max(a_second, 1)))
+        """Return the speed and the remaining time as text."""
+        a_second = self.octets / max(time.monotonic() - self._start, 0.001)
+        remaining = (self._all_octets - self.octets) / max(a_second, 1)
+        left = datetime.timedelta(seconds=round(remaining))
         return f"{a_second / 1e6:.1f} MB/s, {left} left"
 
     def end(self) -> None:
@@ -96,20 +110,7 @@ class Progress:
             self._bar.close()
 
 
-class Silence:
-    """Report no progress."""
-
-    def add(self, files: int, octets: int, envelopes: int, refused: int) -> None:
-        pass
-
-    def end(self) -> None:
-        pass
-
-
-Teller = Union[Progress, Silence]
-
-
-def progress_over(trees: List[bytes], pattern: str, interrupt: Interrupt) -> Teller:
+def progress_over(trees: List[bytes], pattern: str, interrupt: Interrupt) -> Silence:
     """Return an object that reports the progress. On a terminal all files are counted first.
 
     Raises:
@@ -118,9 +119,8 @@ def progress_over(trees: List[bytes], pattern: str, interrupt: Interrupt) -> Tel
     if sys.stderr is None or not sys.stderr.isatty():
         return Silence()
     files = octets = 0
-    for found in interrupt.each(
-        itertools.chain.from_iterable(files_of(tree, pattern) for tree in trees)
-    ):
+    all_files = itertools.chain.from_iterable(files_of(tree, pattern) for tree in trees)
+    for found in interrupt.each(all_files):
         files += 1
         octets += found.size
     return Progress(files, octets)

@@ -8,11 +8,12 @@ from __future__ import annotations
 import argparse
 import contextlib
 import datetime
+import importlib
 import os
-from typing import Any, Callable, Dict, Iterator, List, NamedTuple, Optional, Tuple
+from typing import Any, Callable, Iterator, List, NamedTuple, Optional, Tuple
 
 from iim import safe_output
-from iim.archive.query import opened
+from iim.archive.query import open_indexes
 from iim.archive.rows import ENDS, EPOCH, seconds
 from iim.explain import words
 
@@ -81,7 +82,7 @@ class Damaged(NamedTuple):
     page: Optional[str]
 
 
-class Told(NamedTuple):
+class Content(NamedTuple):
     """The content of a report.
 
     Attributes:
@@ -101,14 +102,17 @@ class Told(NamedTuple):
     damaged: List[Damaged]
 
 
-class Asking:
+class Queries:
     """The queries of a report on an index, as of one instant."""
 
     def __init__(self, index: str, now: datetime.datetime) -> None:
-        self._database = opened([index])
-        self._database.create_function(
-            "bits", 1, lambda size: int(max(0, size - 1)).bit_length(), deterministic=True
-        )
+        """Open an index.
+
+        Raises:
+            NoIndex: The path has no index, or can't be opened.
+        """
+        self._database = open_indexes([index])
+        self._database.create_function("bits", 1, bits_of, deterministic=True)
         self.now, self._second = now, seconds(now)
 
     def rows(self, text: str, *values: Any) -> List[Any]:
@@ -138,14 +142,12 @@ class Asking:
         yield "files", self.number(f"{files} gone = 0 AND substr(path, -1) <> x'2F'")
         yield "octets", self.number("SELECT sum(size) FROM part0.files WHERE gone = 0")
         yield "envelopes", self.number(f"SELECT count(*) {ENVELOPES}")
-        yield "repeated", self.number(
-            f"SELECT sum(n - 1) FROM (SELECT count(*) AS n {ENVELOPES} GROUP BY {ID} HAVING n > 1)"
-        )
+        of_ids = f"SELECT count(*) AS n {ENVELOPES} GROUP BY {ID} HAVING n > 1"
+        yield "repeated", self.number(f"SELECT sum(n - 1) FROM ({of_ids})")
         yield "held", self.number(f"SELECT count(*) {ENVELOPES} AND e.release > ?", self._second)
         late = "e.expires < ? AND (e.release IS NULL OR e.release <= ?)"
-        yield "expired", self.number(
-            f"SELECT count(*) {ENVELOPES} AND {late}", self._second, self._second
-        )
+        expired = f"SELECT count(*) {ENVELOPES} AND {late}"
+        yield "expired", self.number(expired, self._second, self._second)
         for state in "refused", "empty", "failed":
             yield state, self.number(f"{files} gone = 0 AND state = ?", state)
         yield "gone", self.number(f"{files} gone = 1")
@@ -156,100 +158,74 @@ class Asking:
         Values beyond the maximum of bars are one bar.
         """
         rows = self.rows(f"SELECT {what}, count(*) {of} GROUP BY 1 ORDER BY {order}")
-        more = sum(count for _, count in rows[BARS:])
-        return Bars(
-            title,
-            [(shown(name), count) for name, count in rows[:BARS]] + [("others", more)] * (more > 0),
-        )
+        bars = [(shown(name), count) for name, count in rows[:BARS]]
+        others = sum(count for _, count in rows[BARS:])
+        return Bars(title, [*bars, ("others", others)] if others else bars)
 
     def by_day(self) -> Bars:
         """Return a bar chart of the envelopes by day sent, or by month or year for many days."""
         for length, what in (8, "day"), (6, "month"), (4, "year"):
-            rows = self.rows(
-                f"SELECT substr(e.date_sent, 1, ?), count(*) {ENVELOPES} GROUP BY 1 ORDER BY 1",
-                length,
-            )
+            query = f"SELECT substr(e.date_sent, 1, ?), count(*) {ENVELOPES} GROUP BY 1 ORDER BY 1"
+            rows = self.rows(query, length)
             if len(rows) <= BARS:
                 break
-        return Bars(
-            f"Envelopes by {what} sent",
-            [
-                ("-".join(filter(None, (name[:4], name[4:6], name[6:]))), count)
-                for name, count in rows[-BARS:]
-            ],
-        )
+        bars = [(with_hyphens(date), count) for date, count in rows[-BARS:]]
+        return Bars(f"Envelopes by {what} sent", bars)
 
     def by_hour(self) -> Bars:
         """Return a bar chart of the envelopes by hour of the day, in UTC."""
         counts = dict(self.rows(f"SELECT e.sent % 86400 / 3600, count(*) {ENVELOPES} GROUP BY 1"))
-        none = [("no time", counts[None])] if None in counts else []
-        return Bars(
-            "Envelopes by hour sent (UTC)",
-            [(f"{hour:02}", counts.get(hour, 0)) for hour in range(24)] + none if counts else [],
-        )
+        bars = [(f"{hour:02}", counts.get(hour, 0)) for hour in range(24)] if counts else []
+        if None in counts:
+            bars.append(("no time", counts[None]))
+        return Bars("Envelopes by hour sent (UTC)", bars)
 
     def by_size(self) -> Bars:
         """Return a bar chart of the envelopes by the size of their objects, in powers of two."""
         rows = self.rows(f"SELECT bits(e.size), count(*) {ENVELOPES} GROUP BY 1 ORDER BY 1")
-        return Bars(
-            "Sizes of objects, at most N octets",
-            [(f"{1 << bits:,}", count) for bits, count in rows],
-        )
+        bars = [(f"{1 << bits:,}", count) for bits, count in rows]
+        return Bars("Sizes of objects, at most N octets", bars)
 
     def by_age(self) -> Bars:
         """Return a bar chart of the envelopes by age."""
-        cases = " ".join(
-            f"WHEN ? - e.sent < {most} THEN {nth}" for nth, (most, _) in enumerate(AGES)
-        )
-        what = (
-            f"CASE WHEN e.sent IS NULL THEN -2 WHEN e.sent > ? THEN -1 {cases} ELSE {len(AGES)} END"
-        )
-        counts = dict(
-            self.rows(
-                f"SELECT {what}, count(*) {ENVELOPES} GROUP BY 1", *[self._second] * (len(AGES) + 1)
-            )
-        )
-        named = {
-            -2: "no time sent",
-            -1: "sent after now",
-            **{nth: name for nth, (_, name) in enumerate(AGES)},
-            len(AGES): "a year or more",
-        }
-        return Bars("Ages", [(named[nth], counts[nth]) for nth in sorted(counts)])
+        cases = ["WHEN e.sent IS NULL THEN -2", "WHEN e.sent > ? THEN -1"]
+        cases += (f"WHEN ? - e.sent < {most} THEN {nth}" for nth, (most, _) in enumerate(AGES))
+        what = f"CASE {' '.join(cases)} ELSE {len(AGES)} END"
+        seconds_of_cases = [self._second] * (len(AGES) + 1)
+        query = f"SELECT {what}, count(*) {ENVELOPES} GROUP BY 1 ORDER BY 1"
+        titles = dict(enumerate([*(name for _, name in AGES), "a year or more"]))
+        titles.update({-2: "no time sent", -1: "sent after now"})
+        rows = self.rows(query, *seconds_of_cases)
+        return Bars("Ages", [(titles[nth], count) for nth, count in rows])
 
     def repeats(self) -> Table:
         """Return a table of the ids with the most repeats."""
-        rows = self.rows(
-            f"SELECT {ID}, count(*) AS n {ENVELOPES} GROUP BY 1 HAVING n > 1 ORDER BY n DESC, 1 LIMIT {ROWS}"
-        )
-        return Table(
-            "Repeats", ["id", "times"], [[shown(name), f"{count:,}"] for name, count in rows]
-        )
+        query = f"SELECT {ID}, count(*) AS n {ENVELOPES} GROUP BY 1 HAVING n > 1"
+        rows = self.rows(f"{query} ORDER BY n DESC, 1 LIMIT {ROWS}")
+        cells = [[shown(name), f"{count:,}"] for name, count in rows]
+        return Table("Repeats", ["id", "times"], cells)
 
     def next(self, title: str, column: str) -> Table:
         """Return a table of the envelopes whose release or expiration is next."""
-        text = f"SELECT f.path, e.envelope, {ID}, e.{column} FROM part0.envelopes AS e JOIN part0.files AS f ON f.file = e.file AND f.gone = 0"
-        rows = self.rows(
-            f"{text} WHERE e.{column} > ? ORDER BY e.{column}, f.path, e.envelope LIMIT {ROWS}",
-            self._second,
-        )
-        return Table(
-            title,
-            ["file", "envelope", "id", "at"],
-            [
-                [named(path), str(nth), shown(name), instant(second)]
-                for path, nth, name, second in rows
-            ],
-        )
+        query = f"""SELECT f.path, e.envelope, {ID}, e.{column} FROM part0.envelopes AS e
+            JOIN part0.files AS f ON f.file = e.file AND f.gone = 0
+            WHERE e.{column} > ? ORDER BY e.{column}, f.path, e.envelope LIMIT {ROWS}"""
+        cells = [
+            [named(path), str(nth), shown(name), instant(second)]
+            for path, nth, name, second in self.rows(query, self._second)
+        ]
+        return Table(title, ["file", "envelope", "id", "at"], cells)
 
     def damaged(self, page_of: Callable[[bytes], Optional[str]]) -> Iterator[Damaged]:
         """Yield the files with a rejected envelope."""
-        rejected = "json_extract(e.told, '$.refused.octet_in_file'), json_extract(e.told, '$.refused.dataset')"
-        known = "coalesce(e.service, '?') || ' ' || coalesce(e.number, '?') || ' ' || coalesce(e.date_sent, '?')"
-        text = f"SELECT f.path, e.envelope, {rejected}, e.cause || ' ' || e.cause_name, {known} FROM part0.refusals AS e JOIN part0.files AS f"
-        for path, nth, at, dataset, cause, name in self.rows(
-            f"{text} ON f.file = e.file AND f.gone = 0 ORDER BY f.path LIMIT {DAMAGED}"
-        ):
+        parts_of_id = (f"coalesce(e.{name}, '?')" for name in ("service", "number", "date_sent"))
+        query = f"""SELECT f.path, e.envelope,
+                json_extract(e.told, '$.refused.octet_in_file'),
+                json_extract(e.told, '$.refused.dataset'),
+                e.cause || ' ' || e.cause_name, {" || ' ' || ".join(parts_of_id)}
+            FROM part0.refusals AS e JOIN part0.files AS f ON f.file = e.file AND f.gone = 0
+            ORDER BY f.path LIMIT {DAMAGED}"""
+        for path, nth, at, dataset, cause, name in self.rows(query):
             yield Damaged(path, nth, at, dataset, cause, shown(name), page_of(path))
 
     def all(
@@ -259,24 +235,24 @@ class Asking:
         yield "name", words.printable(name)
         yield "now", instant(self._second)
         yield "sums", list(self.sums())
-        of_cause = self.of_each("Refusals by cause", "e.cause || ' ' || e.cause_name", REFUSALS)
-        of_service = self.of_each(
-            "Refusals by service", "coalesce(e.service, '(not known)')", REFUSALS
-        )
-        yield "bars", [
-            of_cause,
-            of_service,
-            self.by_day(),
-            self.by_hour(),
-            self.by_size(),
-            self.by_age(),
-        ]
-        yield "tables", [
-            self.repeats(),
-            self.next("Held, and released next", "release"),
-            self.next("Expires next", "expires"),
-        ]
+        cause, service = "e.cause || ' ' || e.cause_name", "coalesce(e.service, '(not known)')"
+        by_cause = self.of_each("Refusals by cause", cause, REFUSALS)
+        by_service = self.of_each("Refusals by service", service, REFUSALS)
+        of_envelopes = [self.by_day(), self.by_hour(), self.by_size(), self.by_age()]
+        yield "bars", [by_cause, by_service, *of_envelopes]
+        held = self.next("Held, and released next", "release")
+        yield "tables", [self.repeats(), held, self.next("Expires next", "expires")]
         yield "damaged", list(self.damaged(page_of))
+
+
+def bits_of(size: int) -> int:
+    """Return the exponent of the smallest power of two that is not less than a size."""
+    return int(max(0, size - 1)).bit_length()
+
+
+def with_hyphens(date: str) -> str:
+    """Return a date, or the year or month of one, with hyphens between its parts."""
+    return "-".join(filter(None, (date[:4], date[4:6], date[6:])))
 
 
 def shown(text: str) -> str:
@@ -297,19 +273,20 @@ def instant(second: int) -> str:
 # --- Text
 
 
-def lines(told: Told) -> Iterator[str]:
+def lines(content: Content) -> Iterator[str]:
     """Yield the lines of a report."""
-    yield f"{told.name} at {told.now}"
-    yield ", ".join(f"{count:,} {name}" for name, count in told.sums)
-    for bars in told.bars:
+    yield f"{content.name} at {content.now}"
+    yield ", ".join(f"{count:,} {name}" for name, count in content.sums)
+    for bars in content.bars:
         yield from bar_lines(bars)
-    for table in told.tables:
+    for table in content.tables:
         yield from ("", table.title.upper(), *(["  none"] if not table.rows else []))
         yield from ("  " + "  ".join(row) for row in table.rows)
-    yield from ("", "DAMAGED FILES", *(["  none"] if not told.damaged else []))
-    for each in told.damaged:
-        yield f"  {named(each.path)}: envelope {each.envelope}, octet {each.at:,} of the file, {each.dataset}, cause {each.cause} ({each.id})"
-    if told.damaged:
+    yield from ("", "DAMAGED FILES", *(["  none"] if not content.damaged else []))
+    for each in content.damaged:
+        where = f"envelope {each.envelope}, octet {each.at:,} of the file, {each.dataset}"
+        yield f"  {named(each.path)}: {where}, cause {each.cause} ({each.id})"
+    if content.damaged:
         yield "`python3 -m iim explain FILE` shows the error in one of them."
 
 
@@ -324,7 +301,7 @@ def bar_lines(bars: Bars) -> Iterator[str]:
 # --- The command
 
 
-def parts(asked: argparse.Namespace) -> Iterator[Tuple[str, Any]]:
+def parts(arguments: argparse.Namespace) -> Iterator[Tuple[str, Any]]:
     """Yield the name and the value of each part of the report that the arguments specify.
 
     Pages of damaged files are written beside the report.
@@ -333,28 +310,29 @@ def parts(asked: argparse.Namespace) -> Iterator[Tuple[str, Any]]:
         NoIndex: The path has no index.
         OutputRefused: The report must not be written to its path.
     """
-    asking = Asking(asked.index, asked.now)
-    pages: Callable[[bytes], Optional[str]] = lambda path: None
-    if asked.html is not None:
-        asked.inputs = asking.inputs(asked.index, asked.html)
-        safe_output.check_output(asked.html, asked.inputs, force=asked.force)
-    if asked.html is not None and can_draw():
+    queries = Queries(arguments.index, arguments.now)
+    page_of = no_page
+    output, force = arguments.html, arguments.force
+    if output is not None:
+        arguments.inputs = queries.inputs(arguments.index, output)
+        safe_output.check_output(output, arguments.inputs, force=force)
+    if output is not None and can_draw():
         from iim.archive.page import Pages
 
-        pages = Pages(asked.html, asked.limits, asked.inputs, asked.force).page_of
-    yield from asking.all(asked.index, pages)
+        page_of = Pages(output, arguments.limits, arguments.inputs, force).page_of
+    yield from queries.all(arguments.index, page_of)
+
+
+def no_page(path: bytes) -> Optional[str]:
+    """Return no link, for a report without pages of damaged files."""
+    return None
 
 
 def can_draw() -> bool:
     """Check whether the modules that generate pages are installed."""
     try:
-        import jinja2
-        import matplotlib
+        for name in "jinja2", "matplotlib":
+            importlib.import_module(name)
     except ImportError:
         return False
     return True
-
-
-def told_of(found: Dict[str, Any]) -> Told:
-    """Return a report of its parts."""
-    return Told(**found)

@@ -19,7 +19,7 @@ EPOCH = datetime.datetime(1970, 1, 1, tzinfo=datetime.timezone.utc)
 
 
 # Return a text as a string of JSON.
-quoted: Callable[[str], str] = json.JSONEncoder().encode
+quote: Callable[[str], str] = json.JSONEncoder().encode
 
 # The rows of the tables `files` (without `gone`), `envelopes` and `refusals` of the index, by
 # columns.
@@ -76,7 +76,7 @@ LONGEST = 4_000
 
 
 @contextlib.contextmanager
-def reached(path: bytes) -> Iterator[Tuple[Optional[int], bytes]]:
+def open_parent(path: bytes) -> Iterator[Tuple[Optional[int], bytes]]:
     """Open the directory from which the rest of a path is short enough for the system.
 
     Yields:
@@ -96,7 +96,7 @@ def reached(path: bytes) -> Iterator[Tuple[Optional[int], bytes]]:
             os.close(folder)
 
 
-class Asked(NamedTuple):
+class FileRequest(NamedTuple):
     """A file to read.
 
     Attributes:
@@ -115,7 +115,7 @@ class Asked(NamedTuple):
 
 
 # A function that reads a batch of files and returns a block: the files' rows, encoded by marshal.
-Reader = Callable[[List[Asked]], bytes]
+Reader = Callable[[List[FileRequest]], bytes]
 Blocks = Iterator[bytes]
 
 # The version of marshal's encoding, which Python has from 3.4 on.
@@ -125,7 +125,7 @@ FORM = 4
 AHEAD = 4
 
 
-def lost(file: Asked, reader: Reader, reason: str = "its worker was lost") -> bytes:
+def lost_block(file: FileRequest, reader: Reader, reason: str = "its worker was lost") -> bytes:
     """Return the block of a file that can't be read because its worker died each time."""
     return reader([file._replace(reason=reason)])
 
@@ -192,6 +192,7 @@ class Timer:
     _running: Optional[Timer] = None
 
     def __init__(self, most: float) -> None:
+        """Create a time limit of some seconds, from now on."""
         self._most, self._end = most, time.monotonic() + most
 
     def check(self) -> None:
@@ -206,12 +207,14 @@ class Timer:
             raise TooSlow(too_slow(cls._running._most))
 
     def __enter__(self) -> Timer:
+        """Let SIGALRM end a read after the time limit, if it can."""
         if interrupts:
             Timer._running = self
             signal.setitimer(signal.ITIMER_REAL, self._most)
         return self
 
     def __exit__(self, *_: object) -> None:
+        """Cancel the time limit."""
         if interrupts:
             Timer._running = None
             signal.setitimer(signal.ITIMER_REAL, 0)
@@ -236,7 +239,7 @@ def interrupt_reads() -> None:
     signal.signal(signal.SIGALRM, Timer.interrupt)
 
 
-class OfThread(threading.local):
+class AuditorOfThread(threading.local):
     """The auditor of a thread, and the run that it is for.
 
     A worker of Dask runs tasks on several threads at once, and an auditor reads one file at a time.
@@ -245,7 +248,7 @@ class OfThread(threading.local):
     run: Optional[Tuple[iim.Limits, datetime.datetime]] = None
     auditor: iim.Auditor
 
-    def auditor_of(self, limits: iim.Limits, now: datetime.datetime) -> iim.Auditor:
+    def for_run(self, limits: iim.Limits, now: datetime.datetime) -> iim.Auditor:
         """Return the auditor that this thread uses for the files of a run, one after another."""
         if self.run != (limits, now):
             self.auditor = iim.Auditor(limits, now=now)
@@ -253,14 +256,14 @@ class OfThread(threading.local):
         return self.auditor
 
 
-of_thread = OfThread()
+auditor_of_thread = AuditorOfThread()
 
 
 class NotRegular(OSError):
     """Raised if a path no longer names a regular file."""
 
 
-def opened(path: bytes) -> int:
+def open_regular(path: bytes) -> int:
     """Open a regular file for reading.
 
     If its path has named something else since it was listed, that is neither waited for nor read.
@@ -269,10 +272,9 @@ def opened(path: bytes) -> int:
         NotRegular: The path does not name a regular file.
         OSError: The file can't be opened.
     """
-    with reached(path) as (folder, rest):
-        file = os.open(
-            rest, os.O_RDONLY | os.O_NONBLOCK | os.O_NOCTTY | os.O_CLOEXEC, dir_fd=folder
-        )
+    flags = os.O_RDONLY | os.O_NONBLOCK | os.O_NOCTTY | os.O_CLOEXEC
+    with open_parent(path) as (folder, rest):
+        file = os.open(rest, flags, dir_fd=folder)
     if not stat.S_ISREG(os.fstat(file).st_mode):
         os.close(file)
         raise NotRegular(NOT_REGULAR)
@@ -283,14 +285,15 @@ def blocks_of(
     path: bytes, limits: iim.Limits, now: datetime.datetime, timer: Timer
 ) -> Generator[List[iim.RawRow], None, None]:
     """Yield the rows of a file, many at a time."""
-    file = opened(path)
+    file = open_regular(path)
 
     def fill(buffer: memoryview) -> int:
+        """Read the next bytes of the file."""
         timer.check()
         return os.readv(file, [buffer])
 
     try:
-        yield from of_thread.auditor_of(limits, now).raw_blocks(fill)
+        yield from auditor_of_thread.for_run(limits, now).raw_blocks(fill)
     finally:
         os.close(file)
 
@@ -318,9 +321,16 @@ def envelope_row(file: int, nth: int, second: int, raw: iim.RawRow) -> EnvelopeR
         date,
     ) = raw
     return (
-        file, nth, at, length, service[:count].decode("latin-1"), number.decode("ascii"), date.decode("ascii"), chr(priority) if priority else None, size,
-        subfiles, announced, counted, second - age if has_age else None, release if has_release else None, expires if has_expires else None,
-    )  # fmt: skip
+        *(file, nth, at, length),
+        service[:count].decode("latin-1"),
+        number.decode("ascii"),
+        date.decode("ascii"),
+        chr(priority) if priority else None,
+        *(size, subfiles, announced, counted),
+        second - age if has_age else None,
+        release if has_release else None,
+        expires if has_expires else None,
+    )
 
 
 def do_nothing() -> None:
@@ -342,7 +352,7 @@ def watch_reads(before: Callable[[], object]) -> None:
 
 
 def read_file(
-    asked: Asked, limits: iim.Limits, now: datetime.datetime, most: float = LONGEST_TIME
+    asked: FileRequest, limits: iim.Limits, now: datetime.datetime, most: float = LONGEST_TIME
 ) -> FileRows:
     """Read a file, for at most `most` seconds.
 
@@ -358,9 +368,8 @@ def read_file(
     read = 0
     state, reason, refusal = "accepted", None, None
     try:
-        with Timer(most) as timer, contextlib.closing(
-            blocks_of(path, limits, now, timer)
-        ) as blocks:
+        with Timer(most) as timer, contextlib.ExitStack() as stack:
+            blocks = stack.enter_context(contextlib.closing(blocks_of(path, limits, now, timer)))
             for block in blocks:
                 for nth, raw in enumerate(block, nth + 1):
                     rows += envelope_row(file, nth, second, raw)
@@ -382,11 +391,9 @@ def read_file(
 def refusal_row(file: int, refused: iim.RefusedError) -> RefusalRow:
     """Return the index's row of a refusal."""
     value = refused.to_dict()
-    known = value["id"]
-    return (
-        file, refused.nth, refused.at, refused.cause, refused.cause_name, known["service"], known["number"], known["date_sent"],
-        json.dumps(value),
-    )  # fmt: skip
+    service, number, date = (value["id"][name] for name in ("service", "number", "date_sent"))
+    where = refused.nth, refused.at, refused.cause, refused.cause_name
+    return (file, *where, service, number, date, json.dumps(value))
 
 
 # --- Lines ---
@@ -394,13 +401,13 @@ def refusal_row(file: int, refused: iim.RefusedError) -> RefusalRow:
 
 def name_of(path: bytes) -> str:
     """Return the name of a file as a string of JSON."""
-    return quoted(os.fsdecode(path))
+    return quote(os.fsdecode(path))
 
 
 def file_line(name: str, state: str, reason: Optional[str]) -> str:
     """Return the line of a file that is empty or gone, or that can't be read for a reason."""
     if reason is not None:
-        return f'{{"file": {name}, "failed": {quoted(reason)}}}\n'
+        return f'{{"file": {name}, "failed": {quote(reason)}}}\n'
     return f'{{"file": {name}, "{state}": true}}\n'
 
 
@@ -429,10 +436,14 @@ def envelope_front(name: str, row: EnvelopeRow, now: datetime.datetime, second: 
         expires,
     ) = row
     copy = "free" if release is None and expires is None else copy_of(release, expires, now)
+    priority = "null" if priority is None else quote(priority)
+    age = "null" if sent is None else second - sent
     return (
-        f'{{"file": {name}, "envelope": {nth}, "at": {at}, "length": {length}, "service": {quoted(service)}, "number": "{number}", '
-        f'"date_sent": "{date}", "priority": {"null" if priority is None else quoted(priority)}, "size": {size}, "subfiles": {subfiles}, '
-        f'"announced": {announced}, "counted": {counted}, "age": {"null" if sent is None else second - sent}, "copy": "{copy}", "repeats": '
+        f'{{"file": {name}, "envelope": {nth}, "at": {at}, "length": {length}, '
+        f'"service": {quote(service)}, "number": "{number}", "date_sent": "{date}", '
+        f'"priority": {priority}, "size": {size}, "subfiles": {subfiles}, '
+        f'"announced": {announced}, "counted": {counted}, "age": {age}, "copy": "{copy}", '
+        '"repeats": '
     )
 
 
@@ -472,14 +483,14 @@ def kept_rows(rows: FileRows, now: datetime.datetime) -> KeptRows:
 
 
 def read_files(
-    files: List[Asked], limits: iim.Limits, now: datetime.datetime, form: Form, most: float
+    files: List[FileRequest], limits: iim.Limits, now: datetime.datetime, form: Form, most: float
 ) -> List[Tuple[object, ...]]:
     """Read some files, each for at most `most` seconds."""
     return [form(read_file(file, limits, now, most), now) for file in files]
 
 
 def read_batch(
-    files: List[Asked], limits: iim.Limits, now: datetime.datetime, form: Form, most: float
+    files: List[FileRequest], limits: iim.Limits, now: datetime.datetime, form: Form, most: float
 ) -> bytes:
     """Read some files, and return their rows as a block. A worker runs this."""
     return marshal.dumps(read_files(files, limits, now, form, most), FORM)

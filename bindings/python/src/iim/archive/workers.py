@@ -1,8 +1,8 @@
 """Read the batches of an archive with processes on this machine.
 
-Each process has its own pipe. `concurrent.futures` has one queue for all processes: if one is killed
-while it returns a long block, the reading process waits forever for the rest (reproducible with
-Python 3.11 and blocks of 3 MB).
+Each process has its own pipe. `concurrent.futures` has one queue for all processes: if one is
+killed while it returns a long block, the reading process waits forever for the rest (reproducible
+with Python 3.11 and blocks of 3 MB).
 """
 from __future__ import annotations
 
@@ -17,16 +17,17 @@ import signal
 import threading
 import time
 from multiprocessing.connection import Connection
-from typing import TYPE_CHECKING, Any, Callable, Deque, Iterable, List, Optional
+from typing import TYPE_CHECKING, Any, Deque, Iterable, List, Optional
 
+from iim.archive.output import LOGGER
 from iim.archive.rows import (
     AHEAD,
     LONGEST_TIME,
-    Asked,
     Blocks,
     Failure,
+    FileRequest,
     Reader,
-    lost,
+    lost_block,
     too_slow,
     watch_reads,
 )
@@ -41,13 +42,7 @@ Counter = Any
 GRACE = 5
 
 
-def serve(
-    pipe: Connection,
-    other: Connection,
-    reader: Reader,
-    begun: Counter,
-    watch: Callable[[Callable[[], object]], None],
-) -> None:
+def serve(pipe: Connection, other: Connection, reader: Reader, begun: Counter) -> None:
     """Read batches until Ctrl-C, or until the parent process ends.
 
     Args:
@@ -55,7 +50,6 @@ def serve(
         other: The parent's end of the pipe, which is closed here.
         reader: The function that reads a batch.
         begun: The number of files started, for the parent.
-        watch: `watch_reads` of the module whose functions read the files.
     """
     for each in signal.SIGINT, signal.SIGTERM:
         signal.signal(each, signal.SIG_DFL)
@@ -65,8 +59,7 @@ def serve(
     # (if the parent ended before that, the pipe is at its end once no process has its other end; a
     # worker started later, which has a copy of that end, ends first)
     other.close()
-    # (`watch` is passed, since the installed module has another name)
-    watch(functools.partial(note_file, begun))
+    watch_reads(functools.partial(note_file, begun))
     with contextlib.suppress(EOFError, OSError):
         while True:
             pipe.send_bytes(reader(pipe.recv()))
@@ -85,17 +78,22 @@ class Worker:
     """A process that reads a batch at a time."""
 
     def __init__(self, reader: Reader, most: float = LONGEST_TIME) -> None:
+        """Start a process.
+
+        Args:
+            reader: The function that reads a batch.
+            most: The time limit of a file, in seconds.
+        """
         self._pipe, its = multiprocessing.Pipe()
         self._most, self._killed = most, False
         # (the number of files that it has tried to open)
         self._begun: Counter = multiprocessing.RawValue(ctypes.c_uint64, 0)
-        self._process = multiprocessing.Process(
-            target=serve, args=(its, self._pipe, reader, self._begun, watch_reads), daemon=True
-        )
+        arguments = its, self._pipe, reader, self._begun
+        self._process = multiprocessing.Process(target=serve, args=arguments, daemon=True)
         self._process.start()
         its.close()
 
-    def read(self, batch: List[Asked]) -> bytes:
+    def read(self, batch: List[FileRequest]) -> bytes:
         """Return the block of a batch.
 
         Raises:
@@ -132,9 +130,19 @@ class Stopped(Exception):
 
 
 class Pool:
-    """A pool of processes, each with a thread that waits for it. `begin` starts them."""
+    """A pool of processes, each with a thread that waits for it.
+
+    As a context manager it starts the processes, and kills them.
+    """
 
     def __init__(self, count: int, reader: Reader, most: float) -> None:
+        """Create a pool without processes.
+
+        Args:
+            count: The number of processes.
+            reader: The function that reads a batch.
+            most: The time limit of a file, in seconds.
+        """
         self._reader, self._most = reader, most
         self._workers: List[Worker] = []
         self._stopped = False
@@ -145,15 +153,25 @@ class Pool:
         self._count = count
         self._threads = concurrent.futures.ThreadPoolExecutor(count)
 
-    def begin(self) -> None:
+    def __enter__(self) -> Pool:
         """Start the processes. Raise `Failure` if the system does not allow so many."""
         try:
             for _ in range(self._count):
                 self._idle.put(self._begin())
         except OSError as fault:
+            self.stop()
             raise Failure(f"--workers {self._count}: {fault.strerror or fault}") from None
+        except BaseException:
+            self.stop()
+            raise
+        return self
+
+    def __exit__(self, *_: object) -> None:
+        """Kill the processes."""
+        self.stop()
 
     def _begin(self) -> Worker:
+        """Start a process. Raise `Stopped` if the pool was stopped."""
         with self._lock:
             if self._stopped:
                 raise Stopped
@@ -162,11 +180,13 @@ class Pool:
             return worker
 
     def _end(self, worker: Worker) -> None:
+        """End a process that died."""
+        LOGGER.info("a worker was lost; another one reads its files")
         with self._lock:
             self._workers.remove(worker)
         worker.end()
 
-    def _once(self, batch: List[Asked]) -> bytes:
+    def _once(self, batch: List[FileRequest]) -> bytes:
         """Return the block of a batch.
 
         Raise `EOFError` or `OSError` if no process can start, or if it dies.
@@ -183,7 +203,7 @@ class Pool:
         finally:
             self._idle.put(worker)
 
-    def _read(self, batch: List[Asked]) -> List[bytes]:
+    def _read(self, batch: List[FileRequest]) -> List[bytes]:
         """Return the blocks of a batch.
 
         If the process dies, the batch is retried once; if it dies again, each file is retried
@@ -199,10 +219,10 @@ class Pool:
             except (EOFError, OSError):
                 pass
         if len(batch) == 1:
-            return [lost(batch[0], self._reader, reason)]
+            return [lost_block(batch[0], self._reader, reason)]
         return [block for file in batch for block in self._read([file])]
 
-    def start(self, batch: List[Asked]) -> Future[List[bytes]]:
+    def start(self, batch: List[FileRequest]) -> Future[List[bytes]]:
         """Start to read a batch in the background. Raise `Failure` if no thread can be started."""
         try:
             return self._threads.submit(self._read, batch)
@@ -222,7 +242,7 @@ class Pool:
 
 
 def by_processes(
-    batches: Iterable[List[Asked]], reader: Reader, count: int, most: float = LONGEST_TIME
+    batches: Iterable[List[FileRequest]], reader: Reader, count: int, most: float = LONGEST_TIME
 ) -> Blocks:
     """Run the batches on processes of this machine, and yield their blocks in order.
 
@@ -234,17 +254,15 @@ def by_processes(
         count: The number of processes.
         most: The time limit of a file, in seconds.
     """
-    pool = Pool(count, reader, most)
     waiting: Deque[Future[List[bytes]]] = collections.deque()
-    try:
-        pool.begin()
-        for batch in batches:
-            waiting.append(pool.start(batch))
-            if len(waiting) >= AHEAD * count:
+    with Pool(count, reader, most) as pool:
+        try:
+            for batch in batches:
+                waiting.append(pool.start(batch))
+                if len(waiting) >= AHEAD * count:
+                    yield from waiting.popleft().result()
+            while waiting:
                 yield from waiting.popleft().result()
-        while waiting:
-            yield from waiting.popleft().result()
-    finally:
-        for future in waiting:
-            future.cancel()
-        pool.stop()
+        finally:
+            for future in waiting:
+                future.cancel()

@@ -37,12 +37,20 @@ class Whole:
     def __init__(
         self, source: Source, found: Found, refusal: Optional[iim.RefusedError], limits: iim.Limits
     ) -> None:
+        """Read an envelope.
+
+        Args:
+            source: The file.
+            found: The envelope.
+            refusal: Why it was rejected, or `None`.
+            limits: The limits on records 1 and 2.
+        """
         self.found, self.refusal = found, refusal
         self.walk = Walk(source, found.at, found.length, limits)
         self.tries = Tries(source, refusal, self.walk, limits) if refusal else None
-        self.view = self.walk.envelope or iim.Envelope(
-            refusal.ticket if refusal else b"", found.nth, found.at, found.length, None
-        )
+        ticket = refusal.ticket if refusal else b""
+        partial = iim.Envelope(ticket, nth=found.nth, at=found.at, length=found.length)
+        self.view = self.walk.envelope or partial
 
     def items(self, most: int, lines: int) -> Iterator[Optional[Item]]:
         """Yield its items, with `None` for those that are left out of a long one."""
@@ -53,17 +61,17 @@ class Whole:
         sizes = self.view.sizes
         if not self.walk.items or self.walk.items[-1].record not in (7, 8, 9) and not sizes.subfile:
             return
-        announced = (
-            "no size is announced"
-            if sizes.announced is None
-            else f"{sizes.announced:,} announced (7:90)"
-        )
+        announced = "no size is announced"
+        if sizes.announced is not None:
+            announced = f"{sizes.announced:,} announced (7:90)"
         most = "" if sizes.maximum is None else f", at most {sizes.maximum:,} (7:95)"
-        yield f"Sizes: {announced}{most}; {counted(sizes.total, 'octet')} in {counted(sizes.subfiles, 'subfile')} of at most {sizes.subfile:,} (7:20)."
+        total = f"{counted(sizes.total, 'octet')} in {counted(sizes.subfiles, 'subfile')}"
+        yield f"Sizes: {announced}{most}; {total} of at most {sizes.subfile:,} (7:20)."
         if self.refusal is None:
             yield "They agree, and 9:10 confirms them."
         elif sizes.announced not in (None, sizes.total) and self.refusal.cause in (24, 25):
-            yield f"The received and the announced size differ by {abs((sizes.announced or 0) - sizes.total):,}."
+            difference = abs((sizes.announced or 0) - sizes.total)
+            yield f"The received and the announced size differ by {difference:,}."
 
     def instants(self) -> Iterator[str]:
         """Yield sentences on when it was sent and when its copy may be used."""
@@ -82,6 +90,13 @@ class Case:
     """A file and the result of reading it."""
 
     def __init__(self, source: Source, limits: iim.Limits, wanted: Optional[int] = None) -> None:
+        """Read a file.
+
+        Args:
+            source: The file.
+            limits: The limits on records 1 and 2.
+            wanted: The number of the envelope to show, or `None` for all.
+        """
         self.source, self.limits, self.wanted = source, limits, wanted
         self.count = 0
         self.first: List[Found] = []
@@ -97,7 +112,8 @@ class Case:
     def wholes(self) -> List[Whole]:
         """The envelopes that are shown byte by byte."""
         return [
-            Whole(self.source, found, self._refusal_of(found), self.limits) for found in self.told()
+            Whole(self.source, found, self._refusal_of(found), self.limits)
+            for found in self.selected()
         ]
 
     def _read(self) -> None:
@@ -119,16 +135,18 @@ class Case:
         receiver.end()
 
     def _add(self, found: Found) -> None:
+        """List an envelope."""
         (self.first if len(self.first) < LISTED else self.last).append(found)
 
     def _refusal_of(self, found: Found) -> Optional[iim.RefusedError]:
+        """Return the refusal of an envelope, or `None`."""
         return self.refusal if self.refusal and found.nth == self.refusal.nth else None
 
     def listed(self) -> List[Found]:
         """Return the envelopes that are listed: those at both ends of the file."""
         return [*self.first, *self.last]
 
-    def told(self) -> List[Found]:
+    def selected(self) -> List[Found]:
         """Return the envelopes to show: one selected, or those at both ends, and one rejected."""
         listed = self.listed()
         if self.wanted is not None:

@@ -24,36 +24,43 @@ class Cause(NamedTuple):
 # fmt: off
 CAUSES: Dict[int, Cause] = {
     1: Cause(
-        "the dataset before it is longer or shorter than its count says, or a text-mode transfer or a conversion to UTF-8 changed its "
-        "bytes; at octet 0 of a later envelope, extra bytes follow the envelope before it, such as a line end or NULs; at octet 0 of the "
-        "first envelope, the file is not IIM",
-        "check the count of the dataset before it; transfer the file again in binary mode, without extra bytes at its end",
+        "the dataset before it is longer or shorter than its count says, or a text-mode transfer "
+        "or a conversion to UTF-8 changed its bytes; at octet 0 of a later envelope, extra bytes "
+        "follow the envelope before it, such as a line end or NULs; at octet 0 of the first "
+        "envelope, the file is not IIM",
+        "check the count of the dataset before it; transfer the file again in binary mode, "
+        "without extra bytes at its end",
     ),
     2: Cause(
-        "a count of more than eight octets, or a damaged tag; a conversion to UTF-8, which makes two bytes of each byte from 80 on",
+        "a count of more than eight octets, or a damaged tag; a conversion to UTF-8, which makes "
+        "two bytes of each byte from 80 on",
         "ask the sender for standard counts; transfer the file again in binary mode",
     ),
     3: Cause(
-        "the transfer was interrupted, or the file is still being written; if 1:02 is named, a transfer that drops NULs (00)",
+        "the transfer was interrupted, or the file is still being written; if 1:02 is named, a "
+        "transfer that drops NULs (00)",
         "transfer the file again in binary mode, or wait until it is complete",
     ),
     10: Cause(
-        "a record is missing or occurs twice; records 3 to 6, which are not supported; an envelope without an object",
+        "a record is missing or occurs twice; records 3 to 6, which are not supported; an "
+        "envelope without an object",
         "check which records the sender writes, and in which order",
     ),
     11: Cause(
-        "the sender's own dataset in one of these records; if 7:13 is named, a text-mode transfer, which makes CR LF of the LF in the tag "
-        "of 7:10",
+        "the sender's own dataset in one of these records; if 7:13 is named, a text-mode "
+        "transfer, which makes CR LF of the LF in the tag of 7:10",
         "move the dataset to record 2; transfer the file again in binary mode",
     ),
     12: Cause(
-        "two headlines or two release dates: an editing system adds a dataset where it should replace one",
+        "two headlines or two release dates: an editing system adds a dataset where it should "
+        "replace one",
         "find out which of the two is meant",
     ),
     13: Cause(
-        "a text that is too long for its field, such as a headline of more than 256 bytes; a date without a century, a time without an "
-        "offset; damage in an extended count, which may have eight octets; in one of the first datasets of record 1, a transfer that drops "
-        "NULs (00), makes spaces of them, or makes CR LF of an LF",
+        "a text that is too long for its field, such as a headline of more than 256 bytes; a date "
+        "without a century, a time without an offset; damage in an extended count, which may have "
+        "eight octets; in one of the first datasets of record 1, a transfer that drops NULs (00), "
+        "makes spaces of them, or makes CR LF of an LF",
         "shorten the value, or complete it; transfer the file again in binary mode",
     ),
     14: Cause(
@@ -61,10 +68,12 @@ CAUSES: Dict[int, Cause] = {
         "set the dataset that is named",
     ),
     15: Cause(
-        "letters in a number; a date that does not exist, such as 20230229 in 2:30 Release Date; a time with hour 24 or without a sign "
-        "before its offset; a control character in a text; a size of eight octets above 9,223,372,036,854,775,807; 7:20 set to 0; in a "
-        "text that begins with LF, a text-mode transfer, which makes 0D 0A of a count of ten octets (0A)",
-        'look up the dataset\'s kind in `FORMAT.md`, under "Kinds"; transfer the file again in binary mode',
+        "letters in a number; a date that does not exist, such as 20230229 in 2:30 Release Date; "
+        "a time with hour 24 or without a sign before its offset; a control character in a text; "
+        "a size of eight octets above 9,223,372,036,854,775,807; 7:20 set to 0; in a text that "
+        "begins with LF, a text-mode transfer, which makes 0D 0A of a count of ten octets (0A)",
+        'look up the dataset\'s kind in `FORMAT.md`, under "Kinds"; transfer the file again in '
+        "binary mode",
     ),
     16: Cause(
         "the object is not an IPTC 7901 message, but a picture or another format",
@@ -91,13 +100,16 @@ CAUSES: Dict[int, Cause] = {
         "count the bytes received, and transfer the file again",
     ),
     25: Cause(
-        "a subfile is missing, line ends were shortened in transfer, or the sender counts something else",
+        "a subfile is missing, line ends were shortened in transfer, or the sender counts "
+        "something else",
         "count the bytes received, and transfer the file again",
     ),
     30: Cause(
-        "the header has a part too many or too long, more than one space between parts, or no line end before STX; the object is not an "
-        "IPTC 7901 message; at the end of a story, a text-mode transfer, which makes LF of CR LF",
-        "compare with the parts of a message in `FORMAT.md`; transfer the file again in binary mode",
+        "the header has a part too many or too long, more than one space between parts, or no "
+        "line end before STX; the object is not an IPTC 7901 message; at the end of a story, a "
+        "text-mode transfer, which makes LF of CR LF",
+        "compare with the parts of a message in `FORMAT.md`; transfer the file again in binary "
+        "mode",
     ),
     32: Cause(
         "the story was truncated: no EOT (04) at its end",
@@ -113,11 +125,13 @@ CAUSES: Dict[int, Cause] = {
     ),
     50: Cause(
         "a very long text in record 2, or a damaged count",
-        "check the size of record 2: `iimwire` accepts 65,536 octets; the libraries accept more, if you set the limit",
+        "check the size of record 2: `iimwire` accepts 65,536 octets; the libraries accept more, "
+        "if you set the limit",
     ),
     51: Cause(
         "very many keywords",
-        "check the number of datasets: `iimwire` accepts 512; the libraries accept more, if you set the limit",
+        "check the number of datasets: `iimwire` accepts 512; the libraries accept more, if you "
+        "set the limit",
     ),
     52: Cause(
         "an endless sequence of empty subfiles",

@@ -1,4 +1,4 @@
-"""Generate the HTML page of explain.py: bytes on the left, their meaning on the right.
+"""Generate the HTML page of iim-explain: bytes on the left, their meaning on the right.
 
 The page has no script and loads nothing.
 """
@@ -6,6 +6,7 @@ from __future__ import annotations
 
 import html
 import itertools
+from pathlib import Path
 from typing import Iterable, Iterator, List, NamedTuple, Optional, Tuple
 
 import iim
@@ -25,28 +26,8 @@ TOGETHER = 64
 # The number of bytes shown before the rejected one and after it.
 BEFORE, AFTER = 64, 48
 
-STYLE = """
-:root { color-scheme: light dark; --back: #f1f3f5; --card: #fff; --text: #1d2530; --dim: #5d6874; --line: #ccd3da; --lit: #ffe08a; --tag: #dde6ef }
-@media (prefers-color-scheme: dark) {
-  :root { --back: #14181d; --card: #1d232a; --text: #e6eaee; --dim: #9aa5b1; --line: #3a444f; --lit: #6b5600; --tag: #2b3846 } }
-body { margin: 0; padding: 0 20px 20px; font: 15px/1.45 system-ui, sans-serif; color: var(--text); background: var(--back) }
-h1 { font-size: 20px; margin: 16px 0 0 } h2 { font-size: 16px; margin: 0 0 6px } h1 + p { margin: 0 0 12px; color: var(--dim) }
-section, article { background: var(--card); border: 1px solid var(--line); border-radius: 6px; padding: 12px 16px; margin: 0 0 14px }
-.told { columns: 2 420px; column-gap: 32px } .told > div { break-inside: avoid; margin: 0 0 12px } .told p { margin: 0 0 6px } ul { margin: 0; padding-left: 18px }
-.bar { font-size: 13px; color: var(--dim) } .bar b { color: var(--text); text-decoration: underline }
-.part { display: grid; grid-template-columns: minmax(0, 41em) minmax(22em, 1fr); gap: 0 24px; align-items: start }
-.part { content-visibility: auto; contain-intrinsic-size: auto 1300px }
-pre { font: 13px/1.6 ui-monospace, "DejaVu Sans Mono", monospace; margin: 0; overflow-x: auto } pre b, pre .no { color: var(--dim); font-weight: 400 }
-ol { list-style: none; margin: 0; padding: 0; font-size: 14px; line-height: 1.49 } ol ol { padding-left: 22px }
-ol a { display: flex; gap: 8px; align-items: baseline; color: inherit; text-decoration: none; padding: 0 4px; white-space: nowrap } ol a:focus { outline: 2px solid }
-ol small { color: var(--dim); min-width: 5.5em; text-align: right } ol i { font: 13px ui-monospace, "DejaVu Sans Mono", monospace; overflow: hidden; text-overflow: ellipsis }
-ol .cut, pre .cut { color: var(--dim); font-style: italic } .t { background: var(--tag) } .later { color: var(--dim) } .here { font-weight: 700; text-decoration: underline }
-mark { background: #c62828; color: #fff; font-weight: 700 } .vh { position: absolute; width: 1px; height: 1px; overflow: hidden; clip-path: inset(50%) }
-:target { outline: 2px solid var(--text) } footer p { margin: 6px 0 0; color: var(--dim) } table { border-collapse: collapse } td { padding: 0 14px 0 0 }
-@media (max-width: 1050px) { .part { display: block } pre { margin-bottom: 12px } }
-@media print { body { background: none; padding: 0 } section, article { border: none; padding: 4px 0 } mark { border: 2px solid }
-  .part { grid-template-columns: 40em 1fr; font-size: 12px; content-visibility: visible } }
-"""
+# The style of the page.
+STYLE = Path(__file__).with_name("page.css")
 LIGHT = "{ background: var(--lit) }"
 
 
@@ -82,22 +63,23 @@ class Group(NamedTuple):
 
 def page(case: Case) -> str:
     """Return the page of a file."""
-    say = html.escape
-    name = printable(case.source.name)
+    name, verdict = html.escape(printable(case.source.name)), html.escape(case.verdict())
     told = "".join(card(section) for section in sections(case))
-    near = (
-        f"<section><h2>Bytes around the error</h2><pre>{around(case)}</pre></section>"
-        if case.refusal
-        else ""
-    )
+    near = ""
+    if case.refusal:
+        near = f"<section><h2>Bytes around the error</h2><pre>{around(case)}</pre></section>"
     wholes = "".join(article(case, whole) for whole in case.wholes)
     lit = ",".join(f".part:has(.{key}:hover) .{key}" for key in map(key_of, range(TOGETHER)))
+    style = STYLE.read_text(encoding="utf-8")
     policy = "default-src 'none'; style-src 'unsafe-inline'"
     return (
-        f"{PAGE_HEAD}<title>{say(name)}</title>"
-        f'<meta http-equiv="Content-Security-Policy" content="{policy}"><meta name="viewport" content="width=device-width">'
-        f"<style>{STYLE}{lit}{LIGHT}</style></head>\n<body><header><h1>{say(name)}</h1><p>{say(case.verdict())}</p></header>\n<main>"
-        f"{near}{f'<section class=told>{told}</section>' if told else ''}{listing(case)}{wholes}</main></body></html>\n"
+        f"{PAGE_HEAD}<title>{name}</title>"
+        f'<meta http-equiv="Content-Security-Policy" content="{policy}">'
+        '<meta name="viewport" content="width=device-width">'
+        f"<style>{style}{lit}{LIGHT}</style></head>\n"
+        f"<body><header><h1>{name}</h1><p>{verdict}</p></header>\n<main>"
+        f"{near}{f'<section class=told>{told}</section>' if told else ''}{listing(case)}{wholes}"
+        "</main></body></html>\n"
     )
 
 
@@ -112,24 +94,18 @@ def card(section: Section) -> str:
     for line in section.lines:
         text = html.escape(line[2:] if line[:2] == "* " else line)
         if "&gt;" in text and "&lt;" in text and line.count(">") == 1:
-            parts.append(
-                f"<p class=bar>{text.replace('&gt;', '<b>&gt;').replace('&lt;', '&lt;</b>')}</p>"
-            )
+            marked = text.replace("&gt;", "<b>&gt;").replace("&lt;", "&lt;</b>")
+            parts.append(f"<p class=bar>{marked}</p>")
         else:
             parts.append(f"<ul><li>{text}</li></ul>" if line[:2] == "* " else f"<p>{text}</p>")
-    return (
-        f"<div><h2>{html.escape(section.title)}</h2>{''.join(parts).replace('</ul><ul>', '')}</div>"
-    )
+    body = "".join(parts).replace("</ul><ul>", "")
+    return f"<div><h2>{html.escape(section.title)}</h2>{body}</div>"
 
 
 def listing(case: Case) -> str:
     """Return the list of the envelopes, or nothing if the file has one."""
-    rows = list(lines_of_listing(case))
-    return (
-        f"<section><h2>Envelopes</h2><pre>{html.escape(chr(10).join(rows))}</pre></section>"
-        if rows
-        else ""
-    )
+    rows = html.escape("\n".join(lines_of_listing(case)))
+    return f"<section><h2>Envelopes</h2><pre>{rows}</pre></section>" if rows else ""
 
 
 def around(case: Case) -> str:
@@ -137,13 +113,9 @@ def around(case: Case) -> str:
     refusal = case.refusal
     if refusal is None:
         return ""
-    begin, end = max(0, refusal.octet_in_file - BEFORE), min(
-        case.source.size, refusal.octet_in_file + AFTER
-    )
-    spans = [
-        Span(begin, refusal.octet_in_file, "", False, 0),
-        Span(refusal.octet_in_file, end, "later", False, 0),
-    ]
+    mark = refusal.octet_in_file
+    begin, end = max(0, mark - BEFORE), min(case.source.size, mark + AFTER)
+    spans = [Span(begin, mark, "", False, 0), Span(mark, end, "later", False, 0)]
     return "".join(rows(case, 0, joined(spans), "around"))
 
 
@@ -157,13 +129,12 @@ def article(case: Case, whole: Whole) -> str:
     groups = list(joined(within(list(spans(whole, items)), OCTETS // of_all)))
     texts = [*whole.instants(), *whole.sizes()]
     nth, at = whole.found.nth, whole.found.at
-    parts = "".join(
-        part_of(case, whole, items, groups, part)
-        for part in range(1 + max(0, len(items) - 1) // TOGETHER)
-    )
+    numbers = range(1 + max(0, len(items) - 1) // TOGETHER)
+    parts = "".join(part_of(case, whole, items, groups, part) for part in numbers)
+    footer = "".join(f"<p>{html.escape(text)}</p>" for text in texts)
     return (
         f"<article id=envelope{nth}><h2>Envelope {nth:,}, at octet {at:,} of the file</h2>{parts}"
-        f"<footer>{''.join(f'<p>{html.escape(text)}</p>' for text in texts)}</footer></article>\n"
+        f"<footer>{footer}</footer></article>\n"
     )
 
 
@@ -172,14 +143,12 @@ def part_of(
 ) -> str:
     """Return one part of an envelope: the bytes of some items and their meaning."""
     prefix, together = f"e{whole.found.nth}", items[part * TOGETHER : (part + 1) * TOGETHER]
-    octets = "".join(
-        rows(
-            case, whole.found.at, (group for group in groups if group.spans[0].part == part), prefix
-        )
-    )
+    own = (group for group in groups if group.spans[0].part == part)
+    octets = "".join(rows(case, whole.found.at, own, prefix))
     return (
-        f'<div class=part><pre tabindex=0 aria-label="Bytes; the list after them has their meaning">{octets}</pre>'
-        f'<ol aria-label="Meaning of the bytes">{"".join(meaning(whole, together, prefix))}</ol></div>'
+        '<div class=part><pre tabindex=0 aria-label="Bytes; the list after them has their meaning">'
+        f'{octets}</pre><ol aria-label="Meaning of the bytes">'
+        f'{"".join(meaning(whole, together, prefix))}</ol></div>'
     )
 
 
@@ -195,13 +164,8 @@ def spans(whole: Whole, items: List[Optional[Item]]) -> Iterator[Span]:
             end = begin if item.record == 8 else min(end, begin + DATA)
         yield Span(begin, min(end, whole.found.length), key, False, part)
     if whole.refusal is not None and whole.tries is not None and not whole.tries.ends:
-        yield Span(
-            whole.found.length,
-            whole.found.length + AFTER,
-            "later",
-            False,
-            max(0, len(items) - 1) // TOGETHER,
-        )
+        begin, part = whole.found.length, max(0, len(items) - 1) // TOGETHER
+        yield Span(begin, begin + AFTER, "later", False, part)
 
 
 def within(parts: List[Span], most: int) -> List[Span]:
@@ -209,20 +173,14 @@ def within(parts: List[Span], most: int) -> List[Span]:
     sizes = [part.end - part.begin for part in parts]
     if sum(sizes) <= most:
         return parts
-    front = [part for part, come in zip(parts, itertools.accumulate(sizes)) if come <= most // 2]
-    back = [
-        part
-        for part, come in zip(reversed(parts), itertools.accumulate(reversed(sizes)))
-        if come <= most // 2
-    ]
+    half, from_end = most // 2, sizes[::-1]
+    front = [part for part, end in zip(parts, itertools.accumulate(sizes)) if end <= half]
+    back = [part for part, end in zip(parts[::-1], itertools.accumulate(from_end)) if end <= half]
     # (a single span may be longer)
-    front = front or [parts[0]._replace(end=min(parts[0].end, parts[0].begin + most // 2))]
-    return [
-        *front,
-        *reversed(
-            back or [parts[-1]._replace(begin=max(parts[-1].begin, parts[-1].end - most // 2))]
-        ),
-    ]
+    first, last = parts[0], parts[-1]
+    front = front or [first._replace(end=min(first.end, first.begin + half))]
+    back = back or [last._replace(begin=max(last.begin, last.end - half))]
+    return [*front, *reversed(back)]
 
 
 def joined(spans: List[Span]) -> Iterator[Group]:
@@ -269,38 +227,36 @@ def row_of(
     texts: List[str] = []
     last = ""
     for octet in range(row, row + 16):
-        value, part = owned[octet - begin] if begin <= octet < begin + len(owned) else (0, None)
-        names = "" if part is None else f"{part.key}{' t' if part.tag else ''}".strip()
-        cell, text = (f"{value:02X}", html.escape(plain(bytes([value])))) if part else ("  ", " ")
-        between = (
-            "]" if octet == mark + 1 and mark >= begin else "[" if octet == mark and part else " "
-        )
-        if octet == mark and part:
-            cell, text = (
-                f"<mark id={prefix}r><span class=vh>refused: </span>{cell}</mark>",
-                f"<mark>{text}</mark>",
-            )
-        anchor = (
-            f"<a id={prefix}o{octet}></a>"
-            if part and octet == part.begin and prefix != "around"
-            else ""
-        )
-        if names != last:
-            cells.append(
-                "</span>" * bool(last)
-                + between
-                + anchor
-                + f'<span class="{names}">' * bool(names)
-                + cell
-            )
+        is_owned = begin <= octet < begin + len(owned)
+        value, part = owned[octet - begin] if is_owned else (0, None)
+        names, anchor, cell, text = "", "", "  ", " "
+        if part is not None:
+            names = f"{part.key}{' t' if part.tag else ''}".strip()
+            cell, text = cell_of(value, octet == mark, prefix)
+            if octet == part.begin and prefix != "around":
+                anchor = f"<a id={prefix}o{octet}></a>"
+        between = "[" if octet == mark and part is not None else " "
+        if octet == mark + 1 and mark >= begin:
+            between = "]"
+        if names == last:
+            cells.append(f"{between}{anchor}{cell}")
         else:
-            cells.append(between + anchor + cell)
+            cells += "</span>" * bool(last), between, anchor
+            cells += f'<span class="{names}">' * bool(names), cell
         texts.append(text)
         last = names
-    close = "</span>" * bool(last) + (
-        "]" if mark == row + 15 and begin <= mark < begin + len(owned) else " "
-    )
+    ends_marked = mark == row + 15 and begin <= mark < begin + len(owned)
+    close = "</span>" * bool(last) + ("]" if ends_marked else " ")
     return f"<b>{at + row:08X}</b>{''.join(cells)}{close} {''.join(texts)}\n"
+
+
+def cell_of(value: int, is_marked: bool, prefix: str) -> Tuple[str, str]:
+    """Return a byte in hexadecimal and as text."""
+    cell, text = f"{value:02X}", html.escape(plain(bytes([value])))
+    if not is_marked:
+        return cell, text
+    hidden = f"<mark id={prefix}r><span class=vh>refused: </span>"
+    return f"{hidden}{cell}</mark>", f"<mark>{text}</mark>"
 
 
 def meaning(whole: Whole, items: List[Optional[Item]], prefix: str) -> Iterator[str]:
@@ -317,9 +273,9 @@ def meaning(whole: Whole, items: List[Optional[Item]], prefix: str) -> Iterator[
             yield "</ol></li>" if inside else "<li><ol>"
             inside = not inside
         here = whole.tries is not None and item is whole.tries.here
-        label = (
-            f"{item.label}, {counted(item.size, 'octet')}" if item.size is not None else item.label
-        )
+        label = item.label
+        if item.size is not None:
+            label += f", {counted(item.size, 'octet')}"
         refused = " <b class=here>refused here</b>" if here else ""
         yield (
             f'<li class="{key_of(nth)}"><a href=#{prefix}o{item.at}><small>{item.at:,}</small>'

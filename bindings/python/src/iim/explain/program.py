@@ -20,14 +20,23 @@ import errno
 import os
 import shutil
 import sys
-from typing import List
+from typing import List, NamedTuple, Optional
 
 import iim
 from iim.explain.case import Case
 from iim.explain.text import Paint, lines
 from iim.explain.walk import Source
 from iim.explain.words import printable
-from iim.program import CannotWrite, Failed, complain, naming, print_text, program_name
+from iim.program import (
+    CannotWrite,
+    Failed,
+    add_limits,
+    check_limits,
+    complain,
+    naming,
+    print_text,
+    program_name,
+)
 from iim.safe_output import OutputRefused, check_output, replace_file
 
 # The minimum columns of a row on a terminal, and in a file or pipe.
@@ -40,47 +49,81 @@ def width() -> int:
     return max(columns, NARROW if sys.stdout.isatty() else WIDE)
 
 
-def main(asked: argparse.Namespace) -> int:
-    """Explain the file that the arguments name, and return the exit status.
+def main(arguments: argparse.Namespace) -> int:
+    """Explain the file that the arguments name.
+
+    Args:
+        arguments: The arguments, as `parse` returns them.
+
+    Returns:
+        The exit status.
 
     Raises:
         Failed: The file can't be read, or the page can't be written.
         CannotWrite: Standard output can't be written.
     """
-    name = "standard input" if asked.file == "-" else printable(asked.file)
+    name = "standard input" if arguments.file == "-" else printable(arguments.file)
     if sys.stdout is None:
         raise CannotWrite(os.strerror(errno.EBADF))
     with naming(name):
-        source = Source(asked.file)
-        try:
-            # (the whole result is generated before anything is written)
-            if asked.html is not None:
-                check_output(asked.html, [source.given], force=asked.force)
-            case = Case(source, iim.Limits(*asked.limits), asked.envelope)
-            if asked.envelope is not None and not case.wholes:
-                complain(
-                    f"{program_name(True)}: {name}: there is no envelope {asked.envelope}: the file has {case.count}"
-                )
-                return 2
-            text = "\n".join(
-                [
-                    *lines(
-                        case, Paint(sys.stdout.isatty() and not os.environ.get("NO_COLOR")), width()
-                    ),
-                    "",
-                ]
-            )
-            page = page_of(case) if asked.html is not None else ""
-        except iim.RefusedError:
-            # (bytes that were accepted a moment ago)
-            raise Failed(f"{name}: the file was changed while it was read") from None
-        except OutputRefused as fault:
-            raise Failed(printable(str(fault))) from None
-    if asked.html is not None:
-        write_page(asked.html, page, source, asked.force)
-    with naming("standard output"):
-        print_text(text)
-    return 1 if case.refusal else 0
+        source = Source(arguments.file)
+    with source:
+        with naming(name):
+            explanation = explain(source, name, arguments)
+        if explanation is None:
+            return 2
+        if arguments.html is not None:
+            write_page(arguments.html, explanation.page, source, arguments.force)
+        with naming("standard output"):
+            print_text(explanation.text)
+        return int(explanation.is_refused)
+
+
+class Explanation(NamedTuple):
+    """The output of the program.
+
+    Attributes:
+        text: The text for standard output.
+        page: The HTML page, or an empty text if none is wanted.
+        is_refused: Whether an envelope was rejected.
+    """
+
+    text: str
+    page: str
+    is_refused: bool
+
+
+def explain(source: Source, name: str, arguments: argparse.Namespace) -> Optional[Explanation]:
+    """Generate the whole output, before anything is written.
+
+    Args:
+        source: The file.
+        name: The name of the file, for messages.
+        arguments: The arguments of the program.
+
+    Returns:
+        The output, or `None` if there is no such envelope, which is reported.
+
+    Raises:
+        Failed: The page must not be written, or the file was changed while it was read.
+    """
+    try:
+        if arguments.html is not None:
+            check_output(arguments.html, [source.given], force=arguments.force)
+        case = Case(source, iim.Limits(*arguments.limits), arguments.envelope)
+        if arguments.envelope is not None and not case.wholes:
+            missing = f"there is no envelope {arguments.envelope}: the file has {case.count}"
+            complain(f"{program_name(True)}: {name}: {missing}")
+            return None
+        paint = Paint(sys.stdout.isatty() and not os.environ.get("NO_COLOR"))
+        text = "\n".join([*lines(case, paint, width()), ""])
+        page = page_of(case) if arguments.html is not None else ""
+    except iim.RefusedError:
+        # (bytes that were accepted a moment ago)
+        raise Failed(f"{name}: the file was changed while it was read") from None
+    except OutputRefused as fault:
+        raise Failed(printable(str(fault))) from None
+    return Explanation(text, page, case.refusal is not None)
 
 
 def page_of(case: Case) -> str:
@@ -100,10 +143,12 @@ def write_page(path: str, page: str, source: Source, force: bool) -> None:
             raise Failed(printable(str(fault))) from None
 
 
-def parse(given: List[str]) -> argparse.Namespace:
+def parse(words: List[str]) -> argparse.Namespace:
     """Parse the arguments of `explain`."""
-    description = "Show what a file of envelopes contains and, if an envelope is rejected, where, why, and which bytes are accepted there."
-    limits = "maximum bytes of data, and number of datasets, in records 1 and 2 together [default: 65536 512]"
+    description = (
+        "Show what a file of envelopes contains and, if an envelope is rejected, where, why, and"
+        " which bytes are accepted there."
+    )
     parser = argparse.ArgumentParser(program_name(True), description=description)
     parser.add_argument("file", metavar="FILE", help="file to read; - is standard input")
     parser.add_argument(
@@ -116,14 +161,12 @@ def parse(given: List[str]) -> argparse.Namespace:
     parser.add_argument(
         "--force",
         action="store_true",
-        help="replace OUT even if it was not written by --html or is a symbolic link; never an input",
+        help="replace OUT even if it was not written by --html or is a symbolic link; never an"
+        " input",
     )
-    parser.add_argument(
-        "--limits", metavar=("OCTETS", "FIELDS"), type=int, nargs=2, default=iim.WIRE, help=limits
-    )
-    asked = parser.parse_args(given)
-    if not all(1 <= limit <= iim.GREATEST_LIMIT for limit in asked.limits):
-        parser.error(f"a limit must be from 1 to {iim.GREATEST_LIMIT}")
-    if asked.envelope is not None and asked.envelope < 1:
+    add_limits(parser)
+    arguments = parser.parse_args(words)
+    check_limits(parser, arguments.limits)
+    if arguments.envelope is not None and arguments.envelope < 1:
         parser.error("envelopes are numbered from 1")
-    return asked
+    return arguments

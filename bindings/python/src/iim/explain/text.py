@@ -1,8 +1,8 @@
 """Write an explanation as text."""
 from __future__ import annotations
 
-import os
 import textwrap
+from pathlib import Path
 from typing import Iterator, List, Optional
 
 import iim
@@ -25,9 +25,11 @@ class Paint:
     CODES = {"title": "1", "bad": "1;31", "good": "32", "dim": "2"}
 
     def __init__(self, colours: bool) -> None:
+        """Choose whether to colour text."""
         self._colours = colours
 
     def __call__(self, kind: str, text: str) -> str:
+        """Return a text in the colour of a kind."""
         return f"\033[{self.CODES[kind]}m{text}\033[0m" if self._colours and text.strip() else text
 
 
@@ -41,7 +43,7 @@ def wrapped(text: str, columns: int, indent: str = "  ", hanging: str = "  ") ->
 def heading(case: Case, paint: Paint, columns: int) -> Iterator[str]:
     """Yield the name of the file and the verdict, in one line if they fit."""
     verdict, kind = case.verdict(), "bad" if case.refusal else "good"
-    called = printable(case.source.name), printable(os.path.basename(case.source.name))
+    called = printable(case.source.name), printable(Path(case.source.name).name)
     fits = [each for each in called if len(each) + len(verdict) + 2 <= columns]
     if fits:
         yield paint("title", fits[0]) + ": " + paint(kind, verdict)
@@ -76,7 +78,7 @@ def lines(case: Case, paint: Paint, columns: int = COLUMNS) -> Iterator[str]:
         )
 
 
-def known_by(found: Found) -> str:
+def id_of(found: Found) -> str:
     """Return the identifier of an envelope as text."""
     return " ".join("?" if part is None else shown(part) for part in found.id)
 
@@ -92,10 +94,12 @@ def listing(case: Case) -> Iterator[str]:
     before = 0
     for found, row in zip(listed, rows) if len(listed) > 1 else ():
         if found.nth > before + 1:
-            yield f"  ... {counted(found.nth - before - 1, 'envelope')}: --envelope N shows one of them"
+            more = counted(found.nth - before - 1, "envelope")
+            yield f"  ... {more}: --envelope N shows one of them"
         before = found.nth
         refused = "  REFUSED" if case.refusal and found.nth == case.refusal.nth else ""
-        yield f"  {row[0]:>{nth}}  at {row[1]:<{at}}  {row[2]:>{length}} octets  {known_by(found)}{refused}"
+        size = f"{row[2]:>{length}} octets"
+        yield f"  {row[0]:>{nth}}  at {row[1]:<{at}}  {size}  {id_of(found)}{refused}"
 
 
 def dump(case: Case, paint: Paint) -> Iterator[str]:

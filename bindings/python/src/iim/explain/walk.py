@@ -7,7 +7,7 @@ import os
 import stat
 import sys
 import tempfile
-from typing import BinaryIO, Iterator, List, NamedTuple, Optional, cast
+from typing import Iterator, List, NamedTuple, Optional, cast
 
 import iim
 from iim.explain.words import counted, shown, titled, value_in_words
@@ -18,40 +18,18 @@ BLOCK = 65_536
 HEAD, TAIL = 98_304, 16_384
 
 # The part of the message that is its text; the name of the byte that enters each part, and of a
-# byte
-# after which the part is the same.
+# byte after which the part is the same.
 TEXT = 9
-STEPS = {
-    1: "SOH",
-    2: "number",
-    3: "SP",
-    4: "priority",
-    5: "SP",
-    6: "SP",
-    7: "SP",
-    8: "gap",
-    9: "STX",
-    10: "ETX",
-    11: "EOT",
-}
-STAYS = {
-    0: "filler",
-    1: "source",
-    2: "number",
-    5: "category",
-    6: "words",
-    7: "info",
-    8: "gap",
-    10: "trailer",
-    11: "filler",
-}
+STEPS = dict(enumerate("SOH number SP priority SP SP SP gap STX ETX EOT".split(), 1))
+STAYS = {0: "filler", 1: "source", 2: "number", 5: "category", 6: "words", 7: "info", 8: "gap"}
+STAYS.update({10: "trailer", 11: "filler"})
 
 
 class Source:
     """A file that can be read at any offset.
 
     Standard input begins at its current position. A file that can't be read twice, such as a pipe,
-    is copied to a temporary file without a name.
+    is copied to a temporary file without a name. It is a context manager that closes the file.
 
     Attributes:
         name: The path, or `-` for standard input.
@@ -60,27 +38,40 @@ class Source:
     """
 
     def __init__(self, path: str) -> None:
+        """Open a file.
+
+        Args:
+            path: The path, or `-` for standard input.
+
+        Raises:
+            OSError: The file can't be read.
+        """
         self.name = path
         if path == "-" and sys.stdin is None:
             raise OSError(errno.EBADF, os.strerror(errno.EBADF))
         opened = open(0 if path == "-" else path, "rb", buffering=0, closefd=path != "-")
         self.given = opened.fileno()
-        self._input, self._file, self._begin = opened, opened.fileno(), 0
-        there = os.fstat(self._file)
-        if stat.S_ISREG(there.st_mode) and there.st_size:
+        self._input, self._file, self._begin = opened, self.given, 0
+        self._spool: io.IOBase = opened
+        status = os.fstat(self._file)
+        if stat.S_ISREG(status.st_mode) and status.st_size:
             self._begin = os.lseek(self._file, 0, os.SEEK_CUR)
-            self.size = max(0, there.st_size - self._begin)
+            self.size = max(0, status.st_size - self._begin)
             return
-        if (
-            stat.S_ISBLK(there.st_mode)
-            or stat.S_ISCHR(there.st_mode)
-            and not opened.isatty()
-            and opened.read(1)
-        ):
+        if is_device(opened, status.st_mode):
             raise OSError(errno.EINVAL, "not a regular file")
-        self._spool = spooled(opened)
+        self._spool = spool_of(opened)
         self._file = self._spool.fileno()
         self.size = os.fstat(self._file).st_size
+
+    def __enter__(self) -> Source:
+        """Return the file."""
+        return self
+
+    def __exit__(self, *_: object) -> None:
+        """Close the file, and its copy."""
+        self._spool.close()
+        self._input.close()
 
     def take(self, at: int, count: int) -> bytes:
         """Return `count` bytes from an offset on, or fewer at the end of the file."""
@@ -95,18 +86,24 @@ class Source:
         return b"".join(parts)
 
 
-def spooled(opened: io.FileIO) -> BinaryIO:
+def is_device(opened: io.FileIO, mode: int) -> bool:
+    """Check whether a file of a mode is a device that is not empty and no terminal."""
+    if stat.S_ISCHR(mode) and not opened.isatty():
+        return bool(opened.read(1))
+    return stat.S_ISBLK(mode)
+
+
+def spool_of(opened: io.FileIO) -> io.IOBase:
     """Return a temporary file with the remaining bytes of a pipe or of a file of unknown size."""
-    spool = cast(BinaryIO, tempfile.TemporaryFile())
+    spool = cast(io.BufferedRandom, tempfile.TemporaryFile())
     while (piece := opened.read(BLOCK)) != b"":
         if piece is None:
             raise OSError(errno.EAGAIN, os.strerror(errno.EAGAIN))
         try:
             spool.write(piece)
         except OSError as fault:
-            raise OSError(
-                fault.errno, f"a copy in {tempfile.gettempdir()}: {fault.strerror}"
-            ) from None
+            reason = f"a copy in {tempfile.gettempdir()}: {fault.strerror}"
+            raise OSError(fault.errno, reason) from None
     spool.flush()
     return spool
 
@@ -162,6 +159,14 @@ class Walk:
     """
 
     def __init__(self, source: Source, at: int, end: int, limits: iim.Limits) -> None:
+        """Read an envelope.
+
+        Args:
+            source: The file.
+            at: The offset of the envelope in the file.
+            end: Its length, or the offset of the rejected byte in it.
+            limits: The limits on records 1 and 2.
+        """
         self._source, self._at, self._end = source, at, end
         self._receiver = iim.Receiver(limits)
         self.octets = 0

@@ -1,4 +1,4 @@
-"""Write bytes, datasets and their values as text, for explain.py."""
+"""Write bytes, datasets and their values as text."""
 from __future__ import annotations
 
 import datetime
@@ -23,34 +23,41 @@ NAMED = {
 # The parts of a message, as iim.h numbers them; the names in the row of parts; and each part's
 # index there.
 PARTS = [
-    "the filler before SOH", "the source", "the number", "the priority", "the SP after the priority", "the category", "the words",
-    "the info", "the gap", "the text", "the trailer", "the filler after EOT",
-]  # fmt: skip
-ROW = [
-    "filler",
-    "SOH",
-    "source",
-    "number",
-    "priority",
-    "category",
-    "words",
-    "info",
-    "gap",
-    "STX",
-    "text",
-    "ETX",
-    "trailer",
-    "EOT",
-    "filler",
+    "the filler before SOH",
+    "the source",
+    "the number",
+    "the priority",
+    "the SP after the priority",
+    "the category",
+    "the words",
+    "the info",
+    "the gap",
+    "the text",
+    "the trailer",
+    "the filler after EOT",
 ]
+ROW = (
+    "filler SOH source number priority category words info gap STX text ETX trailer EOT filler"
+).split()
 OF_ROW = [0, 2, 3, 4, 4, 5, 6, 7, 8, 10, 12, 14]
 
 # The valid values of a dataset, by the number of its kind.
 KINDS = [
-    "", "graphic octets (21 to 7E, 80 to FF)", "graphic octets and spaces", "graphic octets, spaces and line ends", "letters", "digits",
-    "a date CCYYMMDD", "a date CCYYMMDD, whose month or day may be 00", "a time HHMMSS, + or -, HHMM", "a binary number", "any octets",
-    "00 or 01", "a binary number below 2^63", "a binary number from 1 to 2^63 - 1",
-]  # fmt: skip
+    "",
+    "graphic octets (21 to 7E, 80 to FF)",
+    "graphic octets and spaces",
+    "graphic octets, spaces and line ends",
+    "letters",
+    "digits",
+    "a date CCYYMMDD",
+    "a date CCYYMMDD, whose month or day may be 00",
+    "a time HHMMSS, + or -, HHMM",
+    "a binary number",
+    "any octets",
+    "00 or 01",
+    "a binary number below 2^63",
+    "a binary number from 1 to 2^63 - 1",
+]
 DIGITS = 5
 TEXTS = range(1, DIGITS + 1)
 DATE, PART_DATE, TIME, BINARY, OCTETS, MODE, SIZE, SIZE_FROM_ONE = range(6, 14)
@@ -76,11 +83,12 @@ CLASSES = [
     b"\3",
     b"\4",
 ]
-_NAMED = {octet for each in CLASSES for octet in each}
+_OF_CLASSES = {octet for each in CLASSES for octet in each}
 CLASSES += [
-    bytes(octet for octet in range(33, 127) if octet not in _NAMED), bytes(range(128, 256)),
-    bytes(octet for octet in (*range(32), 127) if octet not in _NAMED),
-]  # fmt: skip
+    bytes(octet for octet in range(33, 127) if octet not in _OF_CLASSES),
+    bytes(range(128, 256)),
+    bytes(octet for octet in (*range(32), 127) if octet not in _OF_CLASSES),
+]
 
 
 def shown(octets: bytes, most: int = 40) -> str:
@@ -185,7 +193,8 @@ def titled(record: int, number: Optional[int]) -> str:
     """Return the numbers and the name of a dataset."""
     if number is None:
         return f"{record}:?"
-    return f"{record}:{number:02} {iim.dataset_name(record, number) or '(not interpreted)' * (record in (1, 2))}".strip()
+    unnamed = "(not interpreted)" if record in (1, 2) else ""
+    return f"{record}:{number:02} {iim.dataset_name(record, number) or unnamed}".strip()
 
 
 def counted(number: int, what: str) -> str:
@@ -248,8 +257,8 @@ def value_in_words(record: int, number: int, octets: bytes, count: int) -> str:
         return time_in_words(octets)
     if admitted and kind in (BINARY, MODE, SIZE, SIZE_FROM_ONE):
         value = int.from_bytes(octets, "big")
-        known = FORMATS if (record, number) == (1, 20) else MODES if kind == MODE else {}
-        return f"{value:,}" + (f", {known[value]}" if value in known else "")
+        meanings = FORMATS if (record, number) == (1, 20) else MODES if kind == MODE else {}
+        return f"{value:,}" + (f", {meanings[value]}" if value in meanings else "")
     if admitted and (record, number) in ((1, 60), (2, 10)):
         digit = int(octets)
         return f"{digit}" + (f", {PRIORITIES[digit]}" if digit in PRIORITIES else "")
