@@ -54,7 +54,9 @@ class Wheel(bdist_wheel):
         if facts.exists():
             # (all other files are written by now, except RECORD, which lists the SBOM too)
             sbom = [sys.executable, str(HERE / "sbom"), "write", str(facts), "iim"]
-            subprocess.run([*sbom, str(info.parent), str(info / "sboms" / "iim.spdx.json")], check=True)
+            subprocess.run(
+                [*sbom, str(info.parent), str(info / "sboms" / "iim.spdx.json")], check=True
+            )
 
 
 setup(version=read_version(), distclass=WithLibrary, cmdclass={"bdist_wheel": Wheel})

@@ -25,7 +25,11 @@ CannotWrite FAILED Failed STOPPED Terminated complain main naming print_line pri
 
 # The properties and methods of release 2, each with what replaces it.
 OLD_OF_ENVELOPES = ("fields", "datasets"), ("lines", "story_lines"), ("as_json", "to_dict")
-OLD_OF_RECEIVERS = ("ticket", "current_ticket"), ("place", "current_position"), ("next", "next_bytes")
+OLD_OF_RECEIVERS = (
+    ("ticket", "current_ticket"),
+    ("place", "current_position"),
+    ("next", "next_bytes"),
+)
 
 
 def value_of(thing: object, name: str) -> object:
@@ -39,14 +43,22 @@ def test_generated_module_is_up_to_date(top: Path) -> None:
     assert subprocess.run([sys.executable, str(generator), "--check"]).returncode == 0
 
 
-def test_each_named_dataset_has_a_property(library: Path, count_cases: Callable[[int], None]) -> None:
+def test_each_named_dataset_has_a_property(
+    library: Path, count_cases: Callable[[int], None]
+) -> None:
     rows = [(record, number) for record in (1, 2) for number in range(256)]
     titles = {each: iim.dataset_name(*each) for each in rows}
     assert datasets.TITLES == {each: title for each, title in titles.items() if title is not None}
     found: List[Tuple[int, int]] = []
     for name, (record, number, repeats) in datasets.ATTRIBUTES.items():
         rule, made = rules.ROWS[record, number], getattr(datasets.NamedDatasets, name).fget
-        kind = "List[Octets]" if rule.repeats else "Octets" if rule.mandatory else "Optional[Octets]"
+        kind = (
+            "List[Octets]"
+            if rule.repeats
+            else "Octets"
+            if rule.is_mandatory
+            else "Optional[Octets]"
+        )
         assert (name, made.__annotations__["return"], repeats) == (name, kind, rule.repeats)
         found.append((record, number))
     assert sorted(found) == sorted(datasets.TITLES)

@@ -2,10 +2,10 @@
 from __future__ import annotations
 
 from types import TracebackType
-from typing import Generator, Iterator, Optional, Type, TypeVar
+from typing import Any, Generator, Iterator, Optional, Type, TypeVar
 
 Item = TypeVar("Item")
-Self = TypeVar("Self", bound="Stream[object]")
+Self = TypeVar("Self", bound="Stream[Any]")
 
 
 class Stream(Iterator[Item]):
