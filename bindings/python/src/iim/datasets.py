@@ -105,7 +105,7 @@ class NamedDatasets:
         raise NotImplementedError
 
     def first(self, record: int, number: int) -> Optional[Octets]:
-        """Return the value of the first dataset with these numbers, or `None` if there is none."""
+        """Return the value of the first dataset with these numbers, or `None` if missing."""
         raise NotImplementedError
 
     @property

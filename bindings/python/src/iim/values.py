@@ -362,7 +362,7 @@ class Envelope(NamedDatasets):
         return list(self._by_number.get((record, number), ()))
 
     def first(self, record: int, number: int) -> Optional[Octets]:
-        """Return the value of the first dataset with these numbers, or `None` if there is none."""
+        """Return the value of the first dataset with these numbers, or `None` if missing."""
         return next(iter(self._by_number.get((record, number), ())), None)
 
     def __repr__(self) -> str:

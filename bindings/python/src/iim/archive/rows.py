@@ -411,9 +411,9 @@ def file_line(name: str, state: str, reason: Optional[str]) -> str:
     return f'{{"file": {name}, "{state}": true}}\n'
 
 
-def refusal_line(name: str, told: str) -> str:
+def refusal_line(name: str, refusal: str) -> str:
     """Return the line of a refusal."""
-    return f'{{"file": {name}, {told[1:]}\n'
+    return f'{{"file": {name}, {refusal[1:]}\n'
 
 
 def envelope_front(name: str, row: EnvelopeRow, now: datetime.datetime, second: int) -> str:

@@ -42,14 +42,14 @@ Counter = Any
 GRACE = 5
 
 
-def serve(pipe: Connection, other: Connection, reader: Reader, begun: Counter) -> None:
+def serve(pipe: Connection, other: Connection, reader: Reader, started: Counter) -> None:
     """Read batches until Ctrl-C, or until the parent process ends.
 
     Args:
         pipe: This process's end of the pipe.
         other: The parent's end of the pipe, which is closed here.
         reader: The function that reads a batch.
-        begun: The number of files started, for the parent.
+        started: The number of files that were started, for the parent.
     """
     for each in signal.SIGINT, signal.SIGTERM:
         signal.signal(each, signal.SIG_DFL)
@@ -59,15 +59,15 @@ def serve(pipe: Connection, other: Connection, reader: Reader, begun: Counter) -
     # (if the parent ended before that, the pipe is at its end once no process has its other end; a
     # worker started later, which has a copy of that end, ends first)
     other.close()
-    watch_reads(functools.partial(note_file, begun))
+    watch_reads(functools.partial(note_file, started))
     with contextlib.suppress(EOFError, OSError):
         while True:
             pipe.send_bytes(reader(pipe.recv()))
 
 
-def note_file(begun: Counter) -> None:
+def note_file(started: Counter) -> None:
     """Count one more file, for the parent process."""
-    begun.value += 1
+    started.value += 1
 
 
 class Stuck(OSError):
@@ -87,8 +87,8 @@ class Worker:
         self._pipe, its = multiprocessing.Pipe()
         self._most, self._killed = most, False
         # (the number of files that it has tried to open)
-        self._begun: Counter = multiprocessing.RawValue(ctypes.c_uint64, 0)
-        arguments = its, self._pipe, reader, self._begun
+        self._started: Counter = multiprocessing.RawValue(ctypes.c_uint64, 0)
+        arguments = its, self._pipe, reader, self._started
         self._process = multiprocessing.Process(target=serve, args=arguments, daemon=True)
         self._process.start()
         its.close()
@@ -102,13 +102,13 @@ class Worker:
             Stuck: The process is stuck in a read, and must be killed.
         """
         self._pipe.send(batch)
-        begun, since = -1, time.monotonic()
+        started, since = -1, time.monotonic()
         # (the process can't end a read that blocks in the kernel, such as of a lost file server)
         while not self._pipe.poll(1):
             if self._killed:
                 raise EOFError
-            if begun != self._begun.value:
-                begun, since = self._begun.value, time.monotonic()
+            if started != self._started.value:
+                started, since = self._started.value, time.monotonic()
             elif time.monotonic() - since > self._most + GRACE:
                 raise Stuck
         return self._pipe.recv_bytes()
@@ -148,16 +148,16 @@ class Pool:
         self._stopped = False
         # (one process is started at a time, so that none inherits the end of another one's pipe)
         self._lock = threading.Lock()
-        # (None stands for a process that is not started yet)
+        # (`None` is a process that is not started yet)
         self._idle: queue.SimpleQueue[Optional[Worker]] = queue.SimpleQueue()
         self._count = count
         self._threads = concurrent.futures.ThreadPoolExecutor(count)
 
     def __enter__(self) -> Pool:
-        """Start the processes. Raise `Failure` if the system does not allow so many."""
+        """Start the processes. Raise `Failure` if the system does not allow that number."""
         try:
             for _ in range(self._count):
-                self._idle.put(self._begin())
+                self._idle.put(self._start_worker())
         except OSError as fault:
             self.stop()
             raise Failure(f"--workers {self._count}: {fault.strerror or fault}") from None
@@ -170,7 +170,7 @@ class Pool:
         """Kill the processes."""
         self.stop()
 
-    def _begin(self) -> Worker:
+    def _start_worker(self) -> Worker:
         """Start a process. Raise `Stopped` if the pool was stopped."""
         with self._lock:
             if self._stopped:
@@ -179,7 +179,7 @@ class Pool:
             self._workers.append(worker)
             return worker
 
-    def _end(self, worker: Worker) -> None:
+    def _end_worker(self, worker: Worker) -> None:
         """End a process that died."""
         LOGGER.info("a worker was lost; another one reads its files")
         with self._lock:
@@ -193,11 +193,11 @@ class Pool:
         """
         worker = self._idle.get()
         try:
-            worker = worker or self._begin()
+            worker = worker or self._start_worker()
             return worker.read(batch)
         except (EOFError, OSError):
             if worker is not None:
-                self._end(worker)
+                self._end_worker(worker)
                 worker = None
             raise
         finally:

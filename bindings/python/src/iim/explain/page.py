@@ -64,12 +64,13 @@ class Group(NamedTuple):
 def page(case: Case) -> str:
     """Return the page of a file."""
     name, verdict = html.escape(printable(case.source.name)), html.escape(case.verdict())
-    told = "".join(card(section) for section in sections(case))
+    cards = "".join(card(section) for section in sections(case))
     near = ""
     if case.refusal:
         near = f"<section><h2>Bytes around the error</h2><pre>{around(case)}</pre></section>"
     wholes = "".join(article(case, whole) for whole in case.wholes)
     lit = ",".join(f".part:has(.{key}:hover) .{key}" for key in map(key_of, range(TOGETHER)))
+    explanation = f"<section class=told>{cards}</section>" if cards else ""
     style = STYLE.read_text(encoding="utf-8")
     policy = "default-src 'none'; style-src 'unsafe-inline'"
     return (
@@ -78,7 +79,7 @@ def page(case: Case) -> str:
         '<meta name="viewport" content="width=device-width">'
         f"<style>{style}{lit}{LIGHT}</style></head>\n"
         f"<body><header><h1>{name}</h1><p>{verdict}</p></header>\n<main>"
-        f"{near}{f'<section class=told>{told}</section>' if told else ''}{listing(case)}{wholes}"
+        f"{near}{explanation}{listing(case)}{wholes}"
         "</main></body></html>\n"
     )
 

@@ -266,8 +266,8 @@ class Tries:
     def reported_fixes(self) -> List[Fix]:
         """Return the changes of one byte to report, the likeliest first.
 
-        They are those with which the envelope is accepted, or, if there are none, those that make
-        more of it valid.
+        They are those with which the envelope is accepted. If no change does that, they are those
+        that make more of it valid.
         """
         some = any(fix.whole for fix in self.fixes.values())
         reported: List[Fix] = []
