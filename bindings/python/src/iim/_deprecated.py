@@ -5,7 +5,7 @@ import warnings
 
 
 def warn_of_old_name(old: str, new: str) -> None:
-    """Warn the caller of the caller that a better name stands beside an old one.
+    """Warn the caller of the caller that an old name has a better one now.
 
     Args:
         old: The name that was used.
