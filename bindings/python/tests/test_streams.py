@@ -95,7 +95,8 @@ def test_index_closes_its_files(tmp_path: Path) -> None:
 
 def archive(top: Path, *words: str) -> List[str]:
     """Run iim-archive, and return the lines of its standard error."""
-    env = {**os.environ, "PYTHONPATH": str(top / "bindings" / "python" / "src")}
+    source = str(top / "bindings" / "python" / "src")
+    env = {**os.environ, "PYTHONPATH": os.pathsep.join([source, os.environ.get("PYTHONPATH", "")])}
     program = [sys.executable, "-m", "iim.archive", *words]
     return subprocess.run(program, env=env, capture_output=True, text=True).stderr.splitlines()
 
