@@ -74,7 +74,8 @@ def test_properties_have_the_values_by_number(library: Path, top: Path) -> None:
 
 
 def test_has_the_names_of_release_2() -> None:
-    assert [name for name in LISTED + UNLISTED if name not in iim.__all__] == []
+    assert [name for name in LISTED if name not in iim.__all__] == []
+    assert [name for name in UNLISTED if not hasattr(iim, name)] == []
     for name in OF_PROGRAM:
         with pytest.warns(DeprecationWarning, match=f"^iim.{name} is deprecated: use iim.program"):
             assert getattr(iim, name) is getattr(program, name)

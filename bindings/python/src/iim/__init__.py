@@ -38,8 +38,9 @@ from __future__ import annotations
 import importlib
 from typing import TYPE_CHECKING, Any
 
+from iim import auditing, octets, receiver, values
 from iim._deprecated import warn_of_old_name
-from iim.auditing import LAST_SECOND, Auditor, AuditRow, RawRow, audit, audit_blocks
+from iim.auditing import Auditor, AuditRow, audit, audit_blocks
 from iim.errors import (
     IimError,
     Refusal,
@@ -52,14 +53,12 @@ from iim.errors import (
     Truncated,
     TruncatedError,
 )
-from iim.octets import AnyFile, AnyOctets, Octets
+from iim.octets import Octets
 from iim.packing import pack, script
 from iim.reader import check, read
-from iim.receiver import BLOCK, Fed, FeedResult, Place, Position, Receiver
+from iim.receiver import Fed, FeedResult, Place, Position, Receiver
 from iim.streams import Stream
 from iim.values import (
-    GREATEST,
-    GREATEST_LIMIT,
     WIRE,
     Envelope,
     Field,
@@ -79,28 +78,21 @@ from iim.values import (
 )
 
 __all__ = [
-    "AnyFile",
-    "AnyOctets",
     "AuditRow",
     "Auditor",
-    "BLOCK",
     "Envelope",
     "Fed",
     "FeedResult",
     "Field",
-    "GREATEST",
-    "GREATEST_LIMIT",
     "Header",
     "Id",
     "IimError",
-    "LAST_SECOND",
     "Limits",
     "Octets",
     "PartId",
     "PartialId",
     "Place",
     "Position",
-    "RawRow",
     "Receiver",
     "Refusal",
     "Refused",
@@ -128,6 +120,15 @@ __all__ = [
     "row",
     "script",
 ]
+
+# Types and constants. `pydoc` has nothing to show of them, so they are not in the list.
+AnyFile = octets.AnyFile
+AnyOctets = octets.AnyOctets
+RawRow = auditing.RawRow
+BLOCK = receiver.BLOCK
+GREATEST = values.GREATEST
+GREATEST_LIMIT = values.GREATEST_LIMIT
+LAST_SECOND = auditing.LAST_SECOND
 
 # The names of release 2 that are those of `iim.program` now.
 _OF_PROGRAM = frozenset(

@@ -57,10 +57,18 @@ class Refusal:
 class RefusedError(IimError):
     """Raised if input is invalid. `str()` is the line that `iimwire check` prints.
 
-    It has the attributes of `Refusal`, too.
-
     Attributes:
-        refusal: Where and why the input was rejected.
+        refusal: Where and why the input was rejected, as one value.
+        nth: The number of the envelope in the input, from 1.
+        at: The offset of its first byte in the input.
+        layer: The layer that rejected it, such as "dataset" or "message".
+        record: The record number of the dataset named.
+        number: The dataset number of the dataset named.
+        dataset: Both numbers, such as "8:10".
+        octet: The offset of the rejected byte from the envelope's first byte.
+        octet_in_file: The offset of the rejected byte from the first byte of the input.
+        cause: The number of the cause; `iim.cause_text` describes it.
+        cause_name: The name of the cause, such as "BadValue".
         story: The story that was received before the error: from `Receiver.feed`, the part in the
             last chunk; from `read` without `on_text`, all of it.
         ticket: The saved state before the rejected byte; `Receiver.resume` continues from it. It is
