@@ -86,6 +86,15 @@ def test_source_closes_its_file(top: Path) -> None:
     assert str(path) not in open_files()
 
 
+def test_source_closes_a_file_that_it_copied() -> None:
+    # (its size is unknown, so that its bytes are copied)
+    path, before = "/proc/self/limits", open_files()
+    with Source(path) as source:
+        assert source.take(0, 5) == b"Limit"
+        assert len(open_files() - before) == 2
+    assert open_files() == before
+
+
 def test_index_closes_its_files(tmp_path: Path) -> None:
     path = tmp_path / "archive.index"
     with Index(str(path)):
