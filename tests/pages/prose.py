@@ -21,7 +21,7 @@ RETIRED = re.compile(
 )
 
 # The tables of the format have rows and cells as long as they need.
-TABLES = ("docs/FORMAT.md",)
+TABLES = ("docs/reference/format.md",)
 
 # What the library prints (the meanings of causes), and headings of the vectors in quotation marks, are as they are.
 FIXED = re.compile(r'^- \*\*(?:Meaning|Dataset named)\*\*: (?:.|\n  )*|"[^"]*"', re.M)
