@@ -83,7 +83,8 @@ enum {
 };
 
 /**
- * The result of a call. `cause` is a number of docs/CAUSES.md; iim_cause_name() returns its name.
+ * The result of a call. `cause` is a number of docs/reference/causes.md; iim_cause_name() returns
+ * its name.
  */
 typedef struct iim_answer {
     uint8_t status; /**< IIM_DONE, IIM_MORE, ... */
@@ -543,7 +544,7 @@ typedef struct iim_packing {
 
 /**
  * Packs the envelope that a script specifies, as `iimwire pack` does. The script is a text of up to
- * 16,777,216 bytes in the form of docs/FORMAT.md.
+ * 16,777,216 bytes in the form of docs/reference/format.md.
  *
  * @param packing     how to pack the envelope
  * @param script      the script
@@ -581,7 +582,7 @@ void iim_pack_size(iim_packing packing, const uint8_t *script, size_t script_len
 
 /* ---- The tables */
 
-/** The bytes that a dataset may have. docs/FORMAT.md defines each kind. */
+/** The bytes that a dataset may have. docs/reference/format.md defines each kind. */
 enum {
     IIM_KIND_GRAPHIC = 1,
     IIM_KIND_SPACED = 2,
@@ -655,8 +656,8 @@ bool iim_admits(uint8_t rec, uint8_t set, const uint8_t *octets, size_t len);
 size_t iim_cause_name(uint8_t cause, char *out, size_t len);
 
 /**
- * Writes the meaning of a cause, as in docs/CAUSES.md: a sentence without a full stop. Every
- * sentence and its NUL fit in 128 bytes.
+ * Writes the meaning of a cause, as in docs/reference/causes.md: a sentence without a full stop.
+ * Every sentence and its NUL fit in 128 bytes.
  *
  * @param cause  the number of the cause
  * @param out    receives the sentence and a NUL, if they fit

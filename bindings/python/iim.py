@@ -16,9 +16,10 @@ Text: values are `Octets`, a subclass of `bytes`. IIM does not state the charact
 an encoding to `text(encoding)`.
 
 Errors: invalid input raises `Refused`, which has the layer, the dataset, the offset of the byte and
-the cause. Input that ends inside an envelope raises its subclass `Truncated`. docs/CAUSES.md lists
-all causes, docs/FORMAT.md describes the format, docs/guide/python.md has complete programs; the
-package python3-iim has all three in /usr/share/doc/python3-iim.
+the cause. Input that ends inside an envelope raises its subclass `Truncated`.
+docs/reference/causes.md lists all causes, docs/reference/format.md describes the format,
+docs/guide/python.md has complete programs; the package python3-iim has all three in
+/usr/share/doc/python3-iim.
 
 Threads: any number of threads may call the functions of this module and read the same `Envelope` or
 `Refused` at the same time. Give each thread its own `Receiver` and `Auditor`: a call on one that
@@ -251,7 +252,7 @@ def cause_name(cause: int) -> Optional[str]:
 def cause_text(cause: int) -> Optional[str]:
     """Return the meaning of a cause, or `None` if there is no such cause.
 
-    The text is that of docs/CAUSES.md, such as "9:10 is not the total" for 25.
+    The text is that of docs/reference/causes.md, such as "9:10 is not the total" for 25.
     """
     return _name(_library.iim_cause_text, *_numbers_of(cause))
 
@@ -1399,7 +1400,7 @@ def audit(file: AnyFile, limits: Limits = WIRE, *, now: Optional[datetime.dateti
 # --- Packing ---
 
 
-# The form of each part of a header, in their order, as docs/FORMAT.md defines it.
+# The form of each part of a header, in their order, as docs/reference/format.md defines it.
 _PARTS = (rb"[A-Za-z]{1,8}", rb"[0-9]{1,8}", rb"[0-9]", rb"[A-Za-z0-9]{1,8}", rb"[0-9]{1,6}", rb"[\x20-\x7E\x80-\xFF]{0,64}")
 
 
@@ -1447,7 +1448,7 @@ def _with_shown(word: bytes, octets: AnyOctets) -> bytes:
 def pack(script: AnyOctets, *, subfile: int = 1_024, unknown: bool = False, maximum: Optional[int] = None) -> bytes:
     """Return the envelope that a script specifies.
 
-    `script` writes scripts, and docs/FORMAT.md defines them.
+    `script` writes scripts, and docs/reference/format.md defines them.
 
     Args:
         script: The script.

@@ -1,6 +1,6 @@
 //! The worked envelopes of the format, octet by octet, and their parts: for tests, and for whoever begins with the libraries.
 //!
-//! `docs/FORMAT.md` has the smallest one octet by octet; `samples/smallest.iim` and `samples/story.iim` are the two as files.
+//! `docs/reference/format.md` has the smallest one octet by octet; `samples/smallest.iim` and `samples/story.iim` are the two as files.
 #![tactic(auto)]
 
 mod least;
