@@ -202,15 +202,15 @@ void iim_end(iim_limits limits, const uint8_t *ticket, size_t ticket_len, uint64
 
 /** A slice of a ticket: `count` bytes from `offset` on. */
 typedef struct iim_span {
-    size_t offset;
-    size_t count;
+    size_t offset; /**< offset of the first byte within the ticket */
+    size_t count;  /**< number of bytes */
 } iim_span;
 
 /** A dataset of records 1 and 2: its record, its number and its data. */
 typedef struct iim_dataset {
-    uint8_t rec;
-    uint8_t set;
-    iim_span data;
+    uint8_t rec;   /**< number of the record: 1 or 2 */
+    uint8_t set;   /**< number of the dataset within its record */
+    iim_span data; /**< its data, within the ticket */
 } iim_dataset;
 
 /**
@@ -279,14 +279,14 @@ enum {
 
 /** The header and the trailer of a message, as far as they were received. */
 typedef struct iim_message {
-    uint8_t part; /**< the part that the input has reached: IIM_PART_TEXT, ... */
-    iim_span source;
-    iim_span number;
-    iim_span priority;
-    iim_span category;
-    iim_span words;
-    iim_span info;
-    iim_span trailer;
+    uint8_t part;      /**< the part that the input has reached: IIM_PART_TEXT, ... */
+    iim_span source;   /**< the source, in the header */
+    iim_span number;   /**< the number of the message, in digits */
+    iim_span priority; /**< the priority, a digit */
+    iim_span category; /**< the category */
+    iim_span words;    /**< the number of words that the message announces, in digits */
+    iim_span info;     /**< the info, which may be empty */
+    iim_span trailer;  /**< the trailer, after the text */
 } iim_message;
 
 /**
@@ -339,7 +339,7 @@ void iim_sizes(const uint8_t *ticket, size_t ticket_len, iim_object *object, iim
  * set. Bit 0 is the lowest.
  */
 typedef struct iim_octet_set {
-    uint8_t bits[32];
+    uint8_t bits[32]; /**< the bitmap */
 } iim_octet_set;
 
 /**
