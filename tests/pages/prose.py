@@ -10,8 +10,8 @@ from pages.items import TOP
 # The widest line of prose and of a table, the longest paragraph in lines, and the longest cell in
 # words.
 COLUMNS, COLUMNS_OF_A_ROW, LINES, WORDS = 100, 160, 8, 15
-# The most lines of all these pages together, without programs and what is generated on them.
-MOST_LINES = 3_900
+# The most lines of all these pages together, without blank lines, programs and generated parts.
+MOST_LINES = 3_400
 
 # Words for which the field has a better one.
 RETIRED = re.compile(
