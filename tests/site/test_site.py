@@ -180,8 +180,11 @@ def test_finds_a_cause_by_search(site: Path) -> None:
 
 def test_fits_the_width_of_the_window(site: Path) -> None:
     """No page scrolls to the side, on a desktop or on a phone."""
-    shown = [FRAME.format(page, width) for page in PAGES for width in WIDTHS]
+    (site / "wide.html").write_text('<div style="width: 2000px">wide</div>', encoding="utf-8")
+    shown = [FRAME.format(page, width) for page in (*PAGES, "wide") for width in WIDTHS]
     (site / "frames.html").write_text(FRAMES % "".join(shown), encoding="utf-8")
     found = browse(site, "frames.html", "--allow-file-access-from-files", "--hide-scrollbars")
-    widths = re.findall(r"width (\S+) (\d+) (\d+) (\d+)", found)
+    *widths, desktop, phone = re.findall(r"width (\S+) (\d+) (\d+) (\d+)", found)
     assert widths == [(page, *[str(width)] * 3) for page in PAGES for width in WIDTHS]
+    # (a page that is too wide is seen to be)
+    assert all(int(wide[3]) > int(wide[2]) == int(wide[1]) for wide in (desktop, phone))
