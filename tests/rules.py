@@ -1,7 +1,7 @@
 """The rules of the format a second time, in plain Python, apart from the crates: what is answered to any octets.
 
 `read` goes through one envelope, as far as its octets go; `packed` is what the packer writes, `report` what the audit prints.
-docs/FORMAT.md tells the same rules in words.
+docs/reference/format.md tells the same rules in words.
 """
 import collections
 import copy

@@ -213,7 +213,7 @@ def packs_as_the_command_does():
 @test
 def tells_the_tables():
     kinds = "Graphic Spaced SpacedLines Letters Digits Date PartDate Time Binary Octets Mode Size SizeFromOne".split()
-    page = open(f"{TOP}/docs/FORMAT.md").read()
+    page = open(f"{TOP}/docs/reference/format.md").read()
     names = {(int(a), int(b)): name for a, b, name in re.findall(r"^\| (\d):(\d+) \| ([^|]+?) \| [^|]+ \| [^|]+ \| [a-z ]+ \| (?:yes|no) \|$", page, re.M)}
     same(len(names), len(rules.ROWS))
     want = []
@@ -263,7 +263,7 @@ def names_the_kinds_and_duties_as_the_header_does():
     same({name: number for name, number in re.findall(r"pub const (\w+): u8 = (\d+);", status)}, {w: n for w, n in STATUSES.items() if "_" not in w or w in ("NO_MEMORY", "BAD_TICKET", "BAD_PACKING", "BAD_INSTANT")})
 
 
-# Results for the smallest envelope, of 114 bytes, derived by hand from docs/FORMAT.md and the
+# Results for the smallest envelope, of 114 bytes, derived by hand from docs/reference/format.md and the
 # header: status, layer, cause, record, number, octet, used, written and ticket. Its 27th byte is in
 # the data of 1:30. The ticket there has 79 bytes; at the end it has 135, of which 69 are the seven
 # datasets (six each, and 27 of data), 28 the numbers of record 7, and 12 the texts of the message

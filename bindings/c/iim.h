@@ -85,7 +85,8 @@ enum {
 };
 
 /**
- * The result of a call. `cause` is a number of docs/CAUSES.md; iim_cause_name() returns its name.
+ * The result of a call. `cause` is a number of docs/reference/causes.md; iim_cause_name() returns
+ * its name.
  */
 typedef struct iim_answer {
     uint8_t status; /**< IIM_DONE, IIM_MORE, ... */
@@ -203,15 +204,15 @@ void iim_end(iim_limits limits, const uint8_t *ticket, size_t ticket_len, uint64
 
 /** A slice of a ticket: `count` bytes from `offset` on. */
 typedef struct iim_span {
-    size_t offset;
-    size_t count;
+    size_t offset; /**< offset of the first byte within the ticket */
+    size_t count;  /**< number of bytes */
 } iim_span;
 
 /** A dataset of records 1 and 2: its record, its number and its data. */
 typedef struct iim_dataset {
-    uint8_t rec;
-    uint8_t set;
-    iim_span data;
+    uint8_t rec;   /**< number of the record: 1 or 2 */
+    uint8_t set;   /**< number of the dataset within its record */
+    iim_span data; /**< its data, within the ticket */
 } iim_dataset;
 
 /**
@@ -280,14 +281,14 @@ enum {
 
 /** The header and the trailer of a message, as far as they were received. */
 typedef struct iim_message {
-    uint8_t part; /**< the part that the input has reached: IIM_PART_TEXT, ... */
-    iim_span source;
-    iim_span number;
-    iim_span priority;
-    iim_span category;
-    iim_span words;
-    iim_span info;
-    iim_span trailer;
+    uint8_t part;      /**< the part that the input has reached: IIM_PART_TEXT, ... */
+    iim_span source;   /**< the source, in the header */
+    iim_span number;   /**< the number of the message, in digits */
+    iim_span priority; /**< the priority, a digit */
+    iim_span category; /**< the category */
+    iim_span words;    /**< the number of words that the message announces, in digits */
+    iim_span info;     /**< the info, which may be empty */
+    iim_span trailer;  /**< the trailer, after the text */
 } iim_message;
 
 /**
@@ -340,7 +341,7 @@ void iim_sizes(const uint8_t *ticket, size_t ticket_len, iim_object *object, iim
  * set. Bit 0 is the lowest.
  */
 typedef struct iim_octet_set {
-    uint8_t bits[32];
+    uint8_t bits[32]; /**< the bitmap */
 } iim_octet_set;
 
 /**
@@ -692,7 +693,7 @@ typedef struct iim_packing {
 
 /**
  * Packs the envelope that a script specifies, as `iimwire pack` does. The script is a text of up to
- * 16,777,216 bytes in the form of docs/FORMAT.md.
+ * 16,777,216 bytes in the form of docs/reference/format.md.
  *
  * @param packing     how to pack the envelope
  * @param script      the script
@@ -730,7 +731,7 @@ void iim_pack_size(iim_packing packing, const uint8_t *script, size_t script_len
 
 /* ---- The tables */
 
-/** The bytes that a dataset may have. docs/FORMAT.md defines each kind. */
+/** The bytes that a dataset may have. docs/reference/format.md defines each kind. */
 enum {
     IIM_KIND_GRAPHIC = 1,
     IIM_KIND_SPACED = 2,
@@ -804,8 +805,8 @@ bool iim_admits(uint8_t rec, uint8_t set, const uint8_t *octets, size_t len);
 size_t iim_cause_name(uint8_t cause, char *out, size_t len);
 
 /**
- * Writes the meaning of a cause, as in docs/CAUSES.md: a sentence without a full stop. Every
- * sentence and its NUL fit in 128 bytes.
+ * Writes the meaning of a cause, as in docs/reference/causes.md: a sentence without a full stop.
+ * Every sentence and its NUL fit in 128 bytes.
  *
  * @param cause  the number of the cause
  * @param out    receives the sentence and a NUL, if they fit

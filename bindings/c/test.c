@@ -1122,7 +1122,7 @@ static void try_packing(octets script, octets packed) {
     free(out.octets);
 }
 
-/* The meaning of each cause, as in docs/CAUSES.md. */
+/* The meaning of each cause, as in docs/reference/causes.md. */
 static const struct {
     uint8_t number;
     const char *text;
@@ -1169,7 +1169,7 @@ static const struct {
     {102, "no envelope can be at the place that the ticket tells; of version 1, none by the sizes of that version"},
 };
 
-/* Each cause has the meaning in docs/CAUSES.md, and no other number has one. */
+/* Each cause has the meaning in docs/reference/causes.md, and no other number has one. */
 static void try_sentences(void) {
     size_t at = 0;
     for (int number = 0; number < 256; number++) {
@@ -1318,7 +1318,7 @@ static void try_fields(octets file) {
     }
 }
 
-/* The datasets of the smallest envelope, as in docs/FORMAT.md. */
+/* The datasets of the smallest envelope, as in docs/reference/format.md. */
 static void try_known_fields(octets smallest) {
     iim_answer answer;
     iim_dataset array[FRONT_FIELDS];

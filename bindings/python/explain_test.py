@@ -1,5 +1,5 @@
 #!/usr/bin/env python3
-"""Check explain.py against the library, a test oracle and docs/CAUSES.md, and open its pages.
+"""Check explain.py against the library, a test oracle and docs/reference/causes.md, and open its pages.
 
 The test oracle is tests/rules.py.
 

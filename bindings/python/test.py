@@ -597,8 +597,8 @@ def tells_octets_as_text():
 
 
 def tables():
-    """Return the rows of docs/FORMAT.md by numbers: the name, and whether the dataset repeats."""
-    with open(f"{TOP}/docs/FORMAT.md") as page:
+    """Return the rows of docs/reference/format.md by numbers: the name, and whether the dataset repeats."""
+    with open(f"{TOP}/docs/reference/format.md") as page:
         rows = re.findall(r"^\| (\d+):(\d+) \| ([^|]+) \| [^|]+ \| [^|]+ \| [^|]+ \| (yes|no) \|$", page.read(), re.M)
     return {(int(record), int(number)): (name, repeats == "yes") for record, number, name, repeats in rows}
 

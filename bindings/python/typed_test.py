@@ -72,7 +72,7 @@ def has_an_attribute_for_each_dataset_with_a_name(folder):
     kinds = {name: attributes[name] for name in ("headline", "bylines", "date_sent", "supplemental_categories")}
     same(kinds, {"headline": "Optional[Octets]", "bylines": "List[Octets]", "date_sent": "Octets", "supplemental_categories": "List[Octets]"})
     # (a mandatory dataset is never `None`)
-    rows = [[cell.strip() for cell in line.strip("| ").split(" | ")] for line in text_of(f"{TOP}/docs/FORMAT.md").splitlines() if re.match(r"\| [12]:\d+ \|", line)]
+    rows = [[cell.strip() for cell in line.strip("| ").split(" | ")] for line in text_of(f"{TOP}/docs/reference/format.md").splitlines() if re.match(r"\| [12]:\d+ \|", line)]
     named = {tuple(map(int, row[0].split(":"))): (row[4], row[5]) for row in rows if len(row) == 6}
     kind = {("mandatory", "no"): "Octets", ("optional", "no"): "Optional[Octets]", ("optional", "yes"): "List[Octets]"}
     same(len(named), 40)

@@ -13,10 +13,10 @@ from pages.items import TOP
 
 WIDTH = 140
 HAND = f"{TOP}/docs/CALLING.md"
-MADE = "This page is made from the sources and from [`docs/CALLING.md`](../../docs/CALLING.md) (`tests/documents --write`)."
+MADE = "This page is generated from the sources and from [`docs/CALLING.md`](../../docs/CALLING.md) by `tests/documents --write`."
 CLAUSES = "[`docs/reference/{0}.md`](../../docs/reference/{0}.md) has the clauses of each call."
-LAW = "A law is a function with an empty body, or one that calls others alone. A call of it gives a proof what its clause says."
-LAWS = "What `{}` says is a record: each law is a field of it, by its name."
+LAW = "A lemma is a function whose body is empty, or calls other lemmas only. A call makes its clauses available to the proof."
+LAWS = "The clause of `{}` is a record: each lemma is a field of it."
 # A line of docs/CALLING.md that names a caller: what is shown, its file, and what else is said.
 CALLER = re.compile(r"Caller: ((?:`\w+`(?:, | and )?)+) of `(crates/[\w/.]+\.rt)`(.*)")
 
@@ -67,9 +67,9 @@ def traits_of(found):
     needs = list(dict.fromkeys(re.match(r"impl<(.*?)> ", item.code)[1] for item in found if " for " not in item.code))
     traits = [trait_of(item.code) for item in found if " for " in item.code]
     if needs:
-        yield from ["", *wrapped(f"Its calls need {' and '.join(f'`{each}`' for each in needs)}.")]
+        yield from ["", *wrapped(f"Its methods need {' and '.join(f'`{each}`' for each in needs)}.")]
     if traits:
-        yield from ["", *wrapped(f"It has {', '.join(traits)}.")]
+        yield from ["", *wrapped(f"It implements {', '.join(traits)}.")]
 
 
 def part_of_type(found):
@@ -135,7 +135,7 @@ def parts_of_page(crate):
     laws = [path for path, _ in files if is_laws(path)]
     for path, found in files:
         records = [LAWS.format(item.name) for item in found if items.laws_at(item)]
-        yield from ["", "## Laws", "", *wrapped(" ".join([LAW, *records]))] if path in laws[:1] else []
+        yield from ["", "## Lemmas", "", *wrapped(" ".join([LAW, *records]))] if path in laws[:1] else []
         yield from part_of_file(path, found, modules)
 
 
@@ -144,11 +144,11 @@ def names_of(crate):
     names, modules = items.handed_on(crate)
     own = ", ".join(f"`{module}`" for module in sorted(modules) if os.path.exists(f"{TOP}/crates/{crate}/src/{module}.rt"))
     at_root = {item.name for item in items.items(crate)} & names
-    where = f"All names stand at the root{f', but for those in {own}' if own else ''}." if at_root else f"Each name stands in its module: {own}."
+    where = f"All names are at the root{f', except those in {own}' if own else ''}." if at_root else f"Each name is in its module: {own}."
     inner = ", ".join(f"`{name}`" for name in sorted(items.internals(crate)))
-    where += f" The module `internals` has what the layers above use, and no other caller: {inner}." if inner else ""
+    where += f" The module `internals` is for the layers above only, and promises nothing: {inner}." if inner else ""
     others = list(items.of_others(crate))
-    yield from wrapped(f"{where} {CLAUSES.format(crate)}{' Handed on beside them, or as modules:' if others else ''}")
+    yield from wrapped(f"{where} {CLAUSES.format(crate)}{' Exported besides, as names or as modules:' if others else ''}")
     yield from [""] if others else []
     for place, other, handed in others:
         listed = ", ".join(f"`{name}`" for name in handed)
@@ -185,7 +185,7 @@ def page(crate):
     lines = [f"# Calling `{crate}`", "", MADE]
     for part in root + said:
         lines += ["", *wrapped(part)]
-    lines += ["", *names_of(crate), "", "## A caller", "", *wrapped(f"{names} of `{path}`{from_here(rest)}"), ""]
+    lines += ["", *names_of(crate), "", "## Example", "", *wrapped(f"{names} of `{path}`{from_here(rest)}"), ""]
     lines += ["```rust", shown.shown(path, re.findall(r"`(\w+)`", names)), "```"]
     lines += parts_of_page(crate)
     return "\n".join(lines) + "\n"

@@ -1,4 +1,4 @@
-"""The causes of docs/CAUSES.md: each is a heading, with a list of named entries below it."""
+"""The causes of docs/reference/causes.md: each is a heading, with a list of named entries below it."""
 from __future__ import annotations
 
 import re
@@ -6,7 +6,7 @@ from typing import Dict, Iterator, List, NamedTuple
 
 from pages.items import TOP, text_of
 
-PAGE = "docs/CAUSES.md"
+PAGE = "docs/reference/causes.md"
 # The section whose causes refuse an envelope, and what each of these has.
 OF_ENVELOPES = "Causes of an envelope"
 ENTRIES = ["Layer", "Meaning", "Dataset named", "Likely reason", "What to do", "Sample"]

@@ -1,4 +1,4 @@
-"""The lists of docs/iimwire.1, the manual page: the datasets, as docs/FORMAT.md has them, and the causes, as docs/CAUSES.md has them.
+"""The lists of docs/iimwire.1, the manual page: the datasets, as docs/reference/format.md has them, and the causes, as docs/reference/causes.md has them.
 
 All else on the page is written by hand.
 """
@@ -23,7 +23,7 @@ def roff(words):
 
 def datasets():
     """The number and the name of each dataset."""
-    for _, cells in cells_of(f"{TOP}/docs/FORMAT.md"):
+    for _, cells in cells_of(f"{TOP}/docs/reference/format.md"):
         if re.fullmatch(r"\d:\d+", cells[0]) and len(cells) == 6:
             yield [".TP 8", cells[0], *roff(cells[1])]
 

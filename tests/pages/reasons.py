@@ -1,4 +1,4 @@
-"""The table of bindings/python/src/iim/explain/causes.py: the likely reason of each cause of an envelope and what to do, from docs/CAUSES.md.
+"""The table of bindings/python/src/iim/explain/causes.py: the likely reason of each cause of an envelope and what to do, from docs/reference/causes.md.
 
 All else in that file is written by hand.
 """

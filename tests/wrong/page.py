@@ -7,9 +7,9 @@ from wrong import sources
 PAGE = f"{sources.TOP}/docs/reference/mutants.md"
 FOREWORD = """# Mutants
 
-A contract that no wrong code breaks says little. A mutant is an edit of the code, of definitions or
-of both that the prover must reject. There are {count}. They are in `crates/CRATE/wrong-bodies.edits`,
-and this page is generated from them by `tests/wrong_bodies --document`.
+A contract that incorrect code meets, too, states little. A mutant is an edit of the code, of definitions or
+of both that the prover must reject. There are {count}, in
+`crates/CRATE/wrong-bodies.edits`, from which `tests/wrong_bodies --document` generates this page.
 
 Each public function with a body has at least one mutant, of itself or of a function below it. A
 lemma has none, since its body is empty. There is one more for each rule of the format that code
@@ -56,10 +56,10 @@ takes a complete check of its crate, so this is a crate with a short check. `tes
 
 ## The columns
 
-- **Mutant**: its name, and what it means where the name doesn't say it.
+- **Mutant**: its name, and what it means if the name does not state it.
 - **Function**: the function in which it is rejected.
 - **Clause**: what rejects it. `ensures` if the function has one clause without a name, or if the
-  prover doesn't say which one fails; `ensures x` for the clause `x` (`of std's f` if a trait of std
+  prover does not report which one fails; `ensures x` for the clause `x` (`of std's f` if a trait of std
   states it); `requires of f` if `f` may no longer be called; `loop` for a loop invariant;
   `invariant` for that of the function's type; `lemma x in F.antt` for a lemma that the function's
   proof uses, if an edit changes a definition and the code in the same way.
@@ -71,7 +71,7 @@ def rows(crate):
     yield f"\n## `{crate}`\n\n| Mutant | Function | Clause |\n|---|---|---|\n"
     for body in sources.bodies(crate):
         means = f": {body.said['means']}" if "means" in body.said else ""
-        yield f"| {body.name}{means} | `{body.function}` | `{body.clause}` |\n"
+        yield f"| `{body.name}`{means} | `{body.function}` | `{body.clause}` |\n"
 
 
 def document():

@@ -22,7 +22,7 @@ macro_rules! words_by {
     };
 }
 
-/// Matches the number of a cause with the table of `docs/CAUSES.md`.
+/// Matches the number of a cause with the table of `docs/reference/causes.md`.
 macro_rules! cause_in_table {
     ($number:expr) => {
         words_by! { $number;

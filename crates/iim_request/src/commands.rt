@@ -32,7 +32,7 @@ Example:
 prints: 1 accepted 114 octets
 
 Status: 0 all accepted, 1 refused, 2 a mistake in the words, 3 a file, output or memory fault.
-The causes of a refusal stand in the manual page, iimwire(1), and in docs/CAUSES.md.
+The manual page, iimwire(1), and docs/reference/causes.md list the causes of a refusal.
 An input of no octets is accepted, and prints nothing.";
 
 /// The end of the help text of `show`.
@@ -43,7 +43,7 @@ prints: envelope 1, the datasets as 1:30 TST, the lines message and trailer, and
 Octets other than 20 to 7E, and the backslash, are shown as \\x and two digits.
 
 Status: 0 all accepted, 1 refused, 2 a mistake in the words, 3 a file, output or memory fault.
-The causes of a refusal stand in the manual page, iimwire(1), and in docs/CAUSES.md.";
+The manual page, iimwire(1), and docs/reference/causes.md list the causes of a refusal.";
 
 /// The end of the help text of `story`.
 const STORY_HELP: &str = "\
@@ -53,7 +53,7 @@ prints the lines of the story, each ended by LF. The lines of check go to standa
 The octets of a line are those of the copy: on a terminal read them through cat -v.
 
 Status: 0 all accepted, 1 refused, 2 a mistake in the words, 3 a file, output or memory fault.
-The causes of a refusal stand in the manual page, iimwire(1), and in docs/CAUSES.md.";
+The manual page, iimwire(1), and docs/reference/causes.md list the causes of a refusal.";
 
 /// The end of the help text of `pack`.
 const PACK_HELP: &str = "\
@@ -75,7 +75,7 @@ Example:
   iimwire pack samples/story.script > story.iim
 
 Status: 0 packed, 1 the script is refused, 2 a mistake in the words, 3 a file, output or memory fault.
-The causes of a refusal stand in the manual page, iimwire(1), and in docs/CAUSES.md.";
+The manual page, iimwire(1), and docs/reference/causes.md list the causes of a refusal.";
 
 /// The end of the help text of `audit`.
 const AUDIT_HELP: &str = "\
@@ -85,7 +85,7 @@ One with no Z or offset is none. The present instant is that of date -u:
 prints a row for each envelope, and a last line: 3 envelopes, 1 repeated, 0 held
 
 Status: 0 all accepted, 1 refused, 2 a mistake in the words, 3 a file, output or memory fault.
-The causes of a refusal stand in the manual page, iimwire(1), and in docs/CAUSES.md.";
+The manual page, iimwire(1), and docs/reference/causes.md list the causes of a refusal.";
 
 /// The end of the help text of the program.
 const PROGRAM_HELP: &str = "\
@@ -94,7 +94,7 @@ Example:
 prints: 1 accepted 114 octets
 
 Status: 0 all accepted, 1 refused, 2 a mistake in the words, 3 a file, output or memory fault.
-The causes of a refusal stand in the manual page, iimwire(1), and in docs/CAUSES.md.
+The manual page, iimwire(1), and docs/reference/causes.md list the causes of a refusal.
 iimwire COMMAND --help has an example of each command.";
 
 /// Returns a command that takes a FILE. `about` and `after` are the beginning and the end of its

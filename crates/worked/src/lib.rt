@@ -1,7 +1,7 @@
 //! The example envelopes of the format, octet by octet, and their parts: for tests, and for new
 //! users of the libraries.
 //!
-//! `docs/FORMAT.md` describes the smallest one octet by octet. `samples/smallest.iim` and
+//! `docs/reference/format.md` describes the smallest one octet by octet. `samples/smallest.iim` and
 //! `samples/story.iim` are the two as files.
 #![tactic(auto)]
 

@@ -11,7 +11,7 @@ from iim.octets import AnyOctets, as_bytes
 from iim.values import GREATEST, Header
 
 
-# The form of each part of a header, in their order, as docs/FORMAT.md defines it.
+# The form of each part of a header, in their order, as docs/reference/format.md defines it.
 _PARTS = (
     rb"[A-Za-z]{1,8}",
     rb"[0-9]{1,8}",
@@ -74,7 +74,7 @@ def pack(
 ) -> bytes:
     """Return the envelope that a script specifies.
 
-    `script` writes scripts, and docs/FORMAT.md defines them.
+    `script` writes scripts, and docs/reference/format.md defines them.
 
     Args:
         script: The script.

@@ -58,7 +58,7 @@ def cause_name(cause: int) -> Optional[str]:
 def cause_text(cause: int) -> Optional[str]:
     """Return the meaning of a cause, or `None` if there is no such cause.
 
-    The text is that of docs/CAUSES.md, such as "9:10 is not the total" for 25.
+    The text is that of docs/reference/causes.md, such as "9:10 is not the total" for 25.
 
     Args:
         cause: The number of the cause, 0 to 255.

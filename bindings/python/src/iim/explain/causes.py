@@ -1,4 +1,4 @@
-"""The likely reason of each cause and what to do, generated from docs/CAUSES.md.
+"""The likely reason of each cause and what to do, generated from docs/reference/causes.md.
 
 The meaning of a cause comes from the library, by `iim.cause_text`.
 """
@@ -72,7 +72,7 @@ CAUSES: Dict[int, Cause] = {
         "a time with hour 24 or without a sign before its offset; a control character in a text; "
         "a size of eight octets above 9,223,372,036,854,775,807; 7:20 set to 0; in a text that "
         "begins with LF, a text-mode transfer, which makes 0D 0A of a count of ten octets (0A)",
-        'look up the dataset\'s kind in `FORMAT.md`, under "Kinds"; transfer the file again in '
+        'look up the dataset\'s kind in `format.md`, under "Kinds"; transfer the file again in '
         "binary mode",
     ),
     16: Cause(
@@ -108,7 +108,7 @@ CAUSES: Dict[int, Cause] = {
         "the header has a part too many or too long, more than one space between parts, or no "
         "line end before STX; the object is not an IPTC 7901 message; at the end of a story, a "
         "text-mode transfer, which makes LF of CR LF",
-        "compare with the parts of a message in `FORMAT.md`; transfer the file again in binary "
+        "compare with the parts of a message in `format.md`; transfer the file again in binary "
         "mode",
     ),
     32: Cause(
