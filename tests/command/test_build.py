@@ -26,11 +26,11 @@ def made(tmp_path: Path) -> Repository:
 
 def read_progress(made: Repository, read: Callable[[], bytes]) -> bytes:
     """Read what a paused build prints, and let each crate be built once its progress is printed."""
-    shown = b""
+    shown, end = b"", time.monotonic() + 60
     for pattern in FIRST, SECOND:
         while not re.search(pattern, shown):
             more = read()
-            assert more, shown
+            assert more and time.monotonic() < end, shown
             shown += more
         made.write("continue")
     return shown
