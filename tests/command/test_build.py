@@ -11,7 +11,7 @@ from typing import Callable
 
 import pytest
 
-from support.repositories import BUILDS, BUILT_BY_GATE, Repository, is_running, wait_until
+from support.repositories import BUILDS, BUILT_BY_GATE, PROMPT, Repository, is_running, wait_until
 from support.running import SECONDS, write_program
 
 # The lines of progress while the first crate is built, and the second.
@@ -95,7 +95,7 @@ def test_signal_ends_the_build(made: Repository, signal: str, status: int) -> No
     with made.start(*words, start_new_session=True) as process:
         builder = made.builder()
         os.kill(process.pid, getattr(signals, f"SIG{signal}"))
-        assert process.communicate(timeout=SECONDS) == (b"", b"")
+        assert process.communicate(timeout=PROMPT) == (b"", b"")
         assert process.returncode == status
     assert made.leftovers() == []
     wait_until(lambda: not is_running(builder))

@@ -10,7 +10,7 @@ from typing import Optional
 
 import pytest
 
-from support.repositories import BUILDS, BUILT_BY_GATE, Repository, is_running, wait_until
+from support.repositories import BUILDS, BUILT_BY_GATE, PROMPT, Repository, is_running, wait_until
 from support.running import SECONDS, TOP, Command, Ran, usage_error, write_program
 from support.streams import COMMANDS, NOON, SCRIPT, SMALLEST
 
@@ -201,7 +201,7 @@ def test_signal_ends_the_build_of_the_wrapper(made: Repository, signal: str, sta
         builder = made.builder()
         assert (len(made.leftovers()), is_running(builder)) == (1, True)
         subprocess.run(["kill", "-s", signal, str(process.pid)], check=True)
-        assert process.communicate(timeout=SECONDS) == (b"", BUILDS)
+        assert process.communicate(timeout=PROMPT) == (b"", BUILDS)
         assert process.returncode == status
     assert made.leftovers() == []
     wait_until(lambda: not is_running(builder))

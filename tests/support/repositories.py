@@ -13,7 +13,7 @@ from support.running import SECONDS, TOP, Argument, Ran, as_streams, write_progr
 # Stands in for `rt`: its program prints the source as it was when the build began, and the
 # arguments. Files control it: `slow` and `paused` make it wait, `edit` changes the source, `wrong`
 # lets it fail, and with `proved` both crates are proved anew. While `paused` exists, a crate is
-# built once the file `continue` exists, which it removes.
+# built once the file `continue` exists, which it removes, or after two minutes.
 BUILDER = """#!/usr/bin/env bash
 [ "$1" != version ] || { echo "some-kit logic dac8208d650f15bf"; exit; }
 top=$(cd ../.. && pwd)
@@ -21,7 +21,10 @@ echo "$(basename "$PWD") $1" >>"$top/asked"
 mkdir -p out/rlib
 if [ -e "$top/paused" ]; then
   echo $$ >"$top/building"
-  until rm "$top/continue" 2>/dev/null; do sleep 0.05; done
+  for _ in {1..2400}; do
+    if rm "$top/continue" 2>/dev/null; then break; fi
+    sleep 0.05
+  done
 fi
 if [ "$1" = lib ]; then [ ! -e "$top/proved" ] || touch out/rlib/stamp; exit; fi
 source=$(cat "$top"/crates/low/src/*.rt)
@@ -47,6 +50,8 @@ MINUTES = max(64 // PROCESSORS, 8)
 BUILDING = "building the command: proves every function first; "
 BUILDING += f"about {MINUTES} minutes on {PROCESSORS} processors\n"
 BUILDS = BUILDING.encode()
+# The longest that a signal may take to end a build, which would run longer.
+PROMPT = 60
 # What the gate leaves as the command.
 BUILT_BY_GATE = '#!/bin/sh\necho "gate: $*"\n'
 
