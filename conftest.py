@@ -20,6 +20,18 @@ def pytest_addoption(parser: pytest.Parser) -> None:
     """Add the options of this repository."""
     parser.addoption("--gate", action="store_true", help="count each skipped test as a failure")
     parser.addoption("--command", metavar="PATH", help="the command to test [default: the built]")
+    for name, help_text in {
+        "--packages": "the built packages [default: packages/build makes them]",
+        "--proofs": "what the gate printed of the proofs, for packages/build --gate",
+        "--root": "the root of Debian to install in [default: packages/make_root makes one]",
+    }.items():
+        parser.addoption(name, metavar="PATH", help=help_text)
+
+
+def pytest_cmdline_main(config: pytest.Config) -> None:
+    """Let workers of xdist keep the tests of an `xdist_group` together, with `-n` alone."""
+    if config.option.dist == "load":
+        config.option.dist = "loadgroup"
 
 
 @dataclasses.dataclass(eq=False)

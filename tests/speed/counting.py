@@ -4,7 +4,7 @@ import re
 import subprocess
 import tempfile
 
-import preloaded
+from support import preloaded
 
 
 def callgrind(words):

@@ -39,7 +39,7 @@ SHAPES = {
     "subfiles of one octet": prose(2560, SMALLEST_FIELDS, 1),
 }
 # Of each script the line of its story, how often it stands there, and the words that `pack` is given.
-SCRIPTS = {
+SCRIPTS: "dict[str, tuple[bytes, int, list[str]]]" = {
     "a script of prose": (PROSE, 16_384, []),
     "a script of lines of one octet": (b"x", 340_000, []),
     "a script of prose, subfiles of one octet": (PROSE, 2600, ["--subfile", "1"]),
@@ -54,7 +54,7 @@ AUDITS = {
 NUMBER = slice(34, 42)
 
 
-def script(line, lines):
+def script(line: bytes, lines: int) -> bytes:
     """The smallest script, its story so many of this line."""
     with open(f"{TOP}/samples/smallest.script", "rb") as sample:
         return sample.read() + (line + b"\n") * lines

@@ -1,0 +1,74 @@
+"""The completions of bash and zsh, against the help of the command."""
+from __future__ import annotations
+
+import re
+import shutil
+import subprocess
+from pathlib import Path
+
+import pytest
+
+from support.manual import help_of, options_of
+from support.running import SECONDS, TOP, Command, write
+from support.streams import COMMANDS
+
+# Completes the last argument, and prints the candidates.
+COMPLETE = """. "$0"
+COMP_WORDS=("$@")
+COMP_CWORD=$(($# - 1))
+_iimwire
+printf "%s\\n" "${COMPREPLY[@]}"
+"""
+
+
+def completed(folder: Path, *words: str) -> list[str]:
+    """Return what bash offers in a directory for the last of these words."""
+    arguments = ["bash", "-c", COMPLETE, f"{TOP}/completions/iimwire.bash", "iimwire", *words]
+    ran = subprocess.run(arguments, cwd=folder, capture_output=True, text=True, timeout=SECONDS)
+    assert (ran.stderr, ran.returncode) == ("", 0), words
+    return sorted(ran.stdout.split("\n")[:-1])
+
+
+def test_bash_completes_what_help_lists(run: Command, tmp_path: Path) -> None:
+    write(tmp_path / "a b.iim", b"")
+    first = sorted([*COMMANDS, "-h", "--help", "-V", "--version"])
+    assert completed(tmp_path, "") == first
+    assert completed(tmp_path, "s") == ["show", "story"]
+    (now,) = completed(tmp_path, "audit", "--now", "")
+    assert run(["audit", "--now", now]).status == 0
+
+
+@pytest.mark.parametrize("name", COMMANDS)
+def test_bash_completes_options_and_files(run: Command, tmp_path: Path, name: str) -> None:
+    write(tmp_path / "a b.iim", b"")
+    options = options_of(run, name)
+    assert completed(tmp_path, name, "-") == sorted([*options, "-h"])
+    for option in (option for option, (value, _) in options.items() if value is None):
+        assert completed(tmp_path, name, option, "") == ["a b.iim"], option
+    # (nothing is wrong in what it prints for an option with a value)
+    for option in (option for option, (value, _) in options.items() if value is not None):
+        completed(tmp_path, name, option, "")
+    assert completed(tmp_path, name, "a") == ["a b.iim"]
+    assert completed(tmp_path, name, "--", "-") == [""]
+
+
+def test_zsh_completes_what_help_lists(run: Command) -> None:
+    text = (TOP / "completions/_iimwire").read_text()
+    commands = help_of(run, "").partition("\nCommands:\n")[2].partition("\n\n")[0]
+    described = re.findall(r"^  ([a-z]+) +(.*)$", commands, re.M)
+    assert re.findall(r'^    "([a-z]+):(.*)"$', text, re.M) == described
+    for name in COMMANDS:
+        # (the options of a command are in its arm; a colon is written with a backslash)
+        arm = text.partition(f"        {name})\n")[2].partition(";;")[0]
+        rows = re.findall(r"'(--[a-z-]+)(=?)\[((?:\\.|[^\]])*)\]", arm)
+        options = {option: (equals, told.replace("\\", "")) for option, equals, told in rows}
+        listed = options_of(run, name).items()
+        want = {option: ("=" if value else "", told) for option, (value, told) in listed}
+        assert options == {option: it for option, it in want.items() if option != "--help"}, name
+
+
+def test_zsh_completions_have_no_syntax_error() -> None:
+    if not shutil.which("zsh"):
+        pytest.skip("zsh is not there")
+    arguments = ["zsh", "-n", f"{TOP}/completions/_iimwire"]
+    assert subprocess.run(arguments, capture_output=True, timeout=SECONDS).stderr == b""
