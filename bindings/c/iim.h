@@ -568,9 +568,11 @@ void iim_unpacker_restore(iim_limits limits, iim_unpacker *unpacker, const uint8
                           size_t ticket_len, uint64_t at, iim_answer *answer);
 
 /**
- * Closes an unpacker, and frees its memory. A closed unpacker stays closed.
+ * Closes an unpacker, and frees its memory.
  *
  * @param unpacker  an unpacker
+ *
+ * Status: none. A closed unpacker stays closed.
  */
 void iim_unpacker_close(iim_unpacker *unpacker);
 

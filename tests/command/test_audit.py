@@ -215,7 +215,7 @@ def test_accepts_the_instants_that_jiff_parses(run: Command) -> None:
         assert run(["audit", "--now", now], sent) == (2, b"", b"bad --now\n")
 
 
-# Forms of one instant that docs/reference/format.md lists for `--now`, and texts that specify no instant.
+# Forms of one instant that docs/reference/format.md lists for `--now`, and texts that are none.
 VALID = [
     "2024-03-01 12:00:00Z",
     "2024-03-01t12:00:00z",

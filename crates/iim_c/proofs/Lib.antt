@@ -1,7 +1,8 @@
 pub mod Words
 pub mod BegunThere
 pub mod Places
-pub mod TextLengths
 pub mod TicketFields
 pub mod FieldArrays
 pub mod Tried
+-- What proofs of other crates cite.
+pub mod TextLengths
