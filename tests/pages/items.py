@@ -1,10 +1,13 @@
-"""What a crate hands on to its callers, read out of its sources: each with its doc comment."""
+"""The public items of a crate, read out of its sources: each with its doc comment."""
+from __future__ import annotations
+
 import functools
 import glob
 import itertools
 import os
 import re
 from dataclasses import dataclass
+from typing import List
 
 TOP = os.path.dirname(os.path.dirname(os.path.dirname(os.path.realpath(__file__))))
 # What a caller can name, by the word that begins it.
@@ -232,3 +235,19 @@ def is_handed_on(item, names, modules, types):
 def functions(crate):
     """The public functions of a library that a crate above can call."""
     return [item for item in items(crate) if item.kind == "fn"]
+
+
+def static_libraries() -> List[str]:
+    """Return the crates that C can call, and no other crate."""
+    return re.findall(r"^(\w+) staticlib:", text_of(f"{TOP}/crates.txt"), re.M)
+
+
+def promising() -> List[str]:
+    """Return the crates with promises to callers: no tests, and no parts of `vectors`."""
+    crates = [crate for crate in sorted(os.listdir(f"{TOP}/crates")) if is_library(crate)]
+    return [crate for crate in crates if not crate.endswith("_tests") and not crate.startswith("vectors_")]
+
+
+def libraries() -> List[str]:
+    """Return the crates that other crates can call."""
+    return [crate for crate in promising() if crate not in static_libraries()]
