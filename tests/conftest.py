@@ -1,30 +1,6 @@
-"""Profiles of hypothesis: `gate`, the same examples each time; `night`, 50 times as many.
-
-`HYPOTHESIS_PROFILE=night` or `--hypothesis-profile night` selects a profile. A test scales its
-number of examples by that of the profile (`vectors.strategies.examples`).
-"""
+"""Load the profile of hypothesis: `gate`, or the one that HYPOTHESIS_PROFILE names."""
 from __future__ import annotations
 
-import os
+from support.profiles import load_profile
 
-from hypothesis import HealthCheck, settings
-
-SLOW = [HealthCheck.too_slow, HealthCheck.data_too_large]
-settings.register_profile(
-    "gate",
-    derandomize=True,
-    max_examples=100,
-    deadline=None,
-    database=None,
-    suppress_health_check=SLOW,
-)
-settings.register_profile(
-    "night",
-    derandomize=False,
-    max_examples=5000,
-    deadline=None,
-    database=None,
-    print_blob=True,
-    suppress_health_check=SLOW,
-)
-settings.load_profile(os.environ.get("HYPOTHESIS_PROFILE", "gate"))
+load_profile()
