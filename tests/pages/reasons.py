@@ -1,4 +1,5 @@
-"""The table of bindings/python/explain_causes.py: the likely reason of each cause of an envelope and what to do, from docs/CAUSES.md.
+"""The table of bindings/python/explain_causes.py: the likely reason of each cause of an envelope
+and what to do, from docs/CAUSES.md.
 
 All else in that file is written by hand.
 """

@@ -1,4 +1,6 @@
-"""What is written from the wrong bodies: docs/reference/mutants.md, and those in crates/*/must-fail, which `rt ci` tries."""
+"""What is written from the wrong bodies: docs/reference/mutants.md, and those in
+crates/*/must-fail, which `rt ci` tries.
+"""
 import glob
 import os
 
@@ -8,8 +10,9 @@ PAGE = f"{sources.TOP}/docs/reference/mutants.md"
 FOREWORD = """# Mutants
 
 A contract that no wrong code breaks says little. A mutant is an edit of the code, of definitions or
-of both that the prover must reject. There are {count}. They are in `crates/CRATE/wrong-bodies.edits`,
-and this page is generated from them by `tests/wrong_bodies --document`.
+of both that the prover must reject. There are {count}. They are in
+`crates/CRATE/wrong-bodies.edits`, and this page is generated from them by
+`tests/wrong_bodies --document`.
 
 Each public function with a body has at least one mutant, of itself or of a function below it. A
 lemma has none, since its body is empty. There is one more for each rule of the format that code
@@ -93,7 +96,11 @@ def edit(body):
 
 def tried(crate):
     """The wrong bodies of a crate that `rt ci` tries: of each its file, and what stands there."""
-    return {f"crates/{crate}/must-fail/{body.word}.edit": edit(body) for body in sources.bodies(crate) if "must-fail" in body.said}
+    return {
+        f"crates/{crate}/must-fail/{body.word}.edit": edit(body)
+        for body in sources.bodies(crate)
+        if "must-fail" in body.said
+    }
 
 
 def wanted():
@@ -109,9 +116,15 @@ def there():
 
 
 def write(names):
-    """Writes those of the files whose names begin so, removes what else stands there, and returns the names of those that changed."""
+    """Writes those of the files whose names begin so, removes what else stands there, and returns
+    the names of those that changed.
+    """
     found, right = there(), wanted()
-    changed = [path for path in sorted({*found, *right}) if path.startswith(names) and found.get(path) != right.get(path)]
+    changed = [
+        path
+        for path in sorted({*found, *right})
+        if path.startswith(names) and found.get(path) != right.get(path)
+    ]
     for path in changed:
         at = f"{sources.TOP}/{path}"
         if path not in right:
