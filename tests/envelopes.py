@@ -1,7 +1,23 @@
 """Envelopes for tests: two worked ones, and random ones that are right, or wrong in one place."""
 
+from __future__ import annotations
+
+from random import Random
+from typing import Collection, List, Sequence
+
 import rules
-from rules import FILLER, GREATEST, LETTERS, DIGITS, ROWS, SPACED, TRAILER, dataset_of
+from rules import (
+    DIGITS,
+    FILLER,
+    GREATEST,
+    LETTERS,
+    ROWS,
+    SPACED,
+    TRAILER,
+    Field,
+    Row,
+    dataset_of,
+)
 
 # The mandatory datasets alone, and a story of one empty line.
 SMALLEST_FIELDS = [
@@ -36,7 +52,7 @@ STORY_OBJECT = rules.object_of(STORY_HEAD, STORY_LINES, b"")
 STORY = rules.packed(STORY_FIELDS, STORY_OBJECT, 1024)
 
 
-def counted(each, size):
+def counted(each: Field, size: int) -> bytes:
     """A dataset with a count of so many octets behind its tag, or in it where that is 0."""
     record, dataset, data = each
     if size == 0:
@@ -44,15 +60,15 @@ def counted(each, size):
     return bytes([0x1C, record, dataset, 0x80, size]) + len(data).to_bytes(size, "big") + data
 
 
-def as_asked(record, number, octets):
+def as_asked(record: int, number: int, octets: bytes) -> Field:
     """A dataset with these octets, or with the one value that is right there."""
-    return record, number, rules.ASKED.get((record, number), (octets, None))[0]
+    return record, number, rules.ASKED.get((record, number), (octets, 0))[0]
 
 
-# Values of each kind, counts of each form, sizes that are not announced, subfiles of any size, and a message with all of its parts.
-VARIED_OBJECT = (
-    b"\0\r\n\x16\1Wire0042 5 Eco9 000017 a b\x80\r\0\n\x16\2 one\ttwo\nthree\r\n\r\r\nfour\xff\3end\r\n\4\n\0"
-)
+# Values of each kind, counts of each form, sizes that are not announced, subfiles of any size, and
+# a message with all of its parts.
+VARIED_OBJECT = b"\0\r\n\x16\1Wire0042 5 Eco9 000017 a b\x80\r\0\n\x16"
+VARIED_OBJECT += b"\2 one\ttwo\nthree\r\n\r\r\nfour\xff\3end\r\n\4\n\0"
 VARIED_FIELDS = [
     as_asked(*field)
     for field in [
@@ -81,9 +97,22 @@ VARIED_FIELDS = [
     ]
 ]
 VARIED_SIZES = [(7, 95, b"\0\0\0\1\0"), (7, 10, b"\0"), (7, 20, b"\x09")]
-VARIED_PARTS = [VARIED_OBJECT[:9], b"", VARIED_OBJECT[9:10], *(VARIED_OBJECT[at : at + 8] for at in range(10, len(VARIED_OBJECT), 8)), b""]
-VARIED_DATASETS = [*VARIED_FIELDS, *VARIED_SIZES, *((8, 10, part) for part in VARIED_PARTS), (9, 10, bytes([0, len(VARIED_OBJECT)]))]
-VARIED = b"".join(counted(each, (0, 1, 0, 2, 0, 8)[at % 6]) for at, each in enumerate(VARIED_DATASETS))
+VARIED_PARTS = [
+    VARIED_OBJECT[:9],
+    b"",
+    VARIED_OBJECT[9:10],
+    *(VARIED_OBJECT[at : at + 8] for at in range(10, len(VARIED_OBJECT), 8)),
+    b"",
+]
+VARIED_DATASETS = [
+    *VARIED_FIELDS,
+    *VARIED_SIZES,
+    *((8, 10, part) for part in VARIED_PARTS),
+    (9, 10, bytes([0, len(VARIED_OBJECT)])),
+]
+VARIED = b"".join(
+    counted(each, (0, 1, 0, 2, 0, 8)[at % 6]) for at, each in enumerate(VARIED_DATASETS)
+)
 
 LINE = bytes(octet for octet in range(256) if octet not in b"\1\2\3\4\n\r")
 SETS = {
@@ -95,7 +124,7 @@ SETS = {
 }
 
 
-def some(random, octets, least, most):
+def some(random: Random, octets: Collection[int], least: int, most: int) -> bytes:
     """So many of the octets: often the fewest, and now and then the most."""
     few = min(most, least + 12)
     many = most if most <= 64 or random.random() < 0.05 else few
@@ -103,24 +132,41 @@ def some(random, octets, least, most):
     return bytes(random.choices(sorted(octets), k=size))
 
 
-def date(random):
-    year = random.choice([1, 4, 100, 400, 1900, 1999, 2000, 2023, 2024, 9999, random.randint(1, 9999)])
+def date(random: Random) -> bytes:
+    """Return a date."""
+    year = random.choice(
+        [1, 4, 100, 400, 1900, 1999, 2000, 2023, 2024, 9999, random.randint(1, 9999)]
+    )
     month = random.choice([1, 2, 2, 12, random.randint(1, 12)])
     day = random.choice([1, 28, 29, 30, 31])
     return b"%04d%02d%02d" % (year, month, day if rules.is_day(year, month, day) else 28)
 
 
-def part_date(random):
+def part_date(random: Random) -> bytes:
+    """Return a date whose month, or day, or both may be unknown."""
     whole = date(random)
-    return random.choice([whole, whole[:6] + b"00", whole[:4] + b"0000", whole[:4] + b"0001", whole[:4] + b"0031"])
+    return random.choice(
+        [whole, whole[:6] + b"00", whole[:4] + b"0000", whole[:4] + b"0001", whole[:4] + b"0031"]
+    )
 
 
-def time(random):
-    any_of = lambda most: random.choice([0, most, random.randint(0, most)])
-    return b"%02d%02d%02d%c%02d%02d" % (any_of(23), any_of(59), any_of(59), random.choice(b"+-"), any_of(23), any_of(59))
+def time(random: Random) -> bytes:
+    """Return a time with its offset."""
+
+    def any_of(most: int) -> int:
+        return random.choice([0, most, random.randint(0, most)])
+
+    return b"%02d%02d%02d%c%02d%02d" % (
+        any_of(23),
+        any_of(59),
+        any_of(59),
+        random.choice(b"+-"),
+        any_of(23),
+        any_of(59),
+    )
 
 
-def value(random, row):
+def value(random: Random, row: Row) -> bytes:
     """Octets that a row of records 1 and 2 admits."""
     if row.kind in SETS:
         return some(random, SETS[row.kind], row.least, row.most)
@@ -129,7 +175,7 @@ def value(random, row):
     return some(random, range(256), row.least, row.most)
 
 
-def wrong_value(random, record, dataset):
+def wrong_value(random: Random, record: int, dataset: int) -> bytes:
     """Octets that are wrong, or may be: too few, too many, or with one octet changed."""
     row = rules.row_of(record, dataset) or rules.OTHER
     octets = value(random, row._replace(most=min(row.most, 2000)))
@@ -143,13 +189,13 @@ def wrong_value(random, record, dataset):
     return octets[:at] + bytes([octet]) + octets[at + 1 :]
 
 
-def digits_of(random, number):
+def digits_of(random: Random, number: int) -> bytes:
     """A number of 1 to 8 octets: the fewest that hold it, or more."""
     least = max(1, (number.bit_length() + 7) // 8)
     return number.to_bytes(random.choice([least, random.randint(least, 8), max(least, 4)]), "big")
 
 
-def fields(random, record, others):
+def fields(random: Random, record: int, others: int) -> List[Field]:
     """The datasets of record 1 or 2 in any order: the mandatory ones and some others."""
     known = [key[1] for key in ROWS if key[0] == record]
     numbers = list(rules.MANDATORY[record])
@@ -158,27 +204,37 @@ def fields(random, record, others):
             numbers += [each] * (random.randint(1, 3) if ROWS[record, each].repeats else 1)
     numbers += random.choices([each for each in range(256) if each not in known], k=others)
     random.shuffle(numbers)
-    return [as_asked(record, each, value(random, rules.row_of(record, each))) for each in numbers]
+    return [
+        as_asked(record, each, value(random, rules.row_of(record, each) or rules.OTHER))
+        for each in numbers
+    ]
 
 
-def line_end(random):
+def line_end(random: Random) -> bytes:
+    """Return a line end."""
     return random.choice([b"\n", b"\r\n", b"\r\n", b"\r\r\n"])
 
 
-def head(random):
+def head(random: Random) -> List[bytes]:
     """The parts of a message's header, the info often empty."""
     texts = (LETTERS, 8), (DIGITS, 8), (DIGITS, 1), (LETTERS | DIGITS, 8), (DIGITS, 6)
-    return [*(some(random, kind, 1, most) for kind, most in texts), random.choice([b"", some(random, SPACED, 0, 64)])]
+    return [
+        *(some(random, kind, 1, most) for kind, most in texts),
+        random.choice([b"", some(random, SPACED, 0, 64)]),
+    ]
 
 
-def text(random):
+def text(random: Random) -> bytes:
     """Lines and their ends."""
-    lines = [some(random, random.choice([LINE, b"ab \t"]), 0, 30) for _ in range(random.choice([1, 1, 2, 3, 6]))]
+    lines = [
+        some(random, random.choice([LINE, b"ab \t"]), 0, 30)
+        for _ in range(random.choice([1, 1, 2, 3, 6]))
+    ]
     return b"".join(line + line_end(random) for line in lines[:-1]) + lines[-1]
 
 
-def parts(random):
-    """The parts of a message in order: filler, header, gap, text, trailer and filler, with the marks between them."""
+def parts(random: Random) -> List[bytes]:
+    """Return the parts of a message in order, with the marks between them."""
     front, back = (some(random, FILLER, 0, 32) if random.random() < 0.3 else b"" for _ in range(2))
     source, number, priority, category, words, info = head(random)
     info = b" " + info if info or random.random() < 0.3 else b""
@@ -188,7 +244,7 @@ def parts(random):
     return [front, b"\1", *header, gap, b"\2", text(random), b"\3", tail, b"\4", back]
 
 
-def story(random):
+def story(random: Random) -> bytes:
     """The octets of a message."""
     return b"".join(parts(random))
 
@@ -210,7 +266,21 @@ OTHERS = [
     [b"", b" ", b" " * 65, b" " * 66, b" \x7f", b" \x80", b" \t"],
     [*FILLERS, b"", b"\r", b"\r" * 31 + b"\n", b"\r" * 32 + b"\n", b"\n" + b"\r" * 31],
     [b"", b"\2\2"],
-    [b"", b"a\r", b"a\r\r", b"a\rb", b"a\r\r\nb", b"a\r\r\r\nb", b"a\r\r\r", b"\1", b"\2", b"a\r\4", b"\4", b"\n", b"\r\n\0"],
+    [
+        b"",
+        b"a\r",
+        b"a\r\r",
+        b"a\rb",
+        b"a\r\r\nb",
+        b"a\r\r\r\nb",
+        b"a\r\r\r",
+        b"\1",
+        b"\2",
+        b"a\r\4",
+        b"\4",
+        b"\n",
+        b"\r\n\0",
+    ],
     [b"", b"\3\3"],
     [b"", b"\r" * 64, b"\n" * 65, b"\x7f", b"\t", b"\x80", b"\0"],
     [b"", b"\4\4"],
@@ -218,24 +288,29 @@ OTHERS = [
 ]
 
 
-def wrong_story(random):
+def wrong_story(random: Random) -> bytes:
     """The octets of a message with one part that is wrong, or may be."""
     made, at = parts(random), random.randrange(len(OTHERS))
     made[at] = random.choice(OTHERS[at])
     return b"".join(made)
 
 
-def subfiles(random, octets, most):
+def subfiles(random: Random, octets: bytes, most: int) -> List[bytes]:
     """The object in subfiles of any size up to `most`, and a few empty ones."""
-    made, at = [], 0
+    made: List[bytes] = []
+    at = 0
     while at < len(octets) or not made:
-        size = random.choice([most, random.randint(1, most), 0]) if most < 40 or random.random() < 0.9 else 0
+        size = (
+            random.choice([most, random.randint(1, most), 0])
+            if most < 40 or random.random() < 0.9
+            else 0
+        )
         made.append(octets[at : at + size])
         at += size
     return made + [b""] * random.choice([0, 0, 0, 1])
 
 
-def datasets(random, octets):
+def datasets(random: Random, octets: bytes) -> List[Field]:
     """The datasets of a right envelope of this object."""
     most = random.choice([1, 7, len(octets) or 1, 1024, 2**31, 2**40, GREATEST])
     numbers = [(20, digits_of(random, most))]
@@ -244,15 +319,22 @@ def datasets(random, octets):
     if is_known:
         numbers.append((90, digits_of(random, len(octets))))
     if random.random() < 0.4:
-        numbers.append((95, digits_of(random, random.choice([len(octets), len(octets) + 1, 2**32, GREATEST]))))
+        numbers.append(
+            (
+                95,
+                digits_of(random, random.choice([len(octets), len(octets) + 1, 2**32, GREATEST])),
+            )
+        )
     random.shuffle(numbers)
-    made = fields(random, 1, random.choice([0, 0, 1])) + fields(random, 2, random.choice([0, 0, 1, 3]))
+    made = fields(random, 1, random.choice([0, 0, 1])) + fields(
+        random, 2, random.choice([0, 0, 1, 3])
+    )
     made += [(7, *each) for each in numbers]
     made += [(8, 10, part) for part in subfiles(random, octets, max(1, min(most, len(octets))))]
     return [*made, (9, 10, digits_of(random, len(octets)))]
 
 
-def spelled(random, each):
+def spelled(random: Random, each: Field) -> bytes:
     """A dataset with a count of any form."""
     size = len(each[2])
     if size <= 0x7FFF and random.random() < 0.8:
@@ -260,11 +342,12 @@ def spelled(random, each):
     return counted(each, random.randint(max(1, (size.bit_length() + 7) // 8), 8))
 
 
-def joined(random, made):
+def joined(random: Random, made: Sequence[Field]) -> bytes:
+    """Return the octets of datasets, with counts of any form."""
     return b"".join(spelled(random, each) for each in made)
 
 
-def wrong_size(random, data):
+def wrong_size(random: Random, data: bytes) -> bytes:
     """A number near another, or octets of no such number."""
     if random.random() < 0.3:
         return random.choice([b"\xff" * random.randint(1, 9), b"\0", b"", b"\0" + data])
@@ -272,8 +355,8 @@ def wrong_size(random, data):
     return size.to_bytes(max(len(data), (size.bit_length() + 7) // 8), "big")
 
 
-def spoiled(random, made):
-    """The datasets with one dropped, doubled, moved, or changed in a way that is wrong, or may be."""
+def spoiled(random: Random, made: Sequence[Field]) -> List[Field]:
+    """Return datasets with one missing, doubled, moved, or changed: most of them invalid."""
     made, at = list(made), random.randrange(len(made))
     sizes = [place for place, each in enumerate(made) if each[0] in (7, 9)]
     if sizes and random.random() < 0.4:
@@ -288,7 +371,9 @@ def spoiled(random, made):
     elif how == 2:
         made.insert(random.randrange(len(made)), made.pop(at))
     elif how == 3:
-        other = random.choice([0, 1, 2, 3, 7, 8, 9, 255]), random.choice([10, 20, 90, 95, random.randrange(256)])
+        other = random.choice([0, 1, 2, 3, 7, 8, 9, 255]), random.choice(
+            [10, 20, 90, 95, random.randrange(256)]
+        )
         made[at] = random.choice([(other[0], dataset, data), (record, other[1], data)])
     elif how >= 4 and record in (7, 9):
         made[at] = record, dataset, wrong_size(random, data)
@@ -297,12 +382,7 @@ def spoiled(random, made):
     return made
 
 
-def spoiled_fields(random, made):
-    """Datasets of records 1 and 2 with one dropped, doubled, moved or changed."""
-    return spoiled(random, made) if made else [(1, 0, b"\0\4")]
-
-
-def damaged(random, octets):
+def damaged(random: Random, octets: bytes) -> bytes:
     """The octets with some changed, cut out, doubled or put in, in one place or two."""
     for _ in range(random.choice([1, 1, 1, 2])):
         at = random.randrange(len(octets) + 1)

@@ -1,16 +1,45 @@
-"""Tickets a second time, in plain Python: the ticket of a place, and what is answered to any octets that are handed in as one."""
-import collections
+"""Tickets a second time, in plain Python: the ticket of a state, and the reply to any octets."""
+from __future__ import annotations
 
-from rules import COUNT_OCTETS, DIGITS, GREATEST, LETTERS, SPACED, TRAILER, Envelope, Message, Refused, number
+from typing import Dict, List, NamedTuple, Optional, Tuple
+
+from rules import (
+    COUNT_OCTETS,
+    DIGITS,
+    GREATEST,
+    LETTERS,
+    SPACED,
+    TRAILER,
+    Envelope,
+    Field,
+    Limits,
+    Message,
+    Refused,
+    number,
+)
 
 # The greatest size and the most octets of a count where tickets were of version 1.
 EARLIER_GREATEST, EARLIER_OCTETS = 2**32 - 1, 4
 
-# The parts of a ticket; `begun` has the dataset, the count, the octets still to come and those that have come.
-Place = collections.namedtuple("Place", "section phase tag begun fields numbers total subfiles part counter flag texts")
+
+class Place(NamedTuple):
+    """The parts of a ticket; `begun` has the dataset, the count, the octets remaining, the data."""
+
+    section: int
+    phase: int
+    tag: bytes
+    begun: Optional[Tuple[int, int, int, bytes]]
+    fields: List[Field]
+    numbers: Dict[int, int]
+    total: int
+    subfiles: int
+    part: int
+    counter: int
+    flag: int
+    texts: List[bytes]
 
 
-def place(envelope):
+def place(envelope: Envelope) -> Place:
     """Where an envelope stands."""
     message, begun = envelope.message, None
     if envelope.begun:
@@ -23,7 +52,7 @@ def place(envelope):
     return Place(*front, *sizes, message.part, message.counter, message.flag, texts)
 
 
-def ticket(envelope, version=2):
+def ticket(envelope: Envelope, version: int = 2) -> Optional[bytes]:
     """The ticket of the place, or None where it is none of this version."""
     found = place(envelope)
     if version == 1 and not is_place(found, EARLIER_GREATEST, EARLIER_OCTETS):
@@ -31,31 +60,33 @@ def ticket(envelope, version=2):
     return spelled(found, version)
 
 
-def spelled(place, version=2):
+def spelled(place: Place, version: int = 2) -> bytes:
     """The octets of a ticket."""
     wide = COUNT_OCTETS if version == 2 else EARLIER_OCTETS
     parts = [b"IIMT", bytes([version, place.section, place.phase])]
     if place.phase == 0:
         parts += [bytes([len(place.tag)]), place.tag]
-    elif place.phase == 1:
+    elif place.phase == 1 and place.begun:
         dataset, count, left, data = place.begun
         parts += [bytes([dataset]), count.to_bytes(wide, "big"), left.to_bytes(wide, "big"), data]
     parts.append(len(place.fields).to_bytes(4, "big"))
     for record, dataset, data in place.fields:
         parts += [bytes([record, dataset]), len(data).to_bytes(4, "big"), data]
     for each in (10, 20, 90, 95):
-        parts.append(b"\1" + place.numbers[each].to_bytes(wide, "big") if each in place.numbers else b"\0")
+        parts.append(
+            b"\1" + place.numbers[each].to_bytes(wide, "big") if each in place.numbers else b"\0"
+        )
     parts += [place.total.to_bytes(wide, "big"), place.subfiles.to_bytes(4, "big")]
     parts.append(bytes([place.part, place.counter, place.flag]))
     return b"".join([*parts, *(bytes([len(text)]) + text for text in place.texts)])
 
 
-def widened(octets):
+def widened(octets: bytes) -> bytes:
     """The ticket of version 2 for the place of a ticket."""
     return spelled(place_of(octets)[1])
 
 
-def narrowed(place):
+def narrowed(place: Place) -> Optional[bytes]:
     """The ticket of version 1 with the parts of a place, or None where they do not fit."""
     try:
         return spelled(place, 1)
@@ -70,20 +101,23 @@ class Unreadable(Exception):
 class Cutter:
     """Octets that are cut up from the front."""
 
-    def __init__(self, octets):
+    def __init__(self, octets: bytes) -> None:
+        """Begin at the first octet."""
         self.rest = octets
 
-    def take(self, size):
+    def take(self, size: int) -> bytes:
+        """Return the next octets."""
         if size > len(self.rest):
             raise Unreadable("100 TicketForm")
         front, self.rest = self.rest[:size], self.rest[size:]
         return front
 
-    def number(self, size):
+    def number(self, size: int) -> int:
+        """Return the number that the next octets encode."""
         return number(self.take(size))
 
 
-def place_of(octets):
+def place_of(octets: bytes) -> Tuple[int, Place]:
     """The version and the place that a ticket tells, whether or not there is such a place."""
     if len(octets) < 5 or octets[:4] != b"IIMT":
         raise Unreadable("100 TicketForm")
@@ -105,7 +139,10 @@ def place_of(octets):
         begun = dataset, count, left, b"" if section == 8 else rest.take(count - left)
     elif phase > 2:
         raise Unreadable("100 TicketForm")
-    fields = [(rest.number(1), rest.number(1), rest.take(rest.number(4))) for _ in range(min(rest.number(4), len(octets)))]
+    fields = [
+        (rest.number(1), rest.number(1), rest.take(rest.number(4)))
+        for _ in range(min(rest.number(4), len(octets)))
+    ]
     numbers = {}
     for each in (10, 20, 90, 95):
         mark = rest.number(1)
@@ -113,29 +150,41 @@ def place_of(octets):
             raise Unreadable("100 TicketForm")
         if mark:
             numbers[each] = rest.number(wide)
-    total, subfiles, part, counter, flag = rest.number(wide), rest.number(4), rest.number(1), rest.number(1), rest.number(1)
+    total, subfiles, part, counter, flag = (
+        rest.number(wide),
+        rest.number(4),
+        rest.number(1),
+        rest.number(1),
+        rest.number(1),
+    )
     texts = [rest.take(rest.number(1)) for _ in range(7)]
     if rest.rest:
         raise Unreadable("100 TicketForm")
-    return version, Place(section, phase, tag, begun, fields, numbers, total, subfiles, part, counter, flag, texts)
+    return version, Place(
+        section, phase, tag, begun, fields, numbers, total, subfiles, part, counter, flag, texts
+    )
 
 
-def judged(octets, limits):
+def judged(octets: bytes, limits: Limits) -> str:
     """What `restore` answers to a ticket."""
     try:
         version, place = place_of(octets)
     except Unreadable as why:
         return str(why)
-    if not is_place(place, GREATEST if version == 2 else EARLIER_GREATEST, COUNT_OCTETS if version == 2 else EARLIER_OCTETS):
+    if not is_place(
+        place,
+        GREATEST if version == 2 else EARLIER_GREATEST,
+        COUNT_OCTETS if version == 2 else EARLIER_OCTETS,
+    ):
         return "102 Impossible"
-    is_begun = place.begun is not None and place.section in (1, 2)
-    if sum(len(data) for _, _, data in place.fields) + (place.begun[1] if is_begun else 0) > limits[0]:
+    begun = [place.begun[1]] if place.begun and place.section in (1, 2) else []
+    if sum([*(len(data) for _, _, data in place.fields), *begun]) > limits[0]:
         return "50 HeaderFull"
-    return "51 TooManyFields" if len(place.fields) + is_begun > limits[1] else "restored"
+    return "51 TooManyFields" if len(place.fields) + len(begun) > limits[1] else "restored"
 
 
-def is_place(place, greatest, wide):
-    """Whether some octets lead there, with sizes up to the greatest and counts of so many octets."""
+def is_place(place: Place, greatest: int, wide: int) -> bool:
+    """Return whether some octets reach a state, with these greatest sizes and widest counts."""
     if place.section not in (0, 1, 2, 7, 8, 9) or (place.section == 0 and place.begun):
         return False
     if place.phase == 0 and not is_begun_tag(place.tag, wide):
@@ -152,7 +201,7 @@ def is_place(place, greatest, wide):
     return is_message(place) and (place.section < 8 or is_object(place, greatest, wide))
 
 
-def is_begun_tag(tag, wide):
+def is_begun_tag(tag: bytes, wide: int) -> bool:
     """Whether a tag begins with the octets, and continues."""
     if tag[:1] not in (b"", b"\x1c") or tag[3:4] > b"\x80":
         return False
@@ -161,8 +210,8 @@ def is_begun_tag(tag, wide):
     return tag[3] == 0x80 and 1 <= tag[4] <= wide and len(tag) < 5 + tag[4]
 
 
-def are_fields(place):
-    """Whether the datasets of records 1 and 2, and what is begun of them or follows them, may stand so."""
+def are_fields(place: Place) -> bool:
+    """Return whether records 1 and 2 are valid, with a partial dataset or record 7 after them."""
     envelope = Envelope((2**64, 2**64))
     try:
         for record, dataset, data in place.fields:
@@ -179,23 +228,31 @@ def are_fields(place):
     return envelope.section == min(place.section, 7)
 
 
-def are_numbers(place, greatest, wide):
+def are_numbers(place: Place, greatest: int, wide: int) -> bool:
     """Whether the numbers of record 7 may stand so."""
     numbers = place.numbers
     mode, size, announced, most = (numbers.get(each) for each in (10, 20, 90, 95))
     if mode not in (None, 0, 1) or size == 0 or any(each > greatest for each in numbers.values()):
         return False
-    if (mode == 0 and announced is not None) or (None not in (announced, most) and announced > most):
+    if mode == 0 and announced is not None:
+        return False
+    if announced is not None and most is not None and announced > most:
         return False
     if place.section == 7 and place.begun:
         dataset, count = place.begun[:2]
-        return dataset in (10, 20, 90, 95) and dataset not in numbers and 1 <= count <= (1 if dataset == 10 else wide)
+        return (
+            dataset in (10, 20, 90, 95)
+            and dataset not in numbers
+            and 1 <= count <= (1 if dataset == 10 else wide)
+        )
     if place.section == 7:
         return len(numbers) > 0
-    return place.section < 7 or (mode is not None and size is not None and (mode == 0 or announced is not None))
+    return place.section < 7 or (
+        mode is not None and size is not None and (mode == 0 or announced is not None)
+    )
 
 
-def is_object(place, greatest, wide):
+def is_object(place: Place, greatest: int, wide: int) -> bool:
     """Whether the subfiles may hold so many octets."""
     numbers = place.numbers
     bound = min(greatest, numbers.get(90, greatest), numbers.get(95, greatest))
@@ -204,15 +261,22 @@ def is_object(place, greatest, wide):
         dataset, count, left, _ = place.begun
         if dataset != 10 or count > numbers[20]:
             return False
-        whole, ended, least, bound = place.total - (count - left), place.subfiles - 1, 0, bound - count
+        whole, ended, least, bound = (
+            place.total - (count - left),
+            place.subfiles - 1,
+            0,
+            bound - count,
+        )
     if place.section == 9:
         least = numbers.get(90, 0)
-        if place.part != Message.AFTER or (place.begun and (place.begun[0] != 10 or place.begun[1] > wide)):
+        if place.part != Message.AFTER or (
+            place.begun and (place.begun[0] != 10 or place.begun[1] > wide)
+        ):
             return False
     return place.subfiles > 0 and least <= whole <= min(bound, ended * numbers[20]) and whole >= 0
 
 
-def is_message(place):
+def is_message(place: Place) -> bool:
     """Whether the message may have come so far with the octets of the object."""
     texts, part, counter, flag = place.texts, place.part, place.counter, place.flag
     if part > Message.AFTER:
@@ -228,16 +292,23 @@ def is_message(place):
         (texts[6], TRAILER, 64, Message.TAIL),
     ]
     for text, kind, most, of in forms:
-        is_needed = (of < part and of not in (Message.INFO, Message.TAIL)) or of == part in (Message.NUMBER, Message.PRIORITY)
-        if not kind.issuperset(text) or len(text) > (most if of <= part else 0) or len(text) < is_needed:
+        is_needed = (of < part and of not in (Message.INFO, Message.TAIL)) or of == part in (
+            Message.NUMBER,
+            Message.PRIORITY,
+        )
+        if (
+            not kind.issuperset(text)
+            or len(text) > (most if of <= part else 0)
+            or len(text) < is_needed
+        ):
             return False
     if not is_counted(part, counter, flag):
         return False
-    least, most = lengths(place)
-    return least <= place.total and (most is None or place.total <= most)
+    fewest, longest = lengths(place)
+    return fewest <= place.total and (longest is None or place.total <= longest)
 
 
-def is_counted(part, counter, flag):
+def is_counted(part: int, counter: int, flag: int) -> bool:
     """Whether the counter and the flag may be such in a part."""
     if part in (Message.BEFORE, Message.AFTER):
         return counter <= 32 and flag == 0
@@ -246,14 +317,14 @@ def is_counted(part, counter, flag):
     return counter == 0 and flag <= (2 if part == Message.TEXT else 0)
 
 
-def lengths(place):
+def lengths(place: Place) -> Tuple[int, Optional[int]]:
     """The fewest and the most octets of a message that lead there; no most from the text on."""
     part = place.part
     if part == Message.BEFORE:
         return place.counter, place.counter
-    # SOH, the texts, and the spaces before and behind the priority, before the words and before the info
+    # SOH, the texts, and the spaces around the priority, before the words and before the info
     spaces = [Message.SPACE, Message.CATEGORY, Message.WORDS]
-    least = 1 + sum(map(len, place.texts)) + sum(part >= each for each in spaces)
+    least: int = 1 + sum(map(len, place.texts)) + sum(part >= each for each in spaces)
     info = len(place.texts[5])
     most = least + 32 + (part >= Message.INFO)
     least += part == Message.INFO or info > 0

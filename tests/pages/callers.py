@@ -1,7 +1,8 @@
 """The pages for callers, crates/CRATE/CALLING.md, as they are written from the sources.
 
-A page has what the root of the crate says of it, what docs/CALLING.md says for its callers, the caller that is named there, cut out of
-its source, and then all that a caller can name, with its doc comments, a part for each file.
+A page has what the root of the crate says of it, what docs/CALLING.md says for its callers, the
+caller that is named there, cut out of its source, and then all that a caller can name, with its doc
+comments, a part for each file.
 """
 import functools
 import os
@@ -13,9 +14,15 @@ from pages.items import TOP
 
 WIDTH = 140
 HAND = f"{TOP}/docs/CALLING.md"
-MADE = "This page is generated from the sources and from [`docs/CALLING.md`](../../docs/CALLING.md) by `tests/documents --write`."
+MADE = (
+    "This page is generated from the sources and from [`docs/CALLING.md`](../../docs/CALLING.md) "
+    "by `tests/write_pages`."
+)
 CLAUSES = "[`docs/reference/{0}.md`](../../docs/reference/{0}.md) has the clauses of each call."
-LAW = "A lemma is a function whose body is empty, or calls other lemmas only. A call makes its clauses available to the proof."
+LAW = (
+    "A lemma is a function whose body is empty, or calls other lemmas only. "
+    "A call makes its clauses available to the proof."
+)
 LAWS = "The clause of `{}` is a record: each lemma is a field of it."
 # A line of docs/CALLING.md that names a caller: what is shown, its file, and what else is said.
 CALLER = re.compile(r"Caller: ((?:`\w+`(?:, | and )?)+) of `(crates/[\w/.]+\.rt)`(.*)")
@@ -23,17 +30,30 @@ CALLER = re.compile(r"Caller: ((?:`\w+`(?:, | and )?)+) of `(crates/[\w/.]+\.rt)
 
 def wrapped(text, first="", rest=""):
     """A text in lines of the page's width."""
-    return textwrap.wrap(text, WIDTH, initial_indent=first, subsequent_indent=rest, break_long_words=False, break_on_hyphens=False)
+    return textwrap.wrap(
+        text,
+        WIDTH,
+        initial_indent=first,
+        subsequent_indent=rest,
+        break_long_words=False,
+        break_on_hyphens=False,
+    )
 
 
 def without_links(text):
     """A doc comment's text with the names of code in the place of links to code."""
-    return re.sub(r"\[(`[^`\]]+`)\](?:\([\w:]+\))?", lambda link: link[1].replace("crate::", ""), text)
+    return re.sub(
+        r"\[(`[^`\]]+`)\](?:\([\w:]+\))?", lambda link: link[1].replace("crate::", ""), text
+    )
 
 
 def paragraphs(doc):
     """The paragraphs of a doc comment."""
-    return [without_links(" ".join(part.split("\n"))) for part in "\n".join(doc).strip().split("\n\n") if part]
+    return [
+        without_links(" ".join(part.split("\n")))
+        for part in "\n".join(doc).strip().split("\n\n")
+        if part
+    ]
 
 
 def said_of_file(path):
@@ -42,7 +62,9 @@ def said_of_file(path):
 
 
 def told(item):
-    """The lines of an item of a list: what is said of a part or a constant stands beside it where there is room."""
+    """The lines of an item of a list: what is said of a part or a constant stands beside it where
+    there is room.
+    """
     said = paragraphs(item.doc)
     beside = f"- `{item.code}`: {said[0]}" if len(said) == 1 and item.kind != "fn" else ""
     if beside and len(beside) <= WIDTH:
@@ -64,10 +86,17 @@ def trait_of(code):
 
 def traits_of(found):
     """The lines on the traits that a type has, and on what its calls need."""
-    needs = list(dict.fromkeys(re.match(r"impl<(.*?)> ", item.code)[1] for item in found if " for " not in item.code))
+    needs = list(
+        dict.fromkeys(
+            re.match(r"impl<(.*?)> ", item.code)[1] for item in found if " for " not in item.code
+        )
+    )
     traits = [trait_of(item.code) for item in found if " for " in item.code]
     if needs:
-        yield from ["", *wrapped(f"Its methods need {' and '.join(f'`{each}`' for each in needs)}.")]
+        yield from [
+            "",
+            *wrapped(f"Its methods need {' and '.join(f'`{each}`' for each in needs)}."),
+        ]
     if traits:
         yield from ["", *wrapped(f"It implements {', '.join(traits)}.")]
 
@@ -79,7 +108,12 @@ def part_of_type(found):
     for part in paragraphs(head.doc):
         yield from ["", *wrapped(part)]
     yield from traits_of([item for item in found if item.kind == "impl"])
-    listed = [item for kinds in (("part",), ("const",), ("ghost",), ("fn",)) for item in found if item.kind in kinds]
+    listed = [
+        item
+        for kinds in (("part",), ("const",), ("ghost",), ("fn",))
+        for item in found
+        if item.kind in kinds
+    ]
     if listed:
         yield ""
     for item in listed:
@@ -100,7 +134,9 @@ def part_of_file(path, found, modules):
     for kind, heading in (("fn", "Functions"), ("const", "Constants")):
         listed = [item for item in free if item.kind == kind]
         if listed:
-            yield from ["", f"### {heading}", ""] if types or len({item.kind for item in free}) > 1 else [""]
+            yield from ["", f"### {heading}", ""] if types or len(
+                {item.kind for item in free}
+            ) > 1 else [""]
         for item in listed:
             yield from told(item)
 
@@ -111,9 +147,15 @@ def is_laws(path):
 
 
 def files_of(crate):
-    """What a caller can name, file by file: first what the front of the page names, in its order, and the laws last. What is of a type stands
-    where the type does."""
-    front = " ".join([*paragraphs(said_of_file(f"{TOP}/crates/{crate}/src/lib.rt")), by_hand().get(crate, ("",))[0]])
+    """What a caller can name, file by file: first what the front of the page names, in its order,
+    and the laws last. What is of a type stands where the type does.
+    """
+    front = " ".join(
+        [
+            *paragraphs(said_of_file(f"{TOP}/crates/{crate}/src/lib.rt")),
+            by_hand().get(crate, ("",))[0],
+        ]
+    )
     found = items.items(crate)
     home = {item.name: item.path for item in found if item.kind in items.BLOCKS}
     files = {}
@@ -121,7 +163,12 @@ def files_of(crate):
         files.setdefault(home.get(item.owner, item.path), []).append(item)
 
     def order(path):
-        named = [at for item in files[path] for at in [front.find(f"`{item.owner or item.name}")] if at >= 0]
+        named = [
+            at
+            for item in files[path]
+            for at in [front.find(f"`{item.owner or item.name}")]
+            if at >= 0
+        ]
         return is_laws(path), min(named, default=len(front)), path
 
     for path in sorted(files, key=order):
@@ -135,40 +182,72 @@ def parts_of_page(crate):
     laws = [path for path, _ in files if is_laws(path)]
     for path, found in files:
         records = [LAWS.format(item.name) for item in found if items.laws_at(item)]
-        yield from ["", "## Lemmas", "", *wrapped(" ".join([LAW, *records]))] if path in laws[:1] else []
+        yield from ["", "## Lemmas", "", *wrapped(" ".join([LAW, *records]))] if path in laws[
+            :1
+        ] else []
         yield from part_of_file(path, found, modules)
 
 
 def names_of(crate):
     """The lines on where names stand, and on those of other crates."""
     names, modules = items.handed_on(crate)
-    own = ", ".join(f"`{module}`" for module in sorted(modules) if os.path.exists(f"{TOP}/crates/{crate}/src/{module}.rt"))
+    own = ", ".join(
+        f"`{module}`"
+        for module in sorted(modules)
+        if os.path.exists(f"{TOP}/crates/{crate}/src/{module}.rt")
+    )
     at_root = {item.name for item in items.items(crate)} & names
-    where = f"All names are at the root{f', except those in {own}' if own else ''}." if at_root else f"Each name is in its module: {own}."
+    where = (
+        f"All names are at the root{f', except those in {own}' if own else ''}."
+        if at_root
+        else f"Each name is in its module: {own}."
+    )
     inner = ", ".join(f"`{name}`" for name in sorted(items.internals(crate)))
-    where += f" The module `internals` is for the layers above only, and promises nothing: {inner}." if inner else ""
+    where += (
+        f" The module `internals` is for the layers above only, and promises nothing: {inner}."
+        if inner
+        else ""
+    )
     others = list(items.of_others(crate))
-    yield from wrapped(f"{where} {CLAUSES.format(crate)}{' Exported besides, as names or as modules:' if others else ''}")
+    yield from wrapped(
+        f"{where} {CLAUSES.format(crate)}"
+        + (" Exported besides, as names or as modules:" if others else "")
+    )
     yield from [""] if others else []
     for place, other, handed in others:
         listed = ", ".join(f"`{name}`" for name in handed)
-        yield from wrapped(f"of [`{other}`](../{other}/CALLING.md){f' in `{place}`' if place else ''}: {listed}", "- ", "  ")
+        yield from wrapped(
+            f"of [`{other}`](../{other}/CALLING.md){f' in `{place}`' if place else ''}: {listed}",
+            "- ",
+            "  ",
+        )
 
 
 @functools.cache
 def by_hand():
     """What docs/CALLING.md says of each library, and the line on its caller."""
     parts = re.split(r"^## `(\w+)`\n", items.text_of(HAND), flags=re.M)
-    return {crate: text.strip().partition("Caller: ")[::2] for crate, text in zip(parts[1::2], parts[2::2])}
+    return {
+        crate: text.strip().partition("Caller: ")[::2]
+        for crate, text in zip(parts[1::2], parts[2::2])
+    }
 
 
 def from_here(text):
-    """A text of docs/CALLING.md as it stands in the folder of a crate: with links that lead to the same."""
-    return re.sub(r"\]\(([^):]+)\)", lambda link: f"]({os.path.relpath(os.path.join('docs', link[1]), 'crates/any')})", text)
+    """A text of docs/CALLING.md as it stands in the folder of a crate: with links that lead to the
+    same.
+    """
+    return re.sub(
+        r"\]\(([^):]+)\)",
+        lambda link: f"]({os.path.relpath(os.path.join('docs', link[1]), 'crates/any')})",
+        text,
+    )
 
 
 def named_caller(crate):
-    """What the page of a library shows: the names as they are told, their file, and what else is said."""
+    """What the page of a library shows: the names as they are told, their file, and what else is
+    said.
+    """
     return CALLER.fullmatch("Caller: " + " ".join(by_hand()[crate][1].split())).groups()
 
 
@@ -185,7 +264,15 @@ def page(crate):
     lines = [f"# Calling `{crate}`", "", MADE]
     for part in root + said:
         lines += ["", *wrapped(part)]
-    lines += ["", *names_of(crate), "", "## Example", "", *wrapped(f"{names} of `{path}`{from_here(rest)}"), ""]
+    lines += [
+        "",
+        *names_of(crate),
+        "",
+        "## Example",
+        "",
+        *wrapped(f"{names} of `{path}`{from_here(rest)}"),
+        "",
+    ]
     lines += ["```rust", shown.shown(path, re.findall(r"`(\w+)`", names)), "```"]
     lines += parts_of_page(crate)
     return "\n".join(lines) + "\n"

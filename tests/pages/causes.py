@@ -1,4 +1,4 @@
-"""The causes of docs/reference/causes.md: each is a heading, with a list of named entries below it."""
+"""The causes of docs/reference/causes.md, each a heading with a list of named entries below it."""
 from __future__ import annotations
 
 import re
@@ -29,7 +29,9 @@ def causes() -> Iterator[Cause]:
             heading, _, body = part.partition("\n")
             number, name = heading.split()
             entries = re.findall(r"^- \*\*([\w ]+)\*\*: ((?:.|\n  )+)", body, re.M)
-            yield Cause(title, int(number), name, {key: " ".join(text.split()) for key, text in entries})
+            yield Cause(
+                title, int(number), name, {key: " ".join(text.split()) for key, text in entries}
+            )
 
 
 def meanings() -> Dict[int, str]:
@@ -38,12 +40,18 @@ def meanings() -> Dict[int, str]:
 
 
 def faults() -> List[str]:
-    """Return what is wrong with the page: a number that occurs twice, or entries that are missing or out of order."""
+    """Return what is wrong with the page: a number that occurs twice, or entries that are missing
+    or out of order.
+    """
     found = list(causes())
     numbers = [cause.number for cause in found]
     wrong = [f"{cause.number} occurs twice" for cause in found if numbers.count(cause.number) > 1]
     for cause in found:
-        wanted = [key for key in ENTRIES if key in ("Meaning", "Likely reason", "What to do") or key in cause.entries]
+        wanted = [
+            key
+            for key in ENTRIES
+            if key in ("Meaning", "Likely reason", "What to do") or key in cause.entries
+        ]
         if list(cause.entries) != (ENTRIES if cause.section == OF_ENVELOPES else wanted):
             wrong.append(f"{cause.number} has the entries {list(cause.entries)}")
     return wrong

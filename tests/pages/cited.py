@@ -1,6 +1,7 @@
 """Find the public definitions that contracts cite, by the imports of the files that cite them.
 
-A file of definitions is named by its path below `crates`, as `iim_dataset/Format/Octets`. A definition is a pair of a file and a name.
+A file of definitions is named by its path below `crates`, as `iim_dataset/Format/Octets`. A
+definition is a pair of a file and a name.
 """
 from __future__ import annotations
 
@@ -15,20 +16,29 @@ from pages.items import TOP, text_of
 Definition = Tuple[str, str]
 # A crate, a type or None, and a function: whose contract is meant.
 Contract = Tuple[str, Optional[str], str]
-# Of each word the file that it is imported from, and its name there; no name if the word is that of the file.
+# Of each word the file that it is imported from, and its name there; no name if the word is that of
+# the file.
 Words = Dict[str, Tuple[str, Optional[str]]]
 HEADLINE: List[Contract] = [("iim_round_trip", None, "unpack_packed")]
-BELOW: List[Contract] = [("iim_unpack", "Unpacker", name) for name in ("feed", "end_of_input", "into_unpacked")] + [("iim_pack", None, "pack")]
+BELOW: List[Contract] = [
+    ("iim_unpack", "Unpacker", name) for name in ("feed", "end_of_input", "into_unpacked")
+] + [("iim_pack", None, "pack")]
 # What a definition begins with, up to its name.
 BEGINS = r"^(?:abbrev |unfoldable )?pub (?=(?:record |data )?([^\s({:]+))"
 
 
-def imported(text: str, side: str = "specs") -> Iterator[Tuple[str, List[str], Optional[str], Optional[str]]]:
-    """Yield what a text imports from `specs` or `proofs`: the crate, the modules (and the type) above the name, the name, and its word.
+def imported(
+    text: str, side: str = "specs"
+) -> Iterator[Tuple[str, List[str], Optional[str], Optional[str]]]:
+    """Yield what a text imports from `specs` or `proofs`: the crate, the modules (and the type)
+    above the name, the name, and its word.
 
     A module has no name, and no word if it keeps its own.
     """
-    uses = rf"^ *(?:ghost |pub )?use Rattle\.(\w+)\.{side}\.([\w.]*?)\.?(?:\{{([^}}]*)\}})?(?: as (\w+))?;?$"
+    uses = (
+        rf"^ *(?:ghost |pub )?use Rattle\.(\w+)\.{side}\.([\w.]*?)"
+        r"\.?(?:\{([^}]*)\})?(?: as (\w+))?;?$"
+    )
     for crate, path, group, word in re.findall(uses, text, re.M):
         above = path.split(".") if path else []
         for each in group.split(",") if group else []:
@@ -57,23 +67,34 @@ def path_of(file: str) -> str:
 
 @functools.lru_cache(maxsize=None)
 def public_file(file: str) -> Tuple[Words, Dict[str, str], Dict[str, str]]:
-    """Return what a file imports, the code of its definitions, and of each name the definition that it belongs to: itself, or its type."""
+    """Return what a file imports, the code of its definitions, and of each name the definition that
+    it belongs to: itself, or its type.
+    """
     text = re.sub(" *--.*", "", text_of(f"{TOP}/{path_of(file)}"))
     parts = re.split(BEGINS, text, flags=re.M)
     codes = dict(zip(parts[1::2], parts[2::2]))
-    forms = {form: name for name, code in codes.items() if code.startswith("data ") for form in re.findall(r"^  (\w+) :", code, re.M)}
+    forms = {
+        form: name
+        for name, code in codes.items()
+        if code.startswith("data ")
+        for form in re.findall(r"^  (\w+) :", code, re.M)
+    }
     return brings_in(text), codes, {**forms, **{name: name for name in codes}}
 
 
 def names_bound(code: str) -> Set[str]:
-    """Return the names that a definition binds: of its parameters, and on the left of its equations."""
+    """Return the names that a definition binds: of its parameters, and on the left of its
+    equations.
+    """
     groups = re.findall(r"[({]([\w' ]+?) :", code) + re.findall(r"λ ([\w' ]+)\.", code)
     left = " ".join(re.findall(r"^\w+ (.*?) =(?: |$)", code, re.M))
     return {*" ".join(groups).split(), *re.findall(r"(?<![\w'])[a-z][\w']*", left)}
 
 
 def source_of(file: str, name: str) -> Optional[Definition]:
-    """Return the definition that a name of a file refers to: one of the file, or one that the file exports from another; or None."""
+    """Return the definition that a name of a file refers to: one of the file, or one that the file
+    exports from another; or None.
+    """
     words, _, owners = public_file(file)
     if name in owners:
         return file, owners[name]
@@ -81,8 +102,12 @@ def source_of(file: str, name: str) -> Optional[Definition]:
     return source_of(at, passed) if at and passed else None
 
 
-def cites(words: Words, file: Optional[str], code: str, bound: Collection[str] = ()) -> Iterator[Tuple[str, Definition]]:
-    """Yield the public definitions that code cites, in a file of definitions or in none, each after the word that cites it."""
+def cites(
+    words: Words, file: Optional[str], code: str, bound: Collection[str] = ()
+) -> Iterator[Tuple[str, Definition]]:
+    """Yield the public definitions that code cites, in a file of definitions or in none, each after
+    the word that cites it.
+    """
     for word in re.findall(r"[^\s(){}\[\],;]+", code):
         first, _, rest = word.partition(".")
         at, name = words.get(first, (file, first))
@@ -91,7 +116,9 @@ def cites(words: Words, file: Optional[str], code: str, bound: Collection[str] =
 
 
 def cited_by(definition: Definition) -> Dict[str, Definition]:
-    """Return the definitions that a definition cites, by the words for them, in the order in which they occur."""
+    """Return the definitions that a definition cites, by the words for them, in the order in which
+    they occur.
+    """
     file, name = definition
     words, codes, _ = public_file(file)
     found = cites(words, file, codes[name], names_bound(codes[name]))
@@ -99,14 +126,19 @@ def cited_by(definition: Definition) -> Dict[str, Definition]:
 
 
 def believed(contracts: Iterable[Contract]) -> Dict[Definition, Set[Definition]]:
-    """Return all public definitions that contracts cite, directly or through others, and of each those that it cites itself."""
+    """Return all public definitions that contracts cite, directly or through others, and of each
+    those that it cites itself.
+    """
     todo: List[Definition] = []
     found: Dict[Definition, Set[Definition]] = {}
     for crate, owner, name in contracts:
         for item in items.functions(crate):
             if (item.owner, item.name) == (owner, name):
                 code = "\n".join(item.clauses)
-                todo += (source for _, source in cites(brings_in(text_of(f"{TOP}/{item.path}")), None, code))
+                todo += (
+                    source
+                    for _, source in cites(brings_in(text_of(f"{TOP}/{item.path}")), None, code)
+                )
     while todo:
         each = todo.pop()
         if each not in found:
@@ -117,5 +149,7 @@ def believed(contracts: Iterable[Contract]) -> Dict[Definition, Set[Definition]]
 
 def lines_of(definitions: Iterable[Definition]) -> int:
     """Return the number of lines of definitions, without comments and imports."""
-    codes = [re.sub("^use .*", "", public_file(file)[1][name], flags=re.M) for file, name in definitions]
+    codes = [
+        re.sub("^use .*", "", public_file(file)[1][name], flags=re.M) for file, name in definitions
+    ]
     return sum(1 for code in codes for line in code.split("\n") if line.strip())

@@ -13,7 +13,7 @@ MANUALS = ("docs/iimwire.1", "packages/python/iim-explain.1", "packages/python/i
 HEAD = """\
 # Commands
 
-This page is generated from the manual pages by `tests/documents --write`. `man iimwire` shows the
+This page is generated from the manual pages by `tests/write_pages`. `man iimwire` shows the
 first one in a terminal; in a clone, `man -l docs/iimwire.1` does.
 """
 WIDTH = 100

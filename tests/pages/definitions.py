@@ -1,7 +1,9 @@
-"""The pages docs/reference/definitions.md and definitions-below.md: the definitions that contracts cite, in reading order.
+"""The pages docs/reference/definitions.md and definitions-below.md: the definitions that contracts
+cite, in reading order.
 
-The first has those of the headline, the second those that the contracts below it cite besides. `READ_FIRST` and `READ_NEXT` fix the
-order of the files; in a file the definitions keep their order. All else is generated.
+The first has those of the headline, the second those that the contracts below it cite besides.
+`READ_FIRST` and `READ_NEXT` fix the order of the files; in a file the definitions keep their order.
+All else is generated.
 """
 from __future__ import annotations
 
@@ -46,9 +48,10 @@ Every definition that the contract of `unpack_packed` cites, directly or through
 other: {count} definitions of {lines:,} lines, from {files} files. [`THEOREM.md`](../THEOREM.md) has
 the contract, and says what it rests on besides.
 
-This page is generated from `crates/CRATE/specs` by `tests/documents --write`, without imports. Each
-definition cites only definitions above it, and the list below it links to them. Names without a link are those of std (`Prelude`, lists), or types of the sources: those
-are listed [at the end](#types-of-the-sources).
+This page is generated from `crates/CRATE/specs` by `tests/write_pages`, without imports. Each
+definition cites only definitions above it, and the list below it links to them. Names without a
+link are those of std (`Prelude`, lists), or types of the sources: those are listed
+[at the end](#types-of-the-sources).
 """
 FOREWORD_BELOW = """# Definitions of the contracts below the headline
 
@@ -56,7 +59,7 @@ The contracts of `Unpacker::feed`, `end_of_input`, `into_unpacked` and `pack` ci
 [definitions of the headline](definitions.md): {count} definitions of {lines:,} lines. With those of
 the headline they are {all_lines:,} lines. They define the states of readers, writers and sinks.
 
-This page is generated from `crates/CRATE/specs` by `tests/documents --write`, as the other one is.
+This page is generated from `crates/CRATE/specs` by `tests/write_pages`, as the other one is.
 """
 
 
@@ -71,7 +74,9 @@ def texts_of(file: str) -> Dict[str, Tuple[List[str], List[str]]]:
     A definition without a comment has that of the definition above it, which it names.
     """
     lines = text_of(f"{TOP}/{cited.path_of(file)}").split("\n")
-    begins = [(at, found[1]) for at, line in enumerate(lines) if (found := re.match(cited.BEGINS, line))]
+    begins = [
+        (at, found[1]) for at, line in enumerate(lines) if (found := re.match(cited.BEGINS, line))
+    ]
     texts, said, speaker = {}, [], ""
     for (at, name), (end, _) in zip(begins, begins[1:] + [(len(lines), "")]):
         code = [line for line in lines[at:end] if not re.match(r"--|(pub )?use ", line)]
@@ -90,18 +95,33 @@ def anchor(heading: str) -> str:
     return re.sub(r"[^\w -]", "", heading.lower()).replace(" ", "-")
 
 
+def kind_of(name: str) -> str:
+    """Return what a definition is, by its name."""
+    return "type" if name[0].isupper() else "function"
+
+
 def headings(definitions: Iterable[Definition]) -> Dict[Definition, str]:
-    """Return the heading of each definition: its name, and what distinguishes it from others whose heading had the same anchor."""
+    """Return the heading of each definition: its name, and what distinguishes it from others whose
+    heading had the same anchor.
+    """
     listed = list(definitions)
     titles: Dict[Definition, str] = {}
     for title in (
         lambda file, name: f"`{name}`",
         lambda file, name: f"`{name}` of `{file.split('/')[0]}`",
-        lambda file, name: f"`{name}` of `{file.split('/')[0]}`, a {'type' if name[0].isupper() else 'function'}",
+        lambda file, name: f"`{name}` of `{file.split('/')[0]}`, a {kind_of(name)}",
         lambda file, name: f"`{name}` of `{file}`",
     ):
-        found = collections.Counter(anchor(each) for each in [*titles.values(), *READ_FIRST, *READ_NEXT])
-        titles.update({each: title(*each) for each in listed if each not in titles or found[anchor(titles[each])] > 1})
+        found = collections.Counter(
+            anchor(each) for each in [*titles.values(), *READ_FIRST, *READ_NEXT]
+        )
+        titles.update(
+            {
+                each: title(*each)
+                for each in listed
+                if each not in titles or found[anchor(titles[each])] > 1
+            }
+        )
     return titles
 
 
@@ -110,12 +130,19 @@ def wrapped(words: str) -> List[str]:
     return textwrap.wrap(words, WIDTH, break_long_words=False, break_on_hyphens=False)
 
 
-def in_order(parts: Dict[str, List[str]], definitions: Iterable[Definition]) -> Iterator[Tuple[str, str, List[Definition]]]:
-    """Yield the part, the file and its definitions, file by file in reading order; last the files that no part has."""
+def in_order(
+    parts: Dict[str, List[str]], definitions: Iterable[Definition]
+) -> Iterator[Tuple[str, str, List[Definition]]]:
+    """Yield the part, the file and its definitions, file by file in reading order; last the files
+    that no part has.
+    """
     left = collections.defaultdict(set)
     for file, name in definitions:
         left[file].add(name)
-    for part, files in [*parts.items(), ("Other files", sorted(set(left) - {file for files in parts.values() for file in files}))]:
+    for part, files in [
+        *parts.items(),
+        ("Other files", sorted(set(left) - {file for files in parts.values() for file in files})),
+    ]:
         for file in files:
             names = [name for name in cited.public_file(file)[1] if name in left[file]]
             yield part, file, [(file, name) for name in names]
@@ -127,20 +154,30 @@ def purpose(file: str) -> str:
     return " ".join(line[3:].strip() for line in own_comment(top[1].splitlines())) if top else ""
 
 
-def part_of_definition(definition: Definition, titles: Dict[Definition, str], elsewhere: Dict[Definition, str]) -> Iterator[str]:
-    """Yield the lines of a definition: its heading, its comment and code, and the links to what it cites."""
+def part_of_definition(
+    definition: Definition, titles: Dict[Definition, str], elsewhere: Dict[Definition, str]
+) -> Iterator[str]:
+    """Yield the lines of a definition: its heading, its comment and code, and the links to what it
+    cites.
+    """
     comment, code = texts_of(definition[0])[definition[1]]
     yield from ["", f"#### {titles[definition]}", "", "```text", *comment, *code, "```"]
     links = []
     for word, source in cited.cited_by(definition).items():
-        at = f"#{anchor(titles[source])}" if source in titles else f"{PAGE.split('/')[-1]}#{anchor(elsewhere[source])}"
+        at = (
+            f"#{anchor(titles[source])}"
+            if source in titles
+            else f"{PAGE.split('/')[-1]}#{anchor(elsewhere[source])}"
+        )
         links.append(f"[`{word}`]({at})")
     if links:
         yield from ["", *wrapped(f"Cites {', '.join(links)}.")]
 
 
 def types_of(definitions: Iterable[Definition]) -> Dict[str, List[str]]:
-    """Return the names of types and of their variants that definitions use from the sources, by the path of the source."""
+    """Return the names of types and of their variants that definitions use from the sources, by the
+    path of the source.
+    """
     found = collections.defaultdict(set)
     for file, name in definitions:
         text = text_of(f"{TOP}/{cited.path_of(file)}")
@@ -153,7 +190,9 @@ def types_of(definitions: Iterable[Definition]) -> Dict[str, List[str]]:
     return {path: sorted(names) for path, names in sorted(found.items())}
 
 
-def lines_of_page(parts: Dict[str, List[str]], definitions: Iterable[Definition], elsewhere: Dict[Definition, str]) -> Iterator[str]:
+def lines_of_page(
+    parts: Dict[str, List[str]], definitions: Iterable[Definition], elsewhere: Dict[Definition, str]
+) -> Iterator[str]:
     """Yield the lines of a page below its foreword, definition by definition."""
     listed = list(definitions)
     titles, last = headings(listed), None
@@ -161,22 +200,43 @@ def lines_of_page(parts: Dict[str, List[str]], definitions: Iterable[Definition]
         if part != last:
             yield from ["", f"## {part}"]
             last = part
-        yield from ["", f"### From `{file}`", "", *wrapped(f"{purpose(file)} ([source](../../{cited.path_of(file)}))")]
+        yield from [
+            "",
+            f"### From `{file}`",
+            "",
+            *wrapped(f"{purpose(file)} ([source](../../{cited.path_of(file)}))"),
+        ]
         for definition in each:
             yield from part_of_definition(definition, titles, elsewhere)
-    yield from ["", "## Types of the sources", "", "Types and variants that the definitions use as the sources declare them:", ""]
+    yield from [
+        "",
+        "## Types of the sources",
+        "",
+        "Types and variants that the definitions use as the sources declare them:",
+        "",
+    ]
     for path, names in types_of(listed).items():
-        yield from textwrap.wrap(f"[`{path}`](../../{path}): {', '.join(f'`{name}`' for name in names)}", WIDTH,
-                                 initial_indent="- ", subsequent_indent="  ", break_long_words=False, break_on_hyphens=False)
+        yield from textwrap.wrap(
+            f"[`{path}`](../../{path}): {', '.join(f'`{name}`' for name in names)}",
+            WIDTH,
+            initial_indent="- ",
+            subsequent_indent="  ",
+            break_long_words=False,
+            break_on_hyphens=False,
+        )
 
 
 def wanted() -> Dict[str, str]:
     """Return both pages, with their texts."""
-    headline, all_of_them = cited.believed(cited.HEADLINE), cited.believed(cited.HEADLINE + cited.BELOW)
+    headline, all_of_them = cited.believed(cited.HEADLINE), cited.believed(
+        cited.HEADLINE + cited.BELOW
+    )
     below = [each for each in all_of_them if each not in headline]
     files, lines = {file for file, _ in headline}, cited.lines_of(headline)
     text = FOREWORD.format(count=len(headline), lines=lines, files=len(files))
     text += "\n".join(lines_of_page(READ_FIRST, headline, {})) + "\n"
-    text_below = FOREWORD_BELOW.format(count=len(below), lines=cited.lines_of(below), all_lines=cited.lines_of(all_of_them))
+    text_below = FOREWORD_BELOW.format(
+        count=len(below), lines=cited.lines_of(below), all_lines=cited.lines_of(all_of_them)
+    )
     text_below += "\n".join(lines_of_page(READ_NEXT, below, headings(headline))) + "\n"
     return {PAGE: text, PAGE_BELOW: text_below}

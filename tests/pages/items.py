@@ -1,10 +1,13 @@
-"""What a crate hands on to its callers, read out of its sources: each with its doc comment."""
+"""The public items of a crate, read out of its sources: each with its doc comment."""
+from __future__ import annotations
+
 import functools
 import glob
 import itertools
 import os
 import re
 from dataclasses import dataclass
+from typing import List
 
 TOP = os.path.dirname(os.path.dirname(os.path.dirname(os.path.realpath(__file__))))
 # What a caller can name, by the word that begins it.
@@ -13,7 +16,9 @@ BLOCKS = "struct", "enum", "trait"
 
 @dataclass
 class Item:
-    """A function, a type, a part of one, a trait that it has, or a constant: where it stands, its code on one line, and what is said of it."""
+    """A function, a type, a part of one, a trait that it has, or a constant: where it stands, its
+    code on one line, and what is said of it.
+    """
 
     kind: str
     # the type or the trait that it is of, or None
@@ -35,7 +40,11 @@ def text_of(path):
 
 def cells_of(page):
     """The cells of the tables of a page, row by row, and with each row its line."""
-    return [(row, [cell.strip() for cell in row.strip("| ").split(" | ")]) for row in text_of(page).split("\n") if row.startswith("|")]
+    return [
+        (row, [cell.strip() for cell in row.strip("| ").split(" | ")])
+        for row in text_of(page).split("\n")
+        if row.startswith("|")
+    ]
 
 
 def is_library(crate):
@@ -49,10 +58,15 @@ def sources_of(crate):
 
 
 def record_of_laws(crate):
-    """The record that has the laws of a crate, the last one of specs/Laws.antt that is named so: its name, and its lines. None and none
-    where there is no such record."""
+    """The record that has the laws of a crate, the last one of specs/Laws.antt that is named so:
+    its name, and its lines. None and none where there is no such record.
+    """
     path = f"{TOP}/crates/{crate}/specs/Laws.antt"
-    found = re.findall(r"^pub record (\w+Laws) : Type 0 where\n((?:  .*\n)+)", text_of(path), re.M) if os.path.isfile(path) else []
+    found = (
+        re.findall(r"^pub record (\w+Laws) : Type 0 where\n((?:  .*\n)+)", text_of(path), re.M)
+        if os.path.isfile(path)
+        else []
+    )
     return found[-1] if found else (None, "")
 
 
@@ -62,15 +76,29 @@ def words_of(comment):
 
 
 def laws_of(crate):
-    """The laws of a crate that are one record, the contract of one call: the record's name, and of each field its name, its statement and
-    what is said of it: above the field, or else above the statement. (What ends in a colon is said of several fields.)"""
+    """The laws of a crate that are one record, the contract of one call: the record's name, and of
+    each field its name, its statement and what is said of it: above the field, or else above the
+    statement. (What ends in a colon is said of several fields.)
+    """
     name, fields = record_of_laws(crate)
     if not name:
         return None, []
     text = text_of(f"{TOP}/crates/{crate}/specs/Laws.antt")
-    above = {statement: comment for comment, statement in re.findall(r"((?:^--.*\n)+)^(?:abbrev )?pub (?:record )?(\w+)\b", text, re.M)}
-    found = re.findall(r"((?:^  -- .*\n)*)^  pub (\w+) : (\w+)$", re.sub("^  -- .*:\n", "", fields, flags=re.M), re.M)
-    return name, [(field, statement, words_of(comment or above.get(statement, ""))) for comment, field, statement in found]
+    above = {
+        statement: comment
+        for comment, statement in re.findall(
+            r"((?:^--.*\n)+)^(?:abbrev )?pub (?:record )?(\w+)\b", text, re.M
+        )
+    }
+    found = re.findall(
+        r"((?:^  -- .*\n)*)^  pub (\w+) : (\w+)$",
+        re.sub("^  -- .*:\n", "", fields, flags=re.M),
+        re.M,
+    )
+    return name, [
+        (field, statement, words_of(comment or above.get(statement, "")))
+        for comment, field, statement in found
+    ]
 
 
 def laws_at(item):
@@ -82,7 +110,11 @@ def laws_at(item):
 def used_publicly(code):
     """The names of the `pub use` lines of some code."""
     uses = re.findall(r"^pub use ([\w:]+?)(?:::\{([^}]*)\})?;", code, re.M)
-    names = {name.split(" as ")[-1].strip() for path, group in uses for name in (group or path.split("::")[-1]).split(",")}
+    names = {
+        name.split(" as ")[-1].strip()
+        for path, group in uses
+        for name in (group or path.split("::")[-1]).split(",")
+    }
     return names - {""}
 
 
@@ -93,23 +125,33 @@ def internals(crate):
 
 
 def handed_on(crate):
-    """Return what a library exports: the names of the `pub use` lines of its root and of its module `internals`, and its public modules."""
+    """Return what a library exports: the names of the `pub use` lines of its root and of its module
+    `internals`, and its public modules.
+    """
     root = re.sub("//.*", "", text_of(f"{TOP}/crates/{crate}/src/lib.rt"))
-    return used_publicly(root) | internals(crate), set(re.findall(r"^pub mod (\w+);", root, re.M)) - {"internals"}
+    return used_publicly(root) | internals(crate), set(
+        re.findall(r"^pub mod (\w+);", root, re.M)
+    ) - {"internals"}
 
 
 def of_others(crate):
-    """What a library hands on of other crates: of each its public module, or None for the root; the other crate; and the names."""
+    """What a library hands on of other crates: of each its public module, or None for the root; the
+    other crate; and the names.
+    """
     _, modules = handed_on(crate)
     for path in sources_of(crate):
         place = os.path.relpath(path, f"{TOP}/crates/{crate}/src").removesuffix(".rt")
-        for other, names in re.findall(r"^pub use (\w+)::(?:\w+::)?(\w+|\{[^}]*\});", re.sub("//.*", "", text_of(path)), re.M):
+        for other, names in re.findall(
+            r"^pub use (\w+)::(?:\w+::)?(\w+|\{[^}]*\});", re.sub("//.*", "", text_of(path)), re.M
+        ):
             if os.path.isdir(f"{TOP}/crates/{other}") and (place == "lib" or place in modules):
                 yield None if place == "lib" else place, other, re.findall(r"\w+", names)
 
 
 def plain(words):
-    """Code on one line, as the pages for callers have it: without `pub`, and without `mut` at a name."""
+    """Code on one line, as the pages for callers have it: without `pub`, and without `mut` at a
+    name.
+    """
     words = re.sub(r",?\s+([)}\]])", r" \1", re.sub(r"\bpub |\bmut (?=\w+:)", "", words))
     return re.sub(r"\s+", " ", re.sub(r"([(\[])\s+|\s+([)\]])", r"\1\2", words)).strip(" ;")
 
@@ -120,8 +162,10 @@ def shortened(code):
 
 
 def parts_of(body):
-    """What stands in the body of a type between commas that stand in no brackets: of each its doc comment and its code. What is said of a
-    field of a variant stands after what is said of the variant."""
+    """What stands in the body of a type between commas that stand in no brackets: of each its doc
+    comment and its code. What is said of a field of a variant stands after what is said of the
+    variant.
+    """
     depth, doc, code, field = 0, [], "", []
     for line in body.split("\n"):
         if said := re.match(r" *///(.*)", line):
@@ -151,7 +195,10 @@ class File:
     """A file of code, read line by line: its public items, as far as it can tell that they are."""
 
     def __init__(self, crate, path):
-        self.path, self.place = os.path.relpath(path, TOP), os.path.relpath(path, f"{TOP}/crates/{crate}/src").removesuffix(".rt").split("/")[0]
+        self.path, self.place = (
+            os.path.relpath(path, TOP),
+            os.path.relpath(path, f"{TOP}/crates/{crate}/src").removesuffix(".rt").split("/")[0],
+        )
         self.lines = text_of(path).partition("#[cfg(test)]")[0].split("\n")
         # the type or trait that a block is of, the word that begins it, and the trait that it gives
         self.owner = self.block = self.trait = None
@@ -175,7 +222,11 @@ class File:
         elif block := re.match(r"(pub )?(struct|enum|trait) (\w+)", line):
             yield from self.type(at, block, doc)
         elif block := re.match(r"impl(?:<.*?>)? (?:([\w:]+)(?:<.*>)? for )?(\w+)", line):
-            self.trait, self.owner, self.block = block[1], block[2], None if line.endswith("{}") else "impl"
+            self.trait, self.owner, self.block = (
+                block[1],
+                block[2],
+                None if line.endswith("{}") else "impl",
+            )
             yield self.item("impl", self.owner, re.sub(r" \{\}?$", "", line), doc, self.owner)
             if line.endswith("{}"):
                 # (an empty block has ended: what follows is of no type)
@@ -190,7 +241,13 @@ class File:
                 # (what a type's own function of a trait says besides)
                 yield self.function("given", at, f"{self.trait}::{function[2]}", doc)
         elif self.block == "trait" and (ghost := re.match(r"    ghost (\w+):", line)):
-            yield self.item("ghost", ghost[1], plain("\n".join(self.lines[at:]).partition(";\n")[0]), doc, self.owner)
+            yield self.item(
+                "ghost",
+                ghost[1],
+                plain("\n".join(self.lines[at:]).partition(";\n")[0]),
+                doc,
+                self.owner,
+            )
 
     def type(self, at, block, doc):
         """A type or a trait, and the parts of a type."""
@@ -201,16 +258,24 @@ class File:
         if public:
             yield self.item(kind, name, head, doc, name)
         opens = self.lines[at].endswith("{")
-        body = "\n".join(itertools.takewhile(lambda each: each != "}", self.lines[at + 1 :])) if opens and kind != "trait" else ""
+        body = (
+            "\n".join(itertools.takewhile(lambda each: each != "}", self.lines[at + 1 :]))
+            if opens and kind != "trait"
+            else ""
+        )
         for said, code in parts_of(re.sub(r"^ *#\[.*\]\n", "", body, flags=re.M)):
             if public and (kind == "enum" or code.startswith("pub ")):
-                yield self.item("part", re.match(r"(?:pub )?(\w+)", code)[1], plain(code), said, name)
+                yield self.item(
+                    "part", re.match(r"(?:pub )?(\w+)", code)[1], plain(code), said, name
+                )
 
     def function(self, kind, at, name, doc):
         """A function: its clauses end where its body begins, or in a trait with a `;`."""
         text = until(self.lines[at:], r" *[{}]").partition("};\n")[0]
         signature, *clauses = re.split(r"^ *(?=requires|ensures|ghost)", text, flags=re.M)
-        return self.item(kind, name, plain(signature.partition(" {\n")[0]), doc, self.owner, clauses)
+        return self.item(
+            kind, name, plain(signature.partition(" {\n")[0]), doc, self.owner, clauses
+        )
 
 
 @functools.cache
@@ -218,17 +283,50 @@ def items(crate):
     """What a caller of a library can name, in the order of its files."""
     names, modules = handed_on(crate)
     found = [item for path in sources_of(crate) for item in File(crate, path).items()]
-    types = {item.name for item in found if item.kind in BLOCKS and (item.place in modules or item.name in names or item.place == "lib")}
+    types = {
+        item.name
+        for item in found
+        if item.kind in BLOCKS
+        and (item.place in modules or item.name in names or item.place == "lib")
+    }
     return [item for item in found if is_handed_on(item, names, modules, types)]
 
 
 def is_handed_on(item, names, modules, types):
     """Whether a caller can name an item."""
     if item.kind == "impl":
-        return item.owner in types and " Model for " not in item.code and (" for " in item.code or ":" in item.code)
-    return item.owner in types if item.owner else item.place in modules or item.name in names or item.place == "lib"
+        return (
+            item.owner in types
+            and " Model for " not in item.code
+            and (" for " in item.code or ":" in item.code)
+        )
+    return (
+        item.owner in types
+        if item.owner
+        else item.place in modules or item.name in names or item.place == "lib"
+    )
 
 
 def functions(crate):
     """The public functions of a library that a crate above can call."""
     return [item for item in items(crate) if item.kind == "fn"]
+
+
+def static_libraries() -> List[str]:
+    """Return the crates that C can call, and no other crate."""
+    return re.findall(r"^(\w+) staticlib:", text_of(f"{TOP}/crates.txt"), re.M)
+
+
+def promising() -> List[str]:
+    """Return the crates with promises to callers: no tests, and no parts of `vectors`."""
+    crates = [crate for crate in sorted(os.listdir(f"{TOP}/crates")) if is_library(crate)]
+    return [
+        crate
+        for crate in crates
+        if not crate.endswith("_tests") and not crate.startswith("vectors_")
+    ]
+
+
+def libraries() -> List[str]:
+    """Return the crates that other crates can call."""
+    return [crate for crate in promising() if crate not in static_libraries()]

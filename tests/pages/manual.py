@@ -1,4 +1,6 @@
-"""The lists of docs/iimwire.1, the manual page: the datasets, as docs/reference/format.md has them, and the causes, as docs/reference/causes.md has them.
+"""Write the lists of docs/iimwire.1, the manual page.
+
+The datasets are those of docs/reference/format.md, the causes those of docs/reference/causes.md.
 
 All else on the page is written by hand.
 """
@@ -29,9 +31,17 @@ def datasets():
 
 
 def listed_causes():
-    """Yield the lines of each cause, in the order of their numbers: its number, its name and what it means."""
+    """Yield the lines of each cause, in the order of their numbers: its number, its name and what
+    it means.
+    """
     for cause in sorted(causes.causes(), key=lambda each: each.number):
-        yield [".TP 4", str(cause.number), f".B {cause.name}", ".br", *roff(cause.entries["Meaning"].replace("`", ""))]
+        yield [
+            ".TP 4",
+            str(cause.number),
+            f".B {cause.name}",
+            ".br",
+            *roff(cause.entries["Meaning"].replace("`", "")),
+        ]
 
 
 def made(page, section, items):

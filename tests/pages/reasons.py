@@ -1,4 +1,6 @@
-"""The table of bindings/python/src/iim/explain/causes.py: the likely reason of each cause of an envelope and what to do, from docs/reference/causes.md.
+"""Write the table of bindings/python/src/iim/explain/causes.py from docs/reference/causes.md.
+
+It has the likely reason of each cause of an envelope, and what to do.
 
 All else in that file is written by hand.
 """

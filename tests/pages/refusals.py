@@ -1,4 +1,6 @@
-"""The causes in docs/reference/refusals.md: each is named in one heading, above its layer, its contracts and what shows them."""
+"""The causes in docs/reference/refusals.md: each is named in one heading, above its layer, its
+contracts and what shows them.
+"""
 from __future__ import annotations
 
 import re
@@ -12,7 +14,9 @@ ENTRIES = ["Contract", "Shown by"]
 
 
 def parts() -> Iterator[Tuple[List[Tuple[int, str]], List[Tuple[str, str]]]]:
-    """Yield of each part of the page the causes in its heading, by number and name, and its entries."""
+    """Yield of each part of the page the causes in its heading, by number and name, and its
+    entries.
+    """
     for part in text_of(f"{TOP}/{PAGE}").split("\n## ")[1:]:
         heading, _, body = part.partition("\n")
         named = [(int(number), name) for number, name in re.findall(r"(\d+) `(\w+)`", heading)]
@@ -21,11 +25,17 @@ def parts() -> Iterator[Tuple[List[Tuple[int, str]], List[Tuple[str, str]]]]:
 
 
 def faults() -> List[str]:
-    """Return what is wrong with the page: a cause that is missing, unknown or named twice, another layer, or entries that are missing."""
+    """Return what is wrong with the page: a cause that is missing, unknown or named twice, another
+    layer, or entries that are missing.
+    """
     known = {(cause.number, cause.name): cause.entries.get("Layer") for cause in causes.causes()}
     found = [each for named, _ in parts() for each in named]
     wrong = [f"{number} {name} is missing" for number, name in known if (number, name) not in found]
-    wrong += [f"{number} {name} is unknown, or named twice" for number, name in found if found.count((number, name)) > 1 or (number, name) not in known]
+    wrong += [
+        f"{number} {name} is unknown, or named twice"
+        for number, name in found
+        if found.count((number, name)) > 1 or (number, name) not in known
+    ]
     for named, entries in parts():
         layers = list(dict.fromkeys(known[each] for each in named if known.get(each)))
         layer = [("Layer", layers[0])] if layers else []

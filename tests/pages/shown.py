@@ -6,13 +6,21 @@ from pages.items import TOP, text_of
 
 def cut(lines, name):
     """The lines of a function or a constant, with what stands above it, at the margin."""
-    (at,) = [at for at, line in enumerate(lines) if re.match(rf'\s*(?:pub(?:\(crate\))? )?(?:extern "C" )?(?:fn|const) {name}\b', line)]
+    (at,) = [
+        at
+        for at, line in enumerate(lines)
+        if re.match(rf'\s*(?:pub(?:\(crate\))? )?(?:extern "C" )?(?:fn|const) {name}\b', line)
+    ]
     margin = re.match(r"\s*", lines[at])[0]
     begin = at
     while re.match(r"\s*(///|#\[)", lines[begin - 1]):
         begin -= 1
     ends = (margin + "}", margin + "];", margin + "};")
-    end = at if lines[at].endswith(";") else next(end for end in range(at, len(lines)) if lines[end] in ends)
+    end = (
+        at
+        if lines[at].endswith(";")
+        else next(end for end in range(at, len(lines)) if lines[end] in ends)
+    )
     return [line.removeprefix(margin) for line in lines[begin : end + 1]]
 
 
@@ -26,13 +34,19 @@ def occurs(name, code):
 
 
 def used(line, code):
-    """A line that brings names in, with those alone that the code has; None where it has none of them."""
+    """A line that brings names in, with those alone that the code has; None where it has none of
+    them.
+    """
     if "{" not in line:
         return line if occurs(re.split(r"::|[.]", line.rstrip(";"))[-1], code) else None
     front, group = re.fullmatch(r"(.*?)\{(.*)\};", line).groups()
     # (a module that is brought in with its own names is called by the last word before them)
     module = re.split(r"\W+", front.strip(":. "))[-1]
-    kept = [name.strip() for name in group.split(",") if occurs(module if name.strip() == "self" else name.strip(), code)]
+    kept = [
+        name.strip()
+        for name in group.split(",")
+        if occurs(module if name.strip() == "self" else name.strip(), code)
+    ]
     single = len(kept) == 1 and kept != ["self"] and not line.startswith("ghost")
     return f"{front}{kept[0] if single else '{' + ', '.join(kept) + '}'};" if kept else None
 
@@ -41,7 +55,12 @@ def shown(path, names):
     """The code of functions of a file, after what they bring in."""
     text = text_of(f"{TOP}/{path}")
     code = "\n\n".join("\n".join(cut(text.split("\n"), name)) for name in names)
-    lines = [re.sub(r",?\s+}", "}", re.sub(r"{\s+", "{", re.sub(r"\s+", " ", use))) for use in re.findall(r"^(?:ghost )?use [^;]*;", text, re.M)]
+    lines = [
+        re.sub(r",?\s+}", "}", re.sub(r"{\s+", "{", re.sub(r"\s+", " ", use)))
+        for use in re.findall(r"^(?:ghost )?use [^;]*;", text, re.M)
+    ]
     kept = [use for use in (used(line, re.sub("//.*", "", code)) for line in lines) if use]
-    ghosts, plain = [use for use in kept if use.startswith("ghost")], [use for use in kept if not use.startswith("ghost")]
+    ghosts, plain = [use for use in kept if use.startswith("ghost")], [
+        use for use in kept if not use.startswith("ghost")
+    ]
     return "\n\n".join("\n".join(part) for part in (ghosts, plain, [code]) if part)

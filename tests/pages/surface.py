@@ -1,7 +1,9 @@
-"""The list of all public items, tests/public_items.txt: each with its crate, who fixes it, its place, its name and its code.
+"""The list of all public items, tests/public_items.txt: each with its crate, who fixes it, its
+place, its name and its code.
 
-A line is `CRATE | ORIGIN | PLACE | NAME | CODE`. The origin is `format` for an item whose name, parameters and result the format's
-specification fixes, and `own` for one that this project added. The place is the module, `-` at the root of the crate.
+A line is `CRATE | ORIGIN | PLACE | NAME | CODE`. The origin is `format` for an item whose name,
+parameters and result the format's specification fixes, and `own` for one that this project added.
+The place is the module, `-` at the root of the crate.
 """
 from dataclasses import dataclass
 
@@ -37,7 +39,11 @@ def place_of(crate, item):
 
 def name_of(item):
     """Return the name of an item, with its type or trait before it."""
-    return item.name if item.owner is None or item.kind in items.BLOCKS or item.kind == "impl" else f"{item.owner}::{item.name}"
+    return (
+        item.name
+        if item.owner is None or item.kind in items.BLOCKS or item.kind == "impl"
+        else f"{item.owner}::{item.name}"
+    )
 
 
 def key_of(row):
@@ -46,7 +52,10 @@ def key_of(row):
 
 
 def rows_of(crate):
-    """Yield the public items of a crate. A block without a trait is none, since its functions are."""
+    """Yield the public items of a crate.
+
+    A block without a trait is none, since its functions are.
+    """
     for item in items.items(crate):
         if item.kind in KINDS and (item.kind != "impl" or " for " in item.code):
             yield Row(crate, place_of(crate, item), name_of(item), item.code)
@@ -67,7 +76,13 @@ def listed():
 
 
 def text(crates):
-    """Return the list as it has to be. An item keeps the origin that its name has in the list, and a trait of a type that of its code."""
+    """Return the list as it has to be.
+
+    An item keeps the origin that its name has in the list, and a trait of a type that of its code.
+    """
     origins = {key_of(row): origin for row, origin in listed().items()}
-    lines = (f"{row.crate} | {origins.get(key_of(row), NEW)} | {row.place} | {row.name} | {row.code}" for row in rows(crates))
+    lines = (
+        f"{row.crate} | {origins.get(key_of(row), NEW)} | {row.place} | {row.name} | {row.code}"
+        for row in rows(crates)
+    )
     return "".join(f"{line}\n" for line in lines)

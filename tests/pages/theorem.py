@@ -1,4 +1,5 @@
-"""The contract of the headline in docs/THEOREM.md, as the source has it, and the links to the definitions that it cites.
+"""The contract of the headline in docs/THEOREM.md, as the source has it, and the links to the
+definitions that it cites.
 
 All else on that page is written by hand.
 """
@@ -14,8 +15,13 @@ PAGE = "docs/THEOREM.md"
 SOURCE = f"{TOP}/crates/iim_round_trip/src/unpacking.rt"
 # The most lines of the page beside what is generated.
 MOST_LINES = 200
-# What is generated on the page: what stands before it, the contract, what is between them, and the links.
-SHOWN = re.compile(r"(^## The contract\n(?:(?!```|#).*\n)*```rust\n)((?:(?!```).*\n)*)(```\n\n)((?:It cites.*\n(?:.+\n)*)?)", re.M)
+# What is generated on the page: what stands before it, the contract, what is between them, and the
+# links.
+SHOWN = re.compile(
+    r"(^## The contract\n(?:(?!```|#).*\n)*```rust\n)((?:(?!```).*\n)*)(```\n\n)"
+    r"((?:It cites.*\n(?:.+\n)*)?)",
+    re.M,
+)
 
 
 def contract() -> str:
@@ -28,7 +34,10 @@ def links() -> str:
     """Return the lines that link each name in the contract to its definition."""
     titles = definitions.headings(cited.believed(cited.HEADLINE))
     found = dict(cited.cites(cited.brings_in(text_of(SOURCE)), None, contract()))
-    named = [f"[`{word}`](reference/definitions.md#{definitions.anchor(titles[source])})" for word, source in found.items()]
+    named = [
+        f"[`{word}`](reference/definitions.md#{definitions.anchor(titles[source])})"
+        for word, source in found.items()
+    ]
     return "\n".join(definitions.wrapped(f"It cites {', '.join(named)}.")) + "\n"
 
 
@@ -46,4 +55,10 @@ def by_hand() -> int:
 
 def wanted() -> Dict[str, str]:
     """Return the page, with its text."""
-    return {PAGE: SHOWN.sub(lambda found: found[1] + contract() + found[3] + links(), text_of(f"{TOP}/{PAGE}"), count=1)}
+    return {
+        PAGE: SHOWN.sub(
+            lambda found: found[1] + contract() + found[3] + links(),
+            text_of(f"{TOP}/{PAGE}"),
+            count=1,
+        )
+    }

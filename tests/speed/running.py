@@ -13,10 +13,13 @@ LIBRARY = f"{TOP}/bindings/out/libiim.a"
 
 
 def command(named):
-    """The program that is measured, and what it is called: where none is named, this repository's own command, which is proved."""
+    """The program that is measured, and what it is called: where none is named, this repository's
+    own command, which is proved.
+    """
     if named:
         return os.path.abspath(named), "another build, which may not be proved"
-    # (`./iimwire` is a script, which builds the program where it is not there or is of older sources)
+    # (`./iimwire` is a script, which builds the program where it is not there or is of older
+    # sources)
     subprocess.run([f"{TOP}/iimwire", "check"], stdin=subprocess.DEVNULL, check=True)
     return f"{TOP}/crates/iimwire/out/iimwire", "the proved command"
 
@@ -33,17 +36,39 @@ def compiled(folder, name, words):
 
 def plain(folder, name):
     """The reader or the packer in plain Rust, for the same kind of processor as the command."""
-    words = ["rustc", "--edition", "2021", "-O", "-C", "codegen-units=1", "-C", "target-cpu=x86-64-v2", f"{HERE}/{name}.rs"]
+    words = [
+        "rustc",
+        "--edition",
+        "2021",
+        "-O",
+        "-C",
+        "codegen-units=1",
+        "-C",
+        "target-cpu=x86-64-v2",
+        f"{HERE}/{name}.rs",
+    ]
     return compiled(folder, name, words)
 
 
 def feeder(folder):
-    """What feeds a file to the library for C, or None where that isn't built of the sources that are here."""
+    """What feeds a file to the library for C, or None where that isn't built of the sources that
+    are here.
+    """
     sources = [f"{TOP}/crates.txt", *glob.glob(f"{TOP}/crates/*/src/**/*.rt", recursive=True)]
-    if not os.path.exists(LIBRARY) or os.path.getmtime(LIBRARY) < max(map(os.path.getmtime, sources)):
-        print("bindings/build has not made the library for C of these sources: iim_feed is not measured", file=sys.stderr)
+    if not os.path.exists(LIBRARY) or os.path.getmtime(LIBRARY) < max(
+        map(os.path.getmtime, sources)
+    ):
+        print(
+            "bindings/build has not made the library for C of these sources: "
+            "iim_feed is not measured",
+            file=sys.stderr,
+        )
         return None
-    return compiled(folder, "feed", [os.environ.get("CC", "cc"), "-O2", f"-I{TOP}/bindings/c", f"{HERE}/feed.c", LIBRARY])
+    return compiled(
+        folder,
+        "feed",
+        [os.environ.get("CC", "cc"), "-O2", f"-I{TOP}/bindings/c", f"{HERE}/feed.c", LIBRARY],
+    )
 
 
 def words_of(program, name, path, *more):
@@ -67,13 +92,18 @@ def seconds(words):
 
 
 def least(turns, runs):
-    """The least processor time of each run, of so many turns in which each has its own; None of what is None."""
+    """The least processor time of each run, of so many turns in which each has its own; None of
+    what is None.
+    """
     taken = [[words and seconds(words) for words in runs] for _ in range(turns)]
     return [words and min(each) for words, each in zip(runs, zip(*taken))]
 
 
 def peak(words):
-    """The most octets that a run had in memory. GNU time is asked, a small process: what is forked begins with its parent's count."""
+    """The most octets that a run had in memory.
+
+    GNU time is asked, a small process: what is forked begins with its parent's count.
+    """
     with tempfile.NamedTemporaryFile() as told:
         timed = ["/usr/bin/time", "-f", "%M", "-o", told.name, *words]
         subprocess.run(timed, stdout=subprocess.DEVNULL, stderr=subprocess.DEVNULL, check=True)

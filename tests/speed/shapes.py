@@ -7,7 +7,14 @@ from envelopes import SMALLEST, SMALLEST_FIELDS, SMALLEST_HEAD, STORY, STORY_FIE
 
 TOP = os.path.dirname(os.path.dirname(os.path.dirname(os.path.realpath(__file__))))
 PROSE = b"The bank kept its rates where they were, as it had said it may"
-PLACES = [(2, 5, b"Rates"), (2, 15, b"ECO"), (2, 90, b"Frankfurt"), (2, 101, b"Germany"), (2, 110, b"TST"), (2, 120, b"Rates stay.")]
+PLACES = [
+    (2, 5, b"Rates"),
+    (2, 15, b"ECO"),
+    (2, 90, b"Frankfurt"),
+    (2, 101, b"Germany"),
+    (2, 110, b"TST"),
+    (2, 120, b"Rates stay."),
+]
 OBJECT = rules.object_of(SMALLEST_HEAD, [b""], b"")
 
 
@@ -38,7 +45,8 @@ SHAPES = {
     "lines of one octet, LF": short_lines(b"\n"),
     "subfiles of one octet": prose(2560, SMALLEST_FIELDS, 1),
 }
-# Of each script the line of its story, how often it stands there, and the words that `pack` is given.
+# Of each script the line of its story, how often it stands there, and the words that `pack` is
+# given.
 SCRIPTS: "dict[str, tuple[bytes, int, list[str]]]" = {
     "a script of prose": (PROSE, 16_384, []),
     "a script of lines of one octet": (b"x", 340_000, []),
@@ -61,7 +69,9 @@ def script(line: bytes, lines: int) -> bytes:
 
 
 def write_numbered(path, envelopes, is_mixed):
-    """Writes so many of the smallest envelope, numbered from 0, in the order of their numbers or, always the same way, in none."""
+    """Writes so many of the smallest envelope, numbered from 0, in the order of their numbers or,
+    always the same way, in none.
+    """
     octets, numbers = bytearray(SMALLEST), list(range(envelopes))
     if is_mixed:
         random.Random(envelopes).shuffle(numbers)

@@ -1,7 +1,8 @@
 """The tables of what is measured, as they are printed and as they stand in docs/SPEED.md.
 
-The page has a place for each part that is measured, between two marked lines. There the script writes what was measured, and nobody
-else: `tests/documents` holds each place to its tables, but for the numbers.
+The page has a place for each part that is measured, between two marked lines. There the script
+writes what was measured, and nobody else: `tests/documents` holds each place to its tables, but for
+the numbers.
 """
 import re
 import textwrap
@@ -11,7 +12,18 @@ from speed.shapes import AUDITS, SCRIPTS, SHAPES, TOP
 PAGE = f"{TOP}/docs/SPEED.md"
 # How the line begins that says what was measured, and what stands where something wasn't there.
 SAID, NOT_THERE = "Measured of ", "–"
-BESIDE = ["Shape", "check", "plain Rust", "ratio", "story", "plain Rust", "ratio", "show", "audit", "iim_feed"]
+BESIDE = [
+    "Shape",
+    "check",
+    "plain Rust",
+    "ratio",
+    "story",
+    "plain Rust",
+    "ratio",
+    "show",
+    "audit",
+    "iim_feed",
+]
 PACKED = ["Script", "pack", "plain Rust", "ratio"]
 # What memory is measured with: the shape or script, and how often it stands in the input.
 MEMORY = {
@@ -39,7 +51,19 @@ def heading(columns):
 
 def row(name, numbers):
     """A row: of each number the cell, a fraction with two digits."""
-    return line([name, *(NOT_THERE if each is None else f"{each:,.2f}" if isinstance(each, float) else f"{each:,}" for each in numbers)])
+    return line(
+        [
+            name,
+            *(
+                NOT_THERE
+                if each is None
+                else f"{each:,.2f}"
+                if isinstance(each, float)
+                else f"{each:,}"
+                for each in numbers
+            ),
+        ]
+    )
 
 
 def marks(part):
@@ -48,17 +72,26 @@ def marks(part):
 
 
 def put(part, lines):
-    """Writes the lines of a part into its place in the page, the first one in at most 100 columns."""
+    """Write the lines of a part into the page, the first one in at most 100 columns."""
     begin, end = marks(part)
     with open(PAGE, encoding="utf-8") as file:
         before, _, rest = file.read().partition(begin)
     _, _, after = rest.partition(end)
     with open(PAGE, "w", encoding="utf-8") as file:
-        file.write(before + begin + "\n".join([textwrap.fill(lines[0], 100, break_on_hyphens=False), *lines[1:]]) + "\n" + end + after)
+        file.write(
+            before
+            + begin
+            + "\n".join([textwrap.fill(lines[0], 100, break_on_hyphens=False), *lines[1:]])
+            + "\n"
+            + end
+            + after
+        )
 
 
 def faults(page):
-    """What is wrong with the places of the parts in the text of a page: each has a line of what was measured, and its tables of numbers."""
+    """What is wrong with the places of the parts in the text of a page: each has a line of what was
+    measured, and its tables of numbers.
+    """
     for part, tables in PARTS.items():
         begin, end = marks(part)
         if (page.count(begin), page.count(end)) != (1, 1):
@@ -68,8 +101,23 @@ def faults(page):
         if not said.startswith(SAID):
             yield f"{part}: nothing says how it was measured"
         wanted = [[*heading(columns), *rows] for columns, rows in tables]
-        there = [[*each.split("\n")[:2], *(row.strip("| ").split(" | ")[0] for row in each.split("\n")[2:])] for each in found]
+        there = [
+            [
+                *each.split("\n")[:2],
+                *(row.strip("| ").split(" | ")[0] for row in each.split("\n")[2:]),
+            ]
+            for each in found
+        ]
         if there != wanted:
             yield f"{part}: {there} stands in the place of {wanted}"
-        cells = [cell for each in found for row in each.split("\n")[2:] for cell in row.strip("| ").split(" | ")[1:]]
-        yield from (f"{part}: {cell} is no number" for cell in cells if not re.fullmatch(rf"[\d,]+(\.\d\d)?|{NOT_THERE}", cell))
+        cells = [
+            cell
+            for each in found
+            for row in each.split("\n")[2:]
+            for cell in row.strip("| ").split(" | ")[1:]
+        ]
+        yield from (
+            f"{part}: {cell} is no number"
+            for cell in cells
+            if not re.fullmatch(rf"[\d,]+(\.\d\d)?|{NOT_THERE}", cell)
+        )

@@ -1,7 +1,8 @@
-"""Functions that a check takes at their word: `rt ci` has proved that they do what their contracts say.
+"""Functions that a check takes at their word: `rt ci` has proved that they do what their contracts
+say.
 
-Of such a function the proof is a hole, which the prover takes by what it states. So no goal of it is proved again. It has no body either,
-so that nothing is borrowed in it.
+Of such a function the proof is a hole, which the prover takes by what it states. So no goal of it
+is proved again. It has no body either, so that nothing is borrowed in it.
 """
 import json
 import os
@@ -27,41 +28,64 @@ def texts(folder):
 
 
 def listed(crate):
-    """The functions that the built library of a crate states, each by the words of its path; None where it is a program, which nobody links."""
+    """The functions that the built library of a crate states, each by the words of its path; None
+    where it is a program, which nobody links.
+    """
     at = f"{sources.TOP}/crates/{crate}/out/rlib/{crate}.rlib/toolchain/checked.json"
     front, end = f"Rattle-{crate}-proofs.", ".TheLink"
     if not os.path.exists(at):
         return None
     with open(at, encoding="utf-8") as index:
         modules = [json.loads(line)[0].split("/")[-1] for line in index]
-    # (what is made of closures and of dropping has a sign in its name; what `rt lib` built has a link of the whole crate too)
-    named = [name for name in modules if name.startswith(front) and name.endswith(end) and "+" not in name and len(name) > len(front + end)]
+    # (what is made of closures and of dropping has a sign in its name; what `rt lib` built has a
+    # link of the whole crate too)
+    named = [
+        name
+        for name in modules
+        if name.startswith(front)
+        and name.endswith(end)
+        and "+" not in name
+        and len(name) > len(front + end)
+    ]
     paths = [name[len(front) : -len(end)].split(".") for name in named]
     return [path for path in paths if path[-2:-1] not in traits(crate)]
 
 
 def free(crate):
-    """The free functions of a program, each by the words of its path, but that with which it begins."""
+    """The free functions of a program, each by the words of its path, but that with which it
+    begins.
+    """
     found = []
     for path, text in texts(f"{sources.TOP}/crates/{crate}/src"):
         module = [word for word in path.removesuffix(".rt").split("/") if word not in BEGINS]
-        found += [[*module, name] for name, start, *_ in code.functions(text) if code.is_free(text, start) and name not in BEGINS]
+        found += [
+            [*module, name]
+            for name, start, *_ in code.functions(text)
+            if code.is_free(text, start) and name not in BEGINS
+        ]
     return found
 
 
 def traits(crate):
     """The traits of a crate, each in a list: what they only declare has no proof."""
-    return [[name] for _, text in texts(f"{sources.TOP}/crates/{crate}/src") for name in re.findall(r"\btrait (\w+)", text)]
+    return [
+        [name]
+        for _, text in texts(f"{sources.TOP}/crates/{crate}/src")
+        for name in re.findall(r"\btrait (\w+)", text)
+    ]
 
 
 def owner(path):
-    """The function in which a closure stands, or the function itself: `a.fn.B.f.closure` stands in `a.B.f`."""
+    """The function in which a closure stands, or the function itself: `a.fn.B.f.closure` stands in
+    `a.B.f`.
+    """
     return [word for word in path[:-1] if word != "fn"] if "fn" in path else path
 
 
 def empty(room, kept, only):
-    """Empties the functions in the folder of a check, but those of the names that are kept, and where `only` names some no others. Returns the
-    names of those that have a body."""
+    """Empties the functions in the folder of a check, but those of the names that are kept, and
+    where `only` names some no others. Returns the names of those that have a body.
+    """
     whole = set()
     for path, text in texts(f"{room}/src"):
         text, named = code.emptied(text, kept, only)
@@ -72,12 +96,17 @@ def empty(room, kept, only):
 
 
 def write(crate, room, asked):
-    """Writes into the folder of a check proofs with holes for all functions but those that are asked for, and takes their bodies away. Of a
-    program these are the free ones."""
+    """Writes into the folder of a check proofs with holes for all functions but those that are
+    asked for, and takes their bodies away. Of a program these are the free ones.
+    """
     kept = {tuple(function.split("::")) for function in asked}
     linked = listed(crate)
     paths = free(crate) if linked is None else linked
-    whole = empty(room, {path[-1] for path in kept}, None if linked is not None else {path[-1] for path in paths})
+    whole = empty(
+        room,
+        {path[-1] for path in kept},
+        None if linked is not None else {path[-1] for path in paths},
+    )
     for path in paths:
         own = owner(path)
         if tuple(own) in kept or ("fn" in path and own[-1] not in whole):

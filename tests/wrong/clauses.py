@@ -1,27 +1,40 @@
-"""The clauses of a contract: a copy of a function has to show the one alone that its wrong body is held to."""
+"""The clauses of a contract: a copy of a function has to show the one alone that its wrong body is
+held to.
+"""
 import re
 
 from wrong import code
 
-# What a clause says that says nothing: any result is the same as itself. So the clause stands, and the goals keep their names.
+# What a clause says that says nothing: any result is the same as itself. So the clause stands, and
+# the goals keep their names.
 NOTHING = "{ result ≡ result }"
 HEAD = re.compile(r"\n *ensures(?: (\w+))? (?=\{)")
 
 
 def spans(contract):
-    """Of each clause of a contract that tells of what is returned its name, or None, and where what it says begins and ends."""
-    return [(head[1], head.end(), code.end_of_group(contract, head.end())) for head in HEAD.finditer(contract)]
+    """Of each clause of a contract that tells of what is returned its name, or None, and where what
+    it says begins and ends.
+    """
+    return [
+        (head[1], head.end(), code.end_of_group(contract, head.end()))
+        for head in HEAD.finditer(contract)
+    ]
 
 
 def is_kept(clause, name):
-    """Whether a copy of a function keeps the clause of this name, where its wrong body is held to that one. All stay where it is held to one
-    without a name, or to what the prover names otherwise, and none where it is held to a call, a loop or its type's invariant."""
+    """Whether a copy of a function keeps the clause of this name, where its wrong body is held to
+    that one. All stay where it is held to one without a name, or to what the prover names
+    otherwise, and none where it is held to a call, a loop or its type's invariant.
+    """
     kind, _, held = clause.partition(" ")
     return kind == "ensures" and (name == held or not re.fullmatch(r"\w+", held))
 
 
 def kept_alone(function, clause):
-    """A function whose contract says what this clause says of what is returned, and no more. What it requires, its loops and its body stay."""
+    """A function whose contract says what this clause says of what is returned, and no more.
+
+    What it requires, its loops and its body stay.
+    """
     contract = function[: code.functions(function)[0][2]]
     for name, first, end in reversed(spans(contract)):
         if not is_kept(clause, name):
@@ -30,12 +43,21 @@ def kept_alone(function, clause):
 
 
 def answered(part):
-    """The clause whose goal an answer is for: its name, or None where it has none or the goal is no clause's of what is returned."""
+    """The clause whose goal an answer is for: its name, or None where it has none or the goal is no
+    clause's of what is returned.
+    """
     said = re.match(r"pub returns\S*-clause-(\w+?)(-\d+)? :", part)
     return said and said[1]
 
 
 def answers_alone(text, clause):
-    """A file of answers without those for clauses that say nothing in a copy. What stands between answers stays: others may cite it."""
+    """A file of answers without those for clauses that say nothing in a copy.
+
+    What stands between answers stays: others may cite it.
+    """
     parts = re.split(r"\n(?=pub )|\n(?=\n\S)", text)
-    return "\n".join(part for part in parts if not re.match(r"\n?pub returns", part) or is_kept(clause, answered(part.lstrip("\n"))))
+    return "\n".join(
+        part
+        for part in parts
+        if not re.match(r"\n?pub returns", part) or is_kept(clause, answered(part.lstrip("\n")))
+    )

@@ -18,7 +18,10 @@ def end_of_group(text, at):
 
 
 def body_of(text, at):
-    """The span of a function's body: the last of its brace groups. None where it has none, as what a trait only declares."""
+    """The span of a function's body: the last of its brace groups.
+
+    None where it has none, as what a trait only declares.
+    """
     while True:
         brace = re.compile(r"[{;}]").search(text, at)
         if not brace or brace[0] != "{":
@@ -29,7 +32,9 @@ def body_of(text, at):
 
 
 def hidden(words):
-    """Blanks in the place of words that hold no brace and no end of a function: of a comment, of a literal, of an array's type."""
+    """Blanks in the place of words that hold no brace and no end of a function: of a comment, of a
+    literal, of an array's type.
+    """
     return " " * len(words[0])
 
 
@@ -46,7 +51,9 @@ def functions(text):
 
 
 def is_const(text, at):
-    """Whether the function whose name begins after this `fn` may be called where constants are made."""
+    """Whether the function whose name begins after this `fn` may be called where constants are
+    made.
+    """
     return bool(re.search(r"\bconst (?:unsafe )?$", text[:at]))
 
 
@@ -56,8 +63,10 @@ def is_free(text, at):
 
 
 def emptied(text, kept, only=None):
-    """A source whose functions have a body that is never reached, but those of the names that are kept, and where `only` names some no
-    others; and the names of those that have theirs still. What makes constants keeps its body: it is run where they are made."""
+    """A source whose functions have a body that is never reached, but those of the names that are
+    kept, and where `only` names some no others; and the names of those that have theirs still. What
+    makes constants keeps its body: it is run where they are made.
+    """
     whole, parts, copied, past = set(), [], 0, 0
     for name, start, body, end in functions(text):
         if body < past:
@@ -72,12 +81,15 @@ def emptied(text, kept, only=None):
 
 
 def place(path, text, old, new):
-    """The function whose body alone a pair changes: its file, its name, and how many before it have that name. None where it is more."""
+    """The function whose body alone a pair changes: its file, its name, and how many before it have
+    that name. None where it is more.
+    """
     at = text.find(old)
     first, last = at + len(old) - len(old.lstrip()), at + len(old.rstrip())
     found = functions(text)
     for number, (name, start, body, end) in reversed([*enumerate(found)]):
-        # (after a contract that stays as it is a body may be put in front of the one that stands there)
+        # (after a contract that stays as it is a body may be put in front of the one that stands
+        # there)
         if body <= first and last <= end or start <= first and last <= body and new.startswith(old):
             return path, name, sum(each[0] == name for each in found[:number])
     return None
@@ -94,26 +106,41 @@ def span(text, name, number):
 
 
 def of_trait(text, at):
-    """Whether what stands there is a method of a trait, or of a trait's impl: a trait says which methods there are."""
+    """Whether what stands there is a method of a trait, or of a trait's impl: a trait says which
+    methods there are.
+    """
     heads = re.findall(r"^(?:pub(?:\(crate\))? )?(?:unsafe )?(?:impl|trait)\b.*", text[:at], re.M)
-    return text[at:].startswith(" ") and bool(heads) and bool(re.search(r"\btrait\b|\bfor\b", heads[-1]))
+    return (
+        text[at:].startswith(" ")
+        and bool(heads)
+        and bool(re.search(r"\btrait\b|\bfor\b", heads[-1]))
+    )
 
 
 def own_place(texts, body):
-    """The function of a wrong body that is written whole: its file, its name, and how many before it have that name. None where it is not
-    there, or where more than one of its type can be meant."""
+    """The function of a wrong body that is written whole: its file, its name, and how many before
+    it have that name. None where it is not there, or where more than one of its type can be meant.
+    """
     *above, name = body.function.split("::")
     path, text = body.whole[0], texts[body.whole[0]]
     named = [start for each, start, *_ in functions(text) if each == name]
     owner = above[-1] if above and above[-1][0].isupper() else None
-    own = [at for at, start in enumerate(named) if owner is None and is_free(text, start) or owner and is_of(text, start, owner)]
+    own = [
+        at
+        for at, start in enumerate(named)
+        if owner is None and is_free(text, start) or owner and is_of(text, start, owner)
+    ]
     return (path, name, own[0]) if len(own) == 1 else None
 
 
 def is_of(text, at, owner):
     """Whether what stands there is of a type's own impl."""
     heads = re.findall(r"^(?:unsafe )?impl\b.*", text[:at], re.M)
-    return not is_free(text, at) and bool(heads) and bool(re.match(rf"(?:unsafe )?impl(?:<[^{{]*?>)? {owner}\b(?!.* for )", heads[-1]))
+    return (
+        not is_free(text, at)
+        and bool(heads)
+        and bool(re.match(rf"(?:unsafe )?impl(?:<[^{{]*?>)? {owner}\b(?!.* for )", heads[-1]))
+    )
 
 
 def parameters(function):
@@ -131,7 +158,11 @@ def parameters(function):
             begun = at + 1
         if depth == 0:
             break
-    return [re.sub(r"^(&(?:'\w+ )?)?(?:mut )?", "", part).split(":")[0].strip() for part in parts if part]
+    return [
+        re.sub(r"^(&(?:'\w+ )?)?(?:mut )?", "", part).split(":")[0].strip()
+        for part in parts
+        if part
+    ]
 
 
 def with_body(function, text):
@@ -151,13 +182,19 @@ def called(function, path):
 
 
 def places(texts, body):
-    """The functions that a wrong body changes; None where it changes something outside of their bodies."""
+    """The functions that a wrong body changes; None where it changes something outside of their
+    bodies.
+    """
     if body.whole:
         at = own_place(texts, body)
         return at and {at}
     found, texts = set(), dict(texts)
     for path, old, new in body.pairs:
-        at = place(path, texts[path], old, new) if path.startswith("src/") and texts[path].count(old) == 1 else None
+        at = (
+            place(path, texts[path], old, new)
+            if path.startswith("src/") and texts[path].count(old) == 1
+            else None
+        )
         if at is None:
             return None
         found.add(at)

@@ -1,4 +1,6 @@
-"""The clauses that the function of a wrong body has: a body that is held to another one would be in a copy without any, which any body meets."""
+"""The clauses that the function of a wrong body has: a body that is held to another one would be in
+a copy without any, which any body meets.
+"""
 import functools
 import glob
 import re
@@ -17,31 +19,47 @@ def without_parameters(words):
 
 
 def owner_at(text, at):
-    """Return in whose impl or trait a function is, as the paths of wrong bodies name it: a type, and the trait after it if there is one."""
+    """Return in whose impl or trait a function is, as the paths of wrong bodies name it: a type,
+    and the trait after it if there is one.
+    """
     if not text[:at].endswith("    "):
         at = text.rfind("\n", 0, at) + 1
     head = [*IMPL.finditer(text, 0, at)][-1][2]
-    named = [part.split("::")[-1].split(":")[0] for part in without_parameters(head.replace("->", "")).split(" where ")[0].strip().split(" for ")]
+    named = [
+        part.split("::")[-1].split(":")[0]
+        for part in without_parameters(head.replace("->", ""))
+        .split(" where ")[0]
+        .strip()
+        .split(" for ")
+    ]
     return "".join(re.match(r"&?\s*(?:mut )?(\w*)", part.strip())[1] for part in reversed(named))
 
 
 def contracts_in(text, owner, name):
-    """Return the contract of each function of a name in a source: those of an owner, or the free ones."""
+    """Return the contract of each function of a name in a source: those of an owner, or the free
+    ones.
+    """
     found = []
     for each, start, body, _ in code.functions(text):
         free = code.is_free(text, start)
-        if each == name and (free if owner is None else not free and owner_at(text, start) == owner):
+        if each == name and (
+            free if owner is None else not free and owner_at(text, start) == owner
+        ):
             found.append(text[start:body])
     return found
 
 
 @functools.cache
 def declared(name):
-    """Return the contract of each method of a name that a trait of the repository declares, with a body or without one."""
+    """Return the contract of each method of a name that a trait of the repository declares, with a
+    body or without one.
+    """
     found = []
     for path in glob.glob(f"{sources.TOP}/crates/*/src/**/*.rt", recursive=True):
         text = sources.text_of(path)
-        for start in re.finditer(rf"^    fn {name}\b[^{{;]*?(?:\{{|;|\n        ensures)", text, re.M):
+        for start in re.finditer(
+            rf"^    fn {name}\b[^{{;]*?(?:\{{|;|\n        ensures)", text, re.M
+        ):
             heads = [*IMPL.finditer(text, 0, start.start())]
             if heads and heads[-1][1] == "trait":
                 end = re.compile(r"\n    fn |\n    ghost |\n\}").search(text, start.end())
@@ -50,24 +68,36 @@ def declared(name):
 
 
 def contracts_of(body):
-    """Return the contracts of a wrong body's function: its own; those of the traits' methods of that name if its own promises nothing."""
+    """Return the contracts of a wrong body's function: its own; those of the traits' methods of
+    that name if its own promises nothing.
+    """
     *above, name = body.function.split("::")
     owner = above.pop() if above and above[-1][0].isupper() else None
     paths = {f"src/{'/'.join(above)}.rt"} if above else {"src/lib.rt", "src/main.rt"}
     # (an impl may be in another file than its type, by which its functions are named)
     paths |= {path for path in sources.original(body) if path.startswith("src/")}
-    texts = [sources.text_in(body.crate, path) for path in paths if sources.is_there(body.crate, path)]
+    texts = [
+        sources.text_in(body.crate, path) for path in paths if sources.is_there(body.crate, path)
+    ]
     own = [contract for text in texts for contract in contracts_in(text, owner, name)]
     return [*own, *([] if any(clauses.spans(contract) for contract in own) else declared(name))]
 
 
 def lacks(body):
-    """Check whether the clause that a wrong body is held to has a name that no contract of its function has."""
+    """Check whether the clause that a wrong body is held to has a name that no contract of its
+    function has.
+    """
     named = NAMED.fullmatch(body.clause)
-    return bool(named) and named[1] not in {name for contract in contracts_of(body) for name, *_ in clauses.spans(contract)}
+    return bool(named) and named[1] not in {
+        name for contract in contracts_of(body) for name, *_ in clauses.spans(contract)
+    }
 
 
 def check(bodies):
     """Raise `sources.Unread` for wrong bodies whose clause their function does not have."""
-    if lost := [f"{body.file}: {body.name}: {body.function} has no clause `{body.clause}`" for body in bodies if lacks(body)]:
+    if lost := [
+        f"{body.file}: {body.name}: {body.function} has no clause `{body.clause}`"
+        for body in bodies
+        if lacks(body)
+    ]:
         raise sources.Unread("\n".join(lost))

@@ -1,4 +1,6 @@
-"""Judges wrong bodies and the right ones in their copies: rounds of many side by side, and again alone what does not plainly pass in one."""
+"""Judges wrong bodies and the right ones in their copies: rounds of many side by side, and again
+alone what does not plainly pass in one.
+"""
 import math
 import os
 import time
@@ -7,9 +9,11 @@ from concurrent.futures import FIRST_COMPLETED, ThreadPoolExecutor, wait
 
 from wrong import prover, rounds, sources, store, verdicts
 
-# A round of so many wrong bodies is never parted: what each round takes besides them would be more than theirs.
+# A round of so many wrong bodies is never parted: what each round takes besides them would be more
+# than theirs.
 LEAST = 16
-# No more wrong bodies than these stand in one check, but those of one round: it holds all of them in memory.
+# No more wrong bodies than these stand in one check, but those of one round: it holds all of them
+# in memory.
 TOGETHER = 80
 
 
@@ -21,48 +25,73 @@ class Crate:
         told = {} if anew else {body.name: store.known(body) for body in bodies}
         self.verdicts = {name: verdict for name, verdict in told.items() if verdict}
         self.kept = len(self.verdicts)
-        self.planned = rounds.plan(name, [body for body in bodies if body.name not in self.verdicts], most)
+        self.planned = rounds.plan(
+            name, [body for body in bodies if body.name not in self.verdicts], most
+        )
         self.seconds, self.checks, self.open = 0, 0, len(self.planned)
 
     def size(self):
         """How much the prover has to read of it."""
         walked = os.walk(f"{sources.TOP}/crates/{self.name}")
-        return sum(os.path.getsize(f"{at}/{file}") for at, _, files in walked if "/out" not in at for file in files)
+        return sum(
+            os.path.getsize(f"{at}/{file}")
+            for at, _, files in walked
+            if "/out" not in at
+            for file in files
+        )
 
     def sums(self):
         """A line that tells how its wrong bodies were judged, and what it took."""
         kept = f" ({self.kept} of them in an earlier run)" if self.kept else ""
-        told = "; ".join(self.sums_of(word, of_right) for word, of_right in (("wrong", False), ("right", True)))
-        return f"{self.name}: {told}{kept}; {self.checks} checks, {self.seconds:.0f} seconds of a processor"
+        told = "; ".join(
+            self.sums_of(word, of_right) for word, of_right in (("wrong", False), ("right", True))
+        )
+        cost = f"{self.checks} checks, {self.seconds:.0f} seconds of a processor"
+        return f"{self.name}: {told}{kept}; {cost}"
 
     def sums_of(self, word, of_right):
         """How many of its wrong bodies, or of its right ones, came to each verdict."""
         names = [body.name for body in self.bodies if body.is_right == of_right]
         counts = Counter(self.verdicts[name][0] for name in names)
-        return f"{len(names)} {word} bodies" + "".join(f"{',' if at else ':'} {count} {verdict}" for at, (verdict, count) in enumerate(counts.items()))
+        return f"{len(names)} {word} bodies" + "".join(
+            f"{',' if at else ':'} {count} {verdict}"
+            for at, (verdict, count) in enumerate(counts.items())
+        )
 
 
 def first_error(text):
     """The first line that tells why a check came to nothing."""
-    lines = [line for line in text.splitlines() if "error" in line] or text.splitlines()[-1:] or ["it said nothing"]
+    lines = (
+        [line for line in text.splitlines() if "error" in line]
+        or text.splitlines()[-1:]
+        or ["it said nothing"]
+    )
     return lines[0][:160]
 
 
 def log(these, text):
     """Writes what the prover said of a round, where a folder is named for that."""
     if folder := os.environ.get("WRONG_LOGS"):
-        with open(f"{folder}/{these.crate}.{these.bodies[0].word}.{len(these.bodies)}", "w", encoding="utf-8") as file:
+        with open(
+            f"{folder}/{these.crate}.{these.bodies[0].word}.{len(these.bodies)}",
+            "w",
+            encoding="utf-8",
+        ) as file:
             file.write(text)
 
 
 def judged(these, text):
     """Of each of the wrong bodies of a round what it comes to by what the prover said."""
     found = verdicts.hear(text)
-    return [(body, verdicts.judge(body, these.functions[body.name], found)) for body in these.bodies]
+    return [
+        (body, verdicts.judge(body, these.functions[body.name], found)) for body in these.bodies
+    ]
 
 
 def tried(task):
-    """Checks rounds, all in one check: of each its verdicts, or None where the check came to nothing; and the seconds that it took."""
+    """Checks rounds, all in one check: of each its verdicts, or None where the check came to
+    nothing; and the seconds that it took.
+    """
     texts, said = prover.check(task)
     for these, text in zip(task, texts):
         log(these, said.text if text is None else text)
@@ -76,7 +105,12 @@ class Judging:
     """All of it: the tasks that wait, those that run, and the crates."""
 
     def __init__(self, crates, jobs, proofs):
-        self.pool, self.running, self.waiting, self.crates = ThreadPoolExecutor(jobs), {}, [], crates
+        self.pool, self.running, self.waiting, self.crates = (
+            ThreadPoolExecutor(jobs),
+            {},
+            [],
+            crates,
+        )
         self.jobs, self.proofs, self.apart, self.has_begun = jobs, proofs, [], False
         # (what takes longest begins first)
         for crate in sorted(crates, key=lambda crate: -crate.size()):
@@ -85,18 +119,28 @@ class Judging:
                 print(crate.sums(), flush=True)
 
     def next(self):
-        """What waits and can be checked together, the first of it first: rounds of crates that are proved. None while these are few and more
-        crates are still to be proved: what a check reads first, it would read for few. But the first check begins with those of the first
-        crate: until more are proved `rt ci` leaves processors idle."""
-        most = min(TOGETHER, math.ceil(sum(len(these.bodies) for _, these in self.waiting) / self.jobs))
+        """What waits and can be checked together, the first of it first: rounds of crates that are
+        proved. None while these are few and more crates are still to be proved: what a check reads
+        first, it would read for few. But the first check begins with those of the first crate:
+        until more are proved `rt ci` leaves processors idle.
+        """
+        most = min(
+            TOGETHER, math.ceil(sum(len(these.bodies) for _, these in self.waiting) / self.jobs)
+        )
         found, count = [], 0
         for crate, these in self.waiting:
             apart = these in self.apart or found and found[0][1] in self.apart
-            if self.proofs.has(crate.name) and (not found or count + len(these.bodies) <= most and not apart):
+            if self.proofs.has(crate.name) and (
+                not found or count + len(these.bodies) <= most and not apart
+            ):
                 found.append((crate, these))
                 count += len(these.bodies)
         least = most - LEAST if self.has_begun else LEAST
-        if count < least and not self.proofs.ended and not any(these in self.apart for _, these in found):
+        if (
+            count < least
+            and not self.proofs.ended
+            and not any(these in self.apart for _, these in found)
+        ):
             return []
         self.waiting = [task for task in self.waiting if task not in found]
         self.has_begun = True
@@ -114,12 +158,19 @@ class Judging:
         self.waiting[:0] = [(crate, each) for each in these]
 
     def end(self, future):
-        """Takes what rounds came to. Where their check came to nothing, each is tried apart from the others."""
+        """Takes what rounds came to.
+
+        Where their check came to nothing, each is tried apart from the others.
+        """
         tasks = self.running.pop(future)
         found, seconds = future.result()
         bodies = sum(len(these.bodies) for _, these in tasks)
         for (crate, these), verdicts_of in zip(tasks, found):
-            crate.seconds, crate.checks, crate.open = crate.seconds + seconds * len(these.bodies) / bodies, crate.checks + 1, crate.open - 1
+            crate.seconds, crate.checks, crate.open = (
+                crate.seconds + seconds * len(these.bodies) / bodies,
+                crate.checks + 1,
+                crate.open - 1,
+            )
             if verdicts_of is None and len(tasks) > 1:
                 self.apart.append(these)
                 self.again(crate, [these])
@@ -129,10 +180,19 @@ class Judging:
                 print(crate.sums(), flush=True)
 
     def take(self, crate, these, found):
-        """Takes what a round came to: what is not plainly refused beside others is tried again alone."""
+        """Takes what a round came to: what is not plainly refused beside others is tried again
+        alone.
+        """
         if found is None:
             half = len(these.bodies) // 2
-            self.again(crate, [each for part in (these.bodies[:half], these.bodies[half:]) for each in rounds.plan(crate.name, part)])
+            self.again(
+                crate,
+                [
+                    each
+                    for part in (these.bodies[:half], these.bodies[half:])
+                    for each in rounds.plan(crate.name, part)
+                ],
+            )
         for body, verdict in found or []:
             if verdict[0] in verdicts.passing(body) or these.is_plain():
                 self.decide(crate, body, verdict)
@@ -145,7 +205,11 @@ class Judging:
         if verdict[0] in verdicts.passing(body) and not sources.CHANGED:
             store.keep(body, verdict)
         if verdict[0] != verdicts.passing(body)[0]:
-            print(f"{crate.name}: {body.name} ({body.function}, {body.clause}): {verdict[0]}{': ' if verdict[1] else ''}{verdict[1]}", flush=True)
+            print(
+                f"{crate.name}: {body.name} ({body.function}, {body.clause}): "
+                + ": ".join(filter(None, verdict[:2])),
+                flush=True,
+            )
 
     def leave(self):
         """Ends what waits for crates that were not proved."""
@@ -159,7 +223,9 @@ class Judging:
         with self.pool:
             self.begin()
             while self.running or self.waiting:
-                for future in wait(self.running, timeout=self.proofs.SECONDS, return_when=FIRST_COMPLETED).done:
+                for future in wait(
+                    self.running, timeout=self.proofs.SECONDS, return_when=FIRST_COMPLETED
+                ).done:
                     self.end(future)
                 self.begin()
                 if not self.running and self.proofs.ended:
@@ -169,11 +235,15 @@ class Judging:
 
 
 def judge(chosen, jobs, anew, proofs):
-    """Judges bodies of crates, and returns each with what it came to: what an earlier run on this machine said of the same stands, unless
-    they are judged anew. One crate's share of a run that is long for the checks side by side goes in several rounds. Of what does not come
-    to a verdict that passes each is tried again alone."""
+    """Judges bodies of crates, and returns each with what it came to: what an earlier run on this
+    machine said of the same stands, unless they are judged anew. One crate's share of a run that is
+    long for the checks side by side goes in several rounds. Of what does not come to a verdict that
+    passes each is tried again alone.
+    """
     most = max(LEAST, math.ceil(sum(map(len, chosen.values())) / jobs))
-    crates = [Crate(name, bodies, anew or bool(sources.CHANGED), most) for name, bodies in chosen.items()]
+    crates = [
+        Crate(name, bodies, anew or bool(sources.CHANGED), most) for name, bodies in chosen.items()
+    ]
     if proofs.ended:
         for crate in crates:
             prover.below([crate.name])

@@ -1,4 +1,6 @@
-"""What is written from the wrong bodies: docs/reference/mutants.md, and those in crates/*/must-fail, which `rt ci` tries."""
+"""What is written from the wrong bodies: docs/reference/mutants.md, and those in
+crates/*/must-fail, which `rt ci` tries.
+"""
 import glob
 import os
 
@@ -7,8 +9,8 @@ from wrong import sources
 PAGE = f"{sources.TOP}/docs/reference/mutants.md"
 FOREWORD = """# Mutants
 
-A contract that incorrect code meets, too, states little. A mutant is an edit of the code, of definitions or
-of both that the prover must reject. There are {count}, in
+A contract that incorrect code meets, too, states little. A mutant is an edit of the code, of
+definitions or of both that the prover must reject. There are {count}, in
 `crates/CRATE/wrong-bodies.edits`, from which `tests/wrong_bodies --document` generates this page.
 
 Each public function with a body has at least one mutant, of itself or of a function below it. A
@@ -59,8 +61,8 @@ takes a complete check of its crate, so this is a crate with a short check. `tes
 - **Mutant**: its name, and what it means if the name does not state it.
 - **Function**: the function in which it is rejected.
 - **Clause**: what rejects it. `ensures` if the function has one clause without a name, or if the
-  prover does not report which one fails; `ensures x` for the clause `x` (`of std's f` if a trait of std
-  states it); `requires of f` if `f` may no longer be called; `loop` for a loop invariant;
+  prover does not report which one fails; `ensures x` for the clause `x` (`of std's f` if a trait of
+  std states it); `requires of f` if `f` may no longer be called; `loop` for a loop invariant;
   `invariant` for that of the function's type; `lemma x in F.antt` for a lemma that the function's
   proof uses, if an edit changes a definition and the code in the same way.
 """
@@ -93,7 +95,11 @@ def edit(body):
 
 def tried(crate):
     """The wrong bodies of a crate that `rt ci` tries: of each its file, and what stands there."""
-    return {f"crates/{crate}/must-fail/{body.word}.edit": edit(body) for body in sources.bodies(crate) if "must-fail" in body.said}
+    return {
+        f"crates/{crate}/must-fail/{body.word}.edit": edit(body)
+        for body in sources.bodies(crate)
+        if "must-fail" in body.said
+    }
 
 
 def wanted():
@@ -109,9 +115,15 @@ def there():
 
 
 def write(names):
-    """Writes those of the files whose names begin so, removes what else stands there, and returns the names of those that changed."""
+    """Writes those of the files whose names begin so, removes what else stands there, and returns
+    the names of those that changed.
+    """
     found, right = there(), wanted()
-    changed = [path for path in sorted({*found, *right}) if path.startswith(names) and found.get(path) != right.get(path)]
+    changed = [
+        path
+        for path in sorted({*found, *right})
+        if path.startswith(names) and found.get(path) != right.get(path)
+    ]
     for path in changed:
         at = f"{sources.TOP}/{path}"
         if path not in right:

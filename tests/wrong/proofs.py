@@ -1,4 +1,6 @@
-"""Which crates are proved: all, or those of which `rt ci` has said so by now, beside which wrong bodies are judged."""
+"""Which crates are proved: all, or those of which `rt ci` has said so by now, beside which wrong
+bodies are judged.
+"""
 import os
 import re
 
@@ -26,7 +28,10 @@ class AllProved:
 
 
 class Proofs(AllProved):
-    """What `rt ci` has said by now, in a file. Once it has ended there is another, `.ended` after the name of the first."""
+    """What `rt ci` has said by now, in a file.
+
+    Once it has ended there is another, `.ended` after the name of the first.
+    """
 
     SECONDS = 2
 

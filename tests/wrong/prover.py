@@ -38,7 +38,9 @@ def kit():
 
 
 def below(crates):
-    """The libraries that crates stand on, and the folders in which they are: those of the repository as `rt ci` has proved them."""
+    """The libraries that crates stand on, and the folders in which they are: those of the
+    repository as `rt ci` has proved them.
+    """
     at, listed, found = kit(), sources.order_of_crates(), {"std": None}
     for crate in crates:
         found |= dict.fromkeys(listed[crate][0], crate)
@@ -46,12 +48,17 @@ def below(crates):
         folder = f"{sources.TOP}/crates/{name}/out/rlib" if name in listed else f"{at}/rlibs"
         found[name] = f"{folder}/{name}.rlib"
         if not os.path.exists(found[name]):
-            raise Missing(f"{crate}: the library {name} is not built: run `rt ci {crate}` first, or `rt lib` in the folders of those below it")
+            raise Missing(
+                f"{crate}: the library {name} is not built: run `rt ci {crate}` first, "
+                "or `rt lib` in the folders of those below it"
+            )
     return found
 
 
 def words_of(crates):
-    """The words of a check over the libraries that crates stand on, without what stands in it and is asked for."""
+    """The words of a check over the libraries that crates stand on, without what stands in it and
+    is asked for.
+    """
     at, listed = kit(), sources.order_of_crates()
     words = [f"{at}/bin/rattle", "check", "--crate-name", "judged", "judged/src/lib.rt"]
     for name, path in below(crates).items():
@@ -59,15 +66,31 @@ def words_of(crates):
     own = [f"{sources.TOP}/crates/{crate}/out/rlib" for crate in listed]
     for folder in [f"{at}/rlibs", *filter(os.path.isdir, own)]:
         words += ["-L", f"dependency={folder}"]
-    words += ["--antt-project", f"{at}/rattle/logic/antt-project.json", "--logic-built", f"{at}/logic_built"]
+    words += [
+        "--antt-project",
+        f"{at}/rattle/logic/antt-project.json",
+        "--logic-built",
+        f"{at}/logic_built",
+    ]
     return [*words, "--jobs", "1", "--allow-holes"]
 
 
 def run(words, room):
-    """Runs the words in a folder. No file gets as long as what is made of a function: where the prover can't write all that it makes, it gives
-    its verdict, and doesn't check once more to print each goal that failed for whoever would answer it."""
+    """Runs the words in a folder.
+
+    No file gets as long as what is made of a function: where the prover can't write all that it
+    makes, it gives its verdict, and doesn't check once more to print each goal that failed for
+    whoever would answer it.
+    """
     # (what ends a process that writes more is ignored here, and so it is there: the write fails)
-    ran = subprocess.Popen(words, cwd=room, stdin=subprocess.DEVNULL, stdout=subprocess.PIPE, stderr=subprocess.STDOUT, restore_signals=False)
+    ran = subprocess.Popen(
+        words,
+        cwd=room,
+        stdin=subprocess.DEVNULL,
+        stdout=subprocess.PIPE,
+        stderr=subprocess.STDOUT,
+        restore_signals=False,
+    )
     resource.prlimit(ran.pid, resource.RLIMIT_FSIZE, (LONGEST, LONGEST))
     with ran.stdout as out:
         text = out.read().decode(errors="replace")
@@ -77,8 +100,10 @@ def run(words, room):
 
 
 def lay(room, these, name):
-    """Lays a crate's folders with the texts of a round into the folder of a check, as a library of another name: of a program the function
-    that begins it is one like others, and nothing that it calls is linked."""
+    """Lays a crate's folders with the texts of a round into the folder of a check, as a library of
+    another name: of a program the function that begins it is one like others, and nothing that it
+    calls is linked.
+    """
     for part in PARTS:
         if os.path.isdir(f"{sources.TOP}/crates/{these.crate}/{part}"):
             shutil.copytree(f"{sources.TOP}/crates/{these.crate}/{part}", f"{room}/{part}")
@@ -90,20 +115,31 @@ def lay(room, these, name):
     if os.path.exists(f"{room}/src/main.rt"):
         os.rename(f"{room}/src/main.rt", f"{room}/src/lib.rt")
     for path in (f"{at}/{file}" for at, _, files in os.walk(room) for file in files):
-        text = sources.text_of(path).replace(f"Rattle.{these.crate}.", f"Rattle.{name}.").replace("\nfn main(", "\nfn begin_program(")
+        text = (
+            sources.text_of(path)
+            .replace(f"Rattle.{these.crate}.", f"Rattle.{name}.")
+            .replace("\nfn main(", "\nfn begin_program(")
+        )
         with open(path, "w", encoding="utf-8") as file:
             file.write(text)
 
 
 def said_of(text, room, name):
-    """What is said of one of the crates that are checked together, as it would be said of it alone."""
+    """Return what is said of one of several crates, as it would be said of it alone."""
     lines = re.sub(r"\n  +(?=\S)", " ", text).splitlines()
-    return "\n".join(line.replace(f"{room}/{name}/", "./") for line in lines if re.search(rf"{re.escape(room)}/{name}/|\b{name}::", line))
+    return "\n".join(
+        line.replace(f"{room}/{name}/", "./")
+        for line in lines
+        if re.search(rf"{re.escape(room)}/{name}/|\b{name}::", line)
+    )
 
 
 def check(rounds):
-    """What the prover says of the functions of each of some rounds, and all that it says. They stand in one check, each as a library of a
-    name of its own: what a check reads first, it reads once for all of them. None of any where the check came to nothing."""
+    """What the prover says of the functions of each of some rounds, and all that it says.
+
+    They stand in one check, each as a library of a name of its own: what a check reads first, it
+    reads once for all of them. None of any where the check came to nothing.
+    """
     with tempfile.TemporaryDirectory(prefix="wrong-bodies-") as room:
         named = [(f"{these.crate}_{number}", these) for number, these in enumerate(rounds)]
         words = words_of(dict.fromkeys(these.crate for these in rounds))
@@ -113,7 +149,9 @@ def check(rounds):
         for name, these in named:
             lay(f"{room}/{name}", these, name)
             words += ["--lib", f"{name}={room}/{name}/src/lib.rt"]
-            words += [word for function in these.asked() for word in ("--only", f"{name}::{function}")]
+            words += [
+                word for function in these.asked() for word in ("--only", f"{name}::{function}")
+            ]
         said = run(words, room)
         ended = ENDED.search(said.text)
         return [said_of(said.text, room, name) if ended else None for name, _ in named], said

@@ -1,12 +1,15 @@
-"""The copies of functions with their right bodies: each must be proved, or a wrong body in its place would be rejected for nothing."""
+"""The copies of functions with their right bodies: each must be proved, or a wrong body in its
+place would be rejected for nothing.
+"""
 from dataclasses import replace
 
 from wrong import code, rounds, sources
 
 
 def unchanged(body):
-    """Return a body that changes nothing where the wrong one changes something; one that calls the right function where the wrong one is
-    written whole."""
+    """Return a body that changes nothing where the wrong one changes something; one that calls the
+    right function where the wrong one is written whole.
+    """
     if not body.whole:
         return replace(body, pairs=[(path, old, old) for path, old, _ in body.pairs], is_right=True)
     path, name, before = code.own_place(sources.original(body), body)
@@ -16,18 +19,26 @@ def unchanged(body):
 
 
 def copy_of(body):
-    """Return all that the prover reads of the copy of a right body: its crate, its function, its text and its proof; None if there is no
-    copy."""
+    """Return all that the prover reads of the copy of a right body: its crate, its function, its
+    text and its proof; None if there is no copy.
+    """
     places = code.places(sources.original(body), body) or ()
     if not rounds.Round(body.crate).add_copy(body, places):
         return None
     (at,) = places
     text = sources.text_in(body.crate, at[0])
-    return body.crate, at, rounds.copied(body, text, at, "copy"), tuple(sorted(rounds.copied_proof(body, text, "copy").items()))
+    return (
+        body.crate,
+        at,
+        rounds.copied(body, text, at, "copy"),
+        tuple(sorted(rounds.copied_proof(body, text, "copy").items())),
+    )
 
 
 def copies(bodies):
-    """Return the right bodies for those wrong ones that are in a copy of their function, one for all whose copies are the same."""
+    """Return the right bodies for those wrong ones that are in a copy of their function, one for
+    all whose copies are the same.
+    """
     found = {}
     for body in map(unchanged, bodies):
         if copy := copy_of(body):

@@ -1,7 +1,9 @@
-"""Which wrong bodies stand together in one check: as many as can be, each in a copy of its function under another name.
+"""Which wrong bodies stand together in one check: as many as can be, each in a copy of its function
+under another name.
 
-A copy has a copy of its function's proof. The function itself stays right, and so nothing that calls it is proved again. A method of a
-trait's impl can't be copied: such a wrong body stands in the function itself.
+A copy has a copy of its function's proof. The function itself stays right, and so nothing that
+calls it is proved again. A method of a trait's impl can't be copied: such a wrong body stands in
+the function itself.
 """
 import math
 import os
@@ -26,15 +28,17 @@ def last(path):
 
 
 def shows_one(body, text):
-    """Whether a copy has to show one clause alone: not where its whole proof is written by hand and taken over, nor where its file lacks the
-    sign of what says nothing."""
+    """Whether a copy has to show one clause alone: not where its whole proof is written by hand and
+    taken over, nor where its file lacks the sign of what says nothing.
+    """
     by_hand = f"proofs/{'/'.join(body.function.split('::'))}/Proof.antt"
     return "◌≡◌" in text and (bool(body.whole) or not sources.is_there(body.crate, by_hand))
 
 
 def copied(body, text, at, named):
-    """A function under another name with the wrong body in it, and of its contract the clause alone that the body is held to; None where it
-    can't be so."""
+    """A function under another name with the wrong body in it, and of its contract the clause alone
+    that the body is held to; None where it can't be so.
+    """
     _, name, before = at
     first, end = code.span(text, name, before)
     copy = text[first:end]
@@ -51,34 +55,48 @@ def copied(body, text, at, named):
 
 
 def copied_proof(body, text, named):
-    """The files of proof of a function for its copy of that name, without answers for clauses that the copy lacks. A body that is written
-    whole has none: it stands on what the right function says."""
+    """The files of proof of a function for its copy of that name, without answers for clauses that
+    the copy lacks. A body that is written whole has none: it stands on what the right function
+    says.
+    """
     if body.whole:
         return {}
     crate, path = f"{sources.TOP}/crates/{body.crate}", body.function.split("::")
     own, other = "/".join(["proofs", *path]), "/".join(["proofs", *path[:-1], named])
     files = os.listdir(f"{crate}/{own}") if os.path.isdir(f"{crate}/{own}") else []
     word, instead = (f".proofs.{'.'.join([*path[:-1], last])}." for last in (path[-1], named))
-    found = {file: sources.text_in(body.crate, f"{own}/{file}").replace(word, instead) for file in files}
+    found = {
+        file: sources.text_in(body.crate, f"{own}/{file}").replace(word, instead) for file in files
+    }
     if "Answers.antt" in found and shows_one(body, text):
         found["Answers.antt"] = clauses.answers_alone(found["Answers.antt"], body.clause)
     return {f"{other}/{file}": proof for file, proof in found.items()}
 
 
 class Round:
-    """Wrong bodies that stand together, the functions that are asked for them, and the texts of the files that they change."""
+    """Wrong bodies that stand together, the functions that are asked for them, and the texts of the
+    files that they change.
+    """
 
     def __init__(self, crate):
         self.crate, self.bodies, self.functions, self.taken = crate, [], {}, set()
         self.texts = {path: text for (name, path), text in sources.CHANGED.items() if name == crate}
 
     def add(self, body, places):
-        """Adds a wrong body that changes these functions, in a copy or in its function itself, and returns whether it fits. A right one goes
-        into a copy alone: the function itself is proved already."""
-        return self.add_copy(body, places) or not (body.whole or body.is_right) and self.add_itself(body, places)
+        """Adds a wrong body that changes these functions, in a copy or in its function itself, and
+        returns whether it fits. A right one goes into a copy alone: the function itself is proved
+        already.
+        """
+        return (
+            self.add_copy(body, places)
+            or not (body.whole or body.is_right)
+            and self.add_itself(body, places)
+        )
 
     def add_itself(self, body, places):
-        """Adds a wrong body in its function itself, where none of the functions that it changes is taken."""
+        """Adds a wrong body in its function itself, where none of the functions that it changes is
+        taken.
+        """
         texts = sources.applied(self.texts, body)
         if texts is None or {body.function, *places} & self.taken or self.leads_back(body):
             return False
@@ -86,30 +104,48 @@ class Round:
         return True
 
     def leads_back(self, body):
-        """Whether a wrong body calls what another of the round has changed to call its function: calls in a cycle are no crate."""
+        """Whether a wrong body calls what another of the round has changed to call its function:
+        calls in a cycle are no crate.
+        """
         found, more = set(), called(body)
         while more - found:
             found |= more
-            more = {name for each in self.bodies if last(self.functions[each.name]) in found for name in called(each)}
+            more = {
+                name
+                for each in self.bodies
+                if last(self.functions[each.name]) in found
+                for name in called(each)
+            }
         return last(body.function) in found - called_before(body)
 
     def add_copy(self, body, places):
-        """Adds a wrong body in a copy of its function, which stays right: so all that calls it stays as it is proved."""
+        """Adds a wrong body in a copy of its function, which stays right: so all that calls it
+        stays as it is proved.
+        """
         (at,) = places if len(places) == 1 else (None,)
         if at is None or at[1] != last(body.function) or body.clause.startswith("lemma "):
             return False
-        original, named = sources.text_in(body.crate, at[0]), f"{at[1]}_{'right' if body.is_right else 'wrong'}_{len(self.bodies) + 1}"
+        original, named = (
+            sources.text_in(body.crate, at[0]),
+            f"{at[1]}_{'right' if body.is_right else 'wrong'}_{len(self.bodies) + 1}",
+        )
         copy = copied(body, original, at, named)
         if copy is None:
             return False
         text = self.texts.get(at[0], original)
         _, end = code.span(text, at[1], at[2])
-        texts = {**self.texts, at[0]: f"{text[:end]}\n\n{copy}{text[end:]}", **copied_proof(body, original, named)}
+        texts = {
+            **self.texts,
+            at[0]: f"{text[:end]}\n\n{copy}{text[end:]}",
+            **copied_proof(body, original, named),
+        }
         self.note(body, "::".join([*body.function.split("::")[:-1], named]), texts, ())
         return True
 
     def note(self, body, function, texts, places):
-        """Notes a wrong body that is in, the function that is asked for it, and those that it changes."""
+        """Notes a wrong body that is in, the function that is asked for it, and those that it
+        changes.
+        """
         self.bodies.append(body)
         self.functions[body.name] = function
         self.texts = texts
@@ -121,11 +157,17 @@ class Round:
 
     def is_plain(self):
         """Whether it is of one body, which is in its function itself, calls that, or is right."""
-        return len(self.bodies) == 1 and (bool(self.bodies[0].whole) or self.bodies[0].is_right or self.asked() == [self.bodies[0].function])
+        return len(self.bodies) == 1 and (
+            bool(self.bodies[0].whole)
+            or self.bodies[0].is_right
+            or self.asked() == [self.bodies[0].function]
+        )
 
 
 def alone(body):
-    """A round of one wrong body, in its function itself, with all of its contract; in a copy where it calls that, or is right."""
+    """A round of one wrong body, in its function itself, with all of its contract; in a copy where
+    it calls that, or is right.
+    """
     found = Round(body.crate)
     if body.whole or body.is_right:
         found.add_copy(body, code.places(sources.original(body), body))
@@ -135,8 +177,9 @@ def alone(body):
 
 
 def plan(crate, bodies, most=1000):
-    """The rounds of a crate, about equal and each of so many wrong bodies at the most, the largest first. What changes more than the bodies
-    of functions stands alone: proofs of others see it."""
+    """The rounds of a crate, about equal and each of so many wrong bodies at the most, the largest
+    first. What changes more than the bodies of functions stands alone: proofs of others see it.
+    """
     found, apart = [], []
     parts = max(1, math.ceil(len(bodies) / most))
     most = math.ceil(len(bodies) / parts)

@@ -2,29 +2,29 @@
 
 A file has many, each with lines in front of what it changes:
 
-  # name: its name, a few words
-  # function: whose proof is asked, by its path below the crate
-  # clause: what has to fail there, one of the forms below
-  # means: a sentence, where the name doesn't say enough
-  # must-fail: yes         of one or a few: `rt ci` tries them too, each by a whole check of its crate
-  file: src/x.rt         what it changes: a text that stands there once, and what takes its place; each is one line,
-  old: TEXT              and further pairs apply to what the earlier ones made
-  new: TEXT
+# name: its name, a few words # function: whose proof is asked, by its path below the crate #
+clause: what has to fail there, one of the forms below # means: a sentence, where the name doesn't
+say enough # must-fail: yes of one or a few: `rt ci` tries them too, each by a whole check of its
+crate file: src/x.rt what it changes: a text that stands there once, and what takes its place; each
+is one line, old: TEXT and further pairs apply to what the earlier ones made new: TEXT
 
 or, in the place of such pairs, a whole body, which can call the right function by its name:
 
-  file: src/x.rt
-  body: TEXT             what stands between its braces
+file: src/x.rt body: TEXT what stands between its braces
 
-A clause is `ensures` (one without a name, or where the prover doesn't say which of them fails), `ensures NAME`, `requires of CALLEE`, `loop` (what holds at each turn),
-`invariant` (its type's), `ensures of std's METHOD` or `ensures NAME of std's METHOD`, or `lemma NAME in FILE.antt` (a lemma on which the function's proof stands).
+A clause is `ensures` (one without a name, or where the prover doesn't say which of them fails),
+`ensures NAME`, `requires of CALLEE`, `loop` (what holds at each turn), `invariant` (its type's),
+`ensures of std's METHOD` or `ensures NAME of std's METHOD`, or `lemma NAME in FILE.antt` (a lemma
+on which the function's proof stands).
 """
 import os
 import re
 from dataclasses import dataclass, field
 
 TOP = os.path.dirname(os.path.dirname(os.path.dirname(os.path.realpath(__file__))))
-FORMS = re.compile(r"ensures( \w+)?( of std's \w+)?|requires of \w+|loop|invariant|lemma [\w']+ in \w+\.antt")
+FORMS = re.compile(
+    r"ensures( \w+)?( of std's \w+)?|requires of \w+|loop|invariant|lemma [\w']+ in \w+\.antt"
+)
 WORDS = "name", "function", "clause", "means", "must-fail"
 
 # Texts that stand in the place of a crate's own, by the crate and the file.
@@ -37,8 +37,10 @@ class Unread(Exception):
 
 @dataclass
 class Body:
-    """A wrong body: what it is, and its pairs of a file, the text there, and what takes its place; or the file of its function and all that
-    stands in its braces. Or the right body in the place of one."""
+    """A wrong body: what it is, and its pairs of a file, the text there, and what takes its place;
+    or the file of its function and all that stands in its braces. Or the right body in the place of
+    one.
+    """
 
     crate: str
     file: str
@@ -71,7 +73,9 @@ def text_of(path):
 
 
 def read_line(body, line, changing):
-    """Adds a line of a file of wrong bodies to its body; `changing` holds the file and the text that the next `new:` is for."""
+    """Adds a line of a file of wrong bodies to its body; `changing` holds the file and the text
+    that the next `new:` is for.
+    """
     if said := re.fullmatch(r"# ([\w-]+): (.+)", line):
         if said[1] not in WORDS or said[1] in body.said:
             raise Unread(f"{body.file}: {line}")
@@ -98,19 +102,32 @@ def read(crate, path):
         if line:
             read_line(found[-1], line, changing)
     for body in found:
-        if not ("function" in body.said and bool(body.pairs) != bool(body.whole) and FORMS.fullmatch(body.said.get("clause", ""))):
-            raise Unread(f"{body.file}: {body.name}: it lacks its function or what it changes, or its clause has no form that is known")
+        if not (
+            "function" in body.said
+            and bool(body.pairs) != bool(body.whole)
+            and FORMS.fullmatch(body.said.get("clause", ""))
+        ):
+            raise Unread(
+                f"{body.file}: {body.name}: it lacks its function or what it changes, "
+                "or its clause has no form that is known"
+            )
     return found
 
 
 def bodies(crate):
     """The wrong bodies of a crate, in the order of their names."""
-    found = read(crate, f"{TOP}/crates/{crate}/wrong-bodies.edits") if is_there(crate, "wrong-bodies.edits") else []
+    found = (
+        read(crate, f"{TOP}/crates/{crate}/wrong-bodies.edits")
+        if is_there(crate, "wrong-bodies.edits")
+        else []
+    )
     return sorted(found, key=lambda body: body.name)
 
 
 def order_of_crates():
-    """The crates in the order of crates.txt, lowest first: of each the libraries that it stands on, and whether C links it."""
+    """The crates in the order of crates.txt, lowest first: of each the libraries that it stands on,
+    and whether C links it.
+    """
     found = {}
     for line in text_of(f"{TOP}/crates.txt").splitlines():
         if line.strip() and not line.startswith("#"):
@@ -137,11 +154,15 @@ def is_there(crate, path):
 
 def original(body):
     """The texts of the files that a wrong body changes."""
-    return {path: text_in(body.crate, path) for path, *_ in [*body.pairs, *filter(None, [body.whole])]}
+    return {
+        path: text_in(body.crate, path) for path, *_ in [*body.pairs, *filter(None, [body.whole])]
+    }
 
 
 def applied(texts, body):
-    """The texts with the wrong body in them, or None where a text that it replaces doesn't stand there once."""
+    """The texts with the wrong body in them, or None where a text that it replaces doesn't stand
+    there once.
+    """
     texts = {**original(body), **texts}
     for path, old, new in body.pairs:
         if texts[path].count(old) != 1:

@@ -1,4 +1,6 @@
-"""What wrong bodies came to in earlier runs on this machine, by the sums of all that a verdict stands on."""
+"""What wrong bodies came to in earlier runs on this machine, by the sums of all that a verdict
+stands on.
+"""
 import functools
 import glob
 import hashlib
@@ -7,7 +9,9 @@ import os
 
 from wrong import prover, sources
 
-PLACE = os.path.join(os.environ.get("XDG_CACHE_HOME") or os.path.expanduser("~/.cache"), "iim-wrong-bodies")
+PLACE = os.path.join(
+    os.environ.get("XDG_CACHE_HOME") or os.path.expanduser("~/.cache"), "iim-wrong-bodies"
+)
 
 
 def sum_of(paths):
@@ -15,7 +19,10 @@ def sum_of(paths):
     sums = hashlib.sha256()
     for path in paths:
         with open(path, "rb") as file:
-            sums.update(f"{os.path.relpath(path, sources.TOP)} {hashlib.sha256(file.read()).hexdigest()}\n".encode())
+            sums.update(
+                f"{os.path.relpath(path, sources.TOP)} "
+                f"{hashlib.sha256(file.read()).hexdigest()}\n".encode()
+            )
     return sums.hexdigest()
 
 
@@ -31,13 +38,29 @@ def sum_of_crate(crate):
     """The sum of a crate and of all libraries of the repository below it."""
     listed = sources.order_of_crates()
     below = [sum_of_crate(name) for name in listed[crate][0] if name in listed]
-    paths = [f"{at}/{name}" for part in prover.PARTS for at, _, names in os.walk(f"{sources.TOP}/crates/{crate}/{part}") for name in names]
-    return hashlib.sha256(json.dumps([listed[crate], below, sum_of(sorted(paths))]).encode()).hexdigest()
+    paths = [
+        f"{at}/{name}"
+        for part in prover.PARTS
+        for at, _, names in os.walk(f"{sources.TOP}/crates/{crate}/{part}")
+        for name in names
+    ]
+    return hashlib.sha256(
+        json.dumps([listed[crate], below, sum_of(sorted(paths))]).encode()
+    ).hexdigest()
 
 
 def place(body):
     """The file of a wrong body's verdict."""
-    stands_on = json.dumps([sum_of_judges(), sum_of_crate(body.crate), body.said, body.pairs, body.whole, body.is_right])
+    stands_on = json.dumps(
+        [
+            sum_of_judges(),
+            sum_of_crate(body.crate),
+            body.said,
+            body.pairs,
+            body.whole,
+            body.is_right,
+        ]
+    )
     return f"{PLACE}/{hashlib.sha256(stands_on.encode()).hexdigest()}"
 
 

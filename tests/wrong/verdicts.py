@@ -3,7 +3,15 @@ import os
 import re
 from dataclasses import dataclass, field
 
-REFUSED, WEAK, OTHER, GONE, ACCEPTED, UNHEARD, UNTRIED = "refused", "weak", "another clause", "a name is gone", "ACCEPTED", "not heard of", "not tried"
+REFUSED, WEAK, OTHER, GONE, ACCEPTED, UNHEARD, UNTRIED = (
+    "refused",
+    "weak",
+    "another clause",
+    "a name is gone",
+    "ACCEPTED",
+    "not heard of",
+    "not tried",
+)
 # Passes: the clause that it names refuses it. A right body passes if it is proved.
 PASSED = REFUSED, WEAK
 RIGHT = (ACCEPTED,)
@@ -15,8 +23,11 @@ LINE = re.compile(r"fn \w+?::(\S+): (.*)")
 # It is proved, whether or not what it calls is taken at its word.
 PROVED = re.compile(r"proved|no holes|depends on a hole in")
 WAITS = re.compile(r"note: `search` has not tried the goals of `\w+?::(\S+?)`")
-# An answer by hand names what the edit took away (that a printed goal can't be pasted says nothing of this); it rests on a lemma that is refused; or its goal does not hold.
-NAME_IS_GONE = re.compile(r"is not in scope(?! here, so what is shown)|has no field|has no `|is no name|no goal|names no")
+# An answer by hand names what the edit took away (that a printed goal can't be pasted says nothing
+# of this); it rests on a lemma that is refused; or its goal does not hold.
+NAME_IS_GONE = re.compile(
+    r"is not in scope(?! here, so what is shown)|has no field|has no `|is no name|no goal|names no"
+)
 RESTS = re.compile(r"depends on `([^`]+)`, which was not admitted")
 NOT_FOUND = re.compile(r"`(?:search|omega|grind|simp|cc|arith)`|no proof of|the goal fails, at")
 ANSWERS = "Answers", "Invariants", "Proof"
@@ -24,7 +35,9 @@ ANSWERS = "Answers", "Invariants", "Proof"
 
 @dataclass
 class Heard:
-    """What is said of a function: its line, its goals that fail, those at which only an answer by hand fails, and names that are gone."""
+    """What is said of a function: its line, its goals that fail, those at which only an answer by
+    hand fails, and names that are gone.
+    """
 
     line: str = ""
     open: list = field(default_factory=list)
@@ -35,7 +48,9 @@ class Heard:
 
 
 def read_error(said, errors):
-    """Notes what is wrong in a file of proofs: of a function's answers by the function, of lemmas by their file."""
+    """Notes what is wrong in a file of proofs: of a function's answers by the function, of lemmas
+    by their file.
+    """
     folder, file = os.path.split(said[1])
     owner = folder.replace("/", "::") if file in ANSWERS else f"{file}.antt"
     found = errors.setdefault(owner, Heard())
@@ -63,7 +78,9 @@ def hear(text):
             goals.append(said[1])
         elif said := LINE.match(line):
             named = re.search(r"did not prove (.*?)(;|$)", said[2])
-            found[said[1]] = Heard(said[2], goals + re.findall(r"`([^`]+)`", named[1] if named else ""))
+            found[said[1]] = Heard(
+                said[2], goals + re.findall(r"`([^`]+)`", named[1] if named else "")
+            )
             goals = []
     for owner, error in errors.items():
         heard = found.setdefault(owner, Heard())
@@ -86,11 +103,15 @@ def of_clause(clause, goal):
     if not name:
         return goal.startswith("returns") and "-clause-" not in goal
     word = re.sub(r" ?of std's \w+$", "", name)
-    return goal.startswith("returns") and (not word or bool(re.search(rf"-clause-{word}(-\d+)?$", goal)))
+    return goal.startswith("returns") and (
+        not word or bool(re.search(rf"-clause-{word}(-\d+)?$", goal))
+    )
 
 
 def whose(found, function):
-    """What is heard of a function, or None: its path may stand longer in its line, as where it is of an `impl` in a function."""
+    """What is heard of a function, or None: its path may stand longer in its line, as where it is
+    of an `impl` in a function.
+    """
     if function in found:
         return found[function]
     return next((heard for path, heard in found.items() if path.endswith(f"::{function}")), None)
@@ -105,7 +126,12 @@ def by_lemma(clause, found):
         return REFUSED, lemma
     if failing or heard.gone:
         return (OTHER if failing else GONE), ", ".join(failing + heard.gone)
-    elsewhere = [f"{goal} in {path}" for path, it in found.items() if path.endswith(".antt") for goal in it.open + it.by_hand]
+    elsewhere = [
+        f"{goal} in {path}"
+        for path, it in found.items()
+        if path.endswith(".antt")
+        for goal in it.open + it.by_hand
+    ]
     return (OTHER if elsewhere else ACCEPTED), ", ".join(elsewhere)
 
 

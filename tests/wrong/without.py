@@ -1,15 +1,21 @@
-"""Takes away what the clause says that a wrong body is held to: the runner has to name that one as accepted then."""
+"""Takes away what the clause says that a wrong body is held to: the runner has to name that one as
+accepted then.
+"""
 import re
 
 from wrong import clauses, code, sources, verdicts
 
 
 def contract_of(body):
-    """The file in which a wrong body's function stands, its text, and where its contract begins and ends."""
+    """The file in which a wrong body's function stands, its text, and where its contract begins and
+    ends.
+    """
     texts = {path: sources.text_in(body.crate, path) for path in sources.original(body)}
     for path, name, before in code.places(texts, body) or ():
         if name == body.function.split("::")[-1]:
-            _, start, first, _ = [each for each in code.functions(texts[path]) if each[0] == name][before]
+            _, start, first, _ = [each for each in code.functions(texts[path]) if each[0] == name][
+                before
+            ]
             return path, texts[path], start, first
     raise SystemExit(f"{body.name}: its function is none of those that it changes")
 
@@ -26,12 +32,17 @@ def clause_in(contract, clause):
 def without_answers(text, clause):
     """A file of answers without those for the goals of a clause."""
     parts = re.split(r"\n(?=pub )", text)
-    return "\n".join(part for part in parts if not (said := re.match(r"pub (\S+) :", part)) or not verdicts.of_clause(clause, said[1]))
+    return "\n".join(
+        part
+        for part in parts
+        if not (said := re.match(r"pub (\S+) :", part)) or not verdicts.of_clause(clause, said[1])
+    )
 
 
 def take_away(crate, name):
-    """Takes away what the clause says that the wrong body of this name is held to, and the answers for its goals. Returns the wrong bodies
-    of its function."""
+    """Takes away what the clause says that the wrong body of this name is held to, and the answers
+    for its goals. Returns the wrong bodies of its function.
+    """
     bodies = sources.bodies(crate)
     body = next(body for body in bodies if name in (body.name, body.word))
     path, text, start, end = contract_of(body)
@@ -39,5 +50,7 @@ def take_away(crate, name):
     sources.CHANGED[crate, path] = text[: start + first] + clauses.NOTHING + text[start + last :]
     answers = f"proofs/{body.function.replace('::', '/')}/Answers.antt"
     if sources.is_there(crate, answers):
-        sources.CHANGED[crate, answers] = without_answers(sources.text_in(crate, answers), body.clause)
+        sources.CHANGED[crate, answers] = without_answers(
+            sources.text_in(crate, answers), body.clause
+        )
     return [each for each in bodies if each.function == body.function]

@@ -1,0 +1,82 @@
+"""Faults in the C interface and in the packages."""
+from __future__ import annotations
+
+from faults.fault import PACKAGES, PYTHON_TESTS, C, Fault
+
+HEADER = f"{C}/iim.h"
+GUIDES, MANUALS = "tests/documents/test_guides.py", "tests/documents/test_manuals.py"
+DECLARED = f"{PYTHON_TESTS}/test_header.py"
+FAULTS = [
+    Fault(
+        HEADER,
+        "    uint64_t mode;      /**",
+        "    uint32_t mode;      /**",
+        f"{DECLARED}::test_declares_the_structs_of_the_header",
+    ),
+    Fault(
+        HEADER,
+        "    uint64_t subfile;   /**< 7:20: the largest size of a subfile */\n    uint64_t announced; /**< 7:90: the announced size */",  # noqa: E501
+        "    uint64_t announced; /**< 7:90: the announced size */\n    uint64_t subfile;   /**< 7:20: the largest size of a subfile */",  # noqa: E501
+        f"{DECLARED}::test_declares_the_structs_of_the_header",
+    ),
+    Fault(
+        HEADER,
+        "typedef struct iim_answer {\n    uint8_t status;",
+        "typedef struct iim_answer {\n    uint32_t status;",
+        f"{DECLARED}::test_declares_the_structs_of_the_header",
+    ),
+    Fault(
+        HEADER,
+        "#define IIM_VERSION 1\n",
+        "#define IIM_VERSION 2\n",
+        f"{DECLARED}::test_has_functions_and_statuses_of_the_header",
+    ),
+    Fault(
+        HEADER,
+        " * @param limits  limits on records 1 and 2\n",
+        "",
+        f"{GUIDES}::test_documents_each_parameter_of_the_header",
+    ),
+    Fault(
+        HEADER,
+        " * @param octets  the bytes to check\n",
+        " * @param bytes   the bytes to check\n",
+        f"{GUIDES}::test_documents_each_parameter_of_the_header",
+    ),
+    Fault(
+        HEADER,
+        "void iim_check(iim_limits limits, const uint8_t *octets, size_t len, iim_answer *answer);",
+        "void iim_checks(iim_limits limits, const uint8_t *octets, size_t len, iim_answer *answer);",  # noqa: E501
+        f"{GUIDES}::test_lists_each_function_of_the_header_as_a_symbol",
+    ),
+    Fault(
+        f"{PACKAGES}/debian/libiim1.symbols",
+        " iim_admits@Base 2\n iim_audit@Base 2\n",
+        " iim_audit@Base 2\n iim_admits@Base 2\n",
+        f"{GUIDES}::test_lists_each_function_of_the_header_as_a_symbol",
+    ),
+    Fault(
+        f"{PACKAGES}/debian/libiim1.symbols",
+        " iim_audit@Base 2\n",
+        "",
+        f"{GUIDES}::test_lists_each_function_of_the_header_as_a_symbol",
+    ),
+    Fault(
+        f"{PACKAGES}/debian/libiim1.symbols",
+        " iim_check@Base 2\n",
+        " iim_checks@Base 2\n",
+        f"{GUIDES}::test_lists_each_function_of_the_header_as_a_symbol",
+    ),
+    Fault(
+        f"{PACKAGES}/python/iim-explain.1",
+        "iim-explain \\- explain",
+        "iim-explains \\- explain",
+        f"{MANUALS}::test_finds_the_manuals_by_apropos",
+    ),
+    Fault(
+        f"{PACKAGES}/python/iim-explain.1",
+        "iim-explain \\- explain a file of newswire envelopes (IPTC-NAA IIM)",
+        "iim-explain \\- explain a file of newswire envelopes (IIM)",
+        f"{MANUALS}::test_finds_the_manuals_by_apropos",
+    ),
+]
