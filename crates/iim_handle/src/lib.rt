@@ -15,7 +15,7 @@ mod opening;
 mod owner;
 mod parts;
 mod saving;
-pub mod status;
+mod status;
 
 pub use ending::{iim_unpacker_close, iim_unpacker_end};
 pub use feeding::iim_unpacker_feed;
