@@ -31,16 +31,40 @@ import rules
 
 WORKERS = 1, 2, 4
 NOW = "2024-03-01T12:00:00Z"
-SMALL = [(1, 0, b"\0\4"), (1, 20, b"\0\2"), (1, 22, b"\0\1"), (1, 30, b"TST"), (1, 40, b"00000001"), (1, 70, b"20240301"), (2, 0, b"\0\4")]
+SMALL = [
+    (1, 0, b"\0\4"),
+    (1, 20, b"\0\2"),
+    (1, 22, b"\0\1"),
+    (1, 30, b"TST"),
+    (1, 40, b"00000001"),
+    (1, 70, b"20240301"),
+    (2, 0, b"\0\4"),
+]
 HEAD = [b"TST", b"0007", b"4", b"ECO", b"910", b""]
 
 
 def envelope(number):
     """Return an envelope of 22 datasets and a story of 4 KB."""
-    first = [(1, 0, b"\0\4"), (1, 20, b"\0\2"), (1, 22, b"\0\1"), (1, 30, b"TST"), (1, 40, b"%08d" % number), (1, 70, b"20240301")]
-    second = [(2, 0, b"\0\4"), (2, 105, b"Rates are held"), (2, 120, b"a" * 200), *((2, 25, b"keyword %d" % at) for at in range(13))]
+    first = [
+        (1, 0, b"\0\4"),
+        (1, 20, b"\0\2"),
+        (1, 22, b"\0\1"),
+        (1, 30, b"TST"),
+        (1, 40, b"%08d" % number),
+        (1, 70, b"20240301"),
+    ]
+    second = [
+        (2, 0, b"\0\4"),
+        (2, 105, b"Rates are held"),
+        (2, 120, b"a" * 200),
+        *((2, 25, b"keyword %d" % at) for at in range(13)),
+    ]
     lines = [b"Word by word it goes on to the end of a line of wire copy." for _ in range(70)]
-    return rules.packed(first + second, rules.object_of([b"TST", b"0007", b"4", b"ECO", b"910", b""], lines, b""), 32_768)
+    return rules.packed(
+        first + second,
+        rules.object_of([b"TST", b"0007", b"4", b"ECO", b"910", b""], lines, b""),
+        32_768,
+    )
 
 
 def make(folder, files, envelopes):
@@ -82,7 +106,9 @@ def remove(index):
 
 def compare(turns, command):
     """Measure both trees in each way."""
-    print(f"{'files':>6} {'envelopes':>9} {'way':<22} {'seconds':>8} {'processor':>9} {'us a file':>9} {'us an envelope':>14} {'ratio':>6}")
+    print(
+        f"{'files':>6} {'envelopes':>9} {'way':<22} {'seconds':>8} {'processor':>9} {'us a file':>9} {'us an envelope':>14} {'ratio':>6}"
+    )
     for files, envelopes, batch in (4_000, 1, 128), (40, 200, 1):
         with tempfile.TemporaryDirectory() as folder:
             tree, index = f"{folder}/tree", f"{folder}/index"
@@ -90,18 +116,36 @@ def compare(turns, command):
             archive = [sys.executable, f"{HERE}/archive.py", "--now", NOW, "--batch", str(batch)]
             into = [*archive, "--into", index]
             runs = [
-                ("iimwire audit", ["sh", "-c", f"find {tree} -type f -print0 | xargs -0 -n 1 {command} audit --now {NOW}"], None),
+                (
+                    "iimwire audit",
+                    [
+                        "sh",
+                        "-c",
+                        f"find {tree} -type f -print0 | xargs -0 -n 1 {command} audit --now {NOW}",
+                    ],
+                    None,
+                ),
                 ("rows printed", [*archive, tree], None),
                 ("index", [*into, tree], lambda: remove(index)),
                 ("again", [*into, tree], None),
-                *((f"index, --workers {count}", [*into, "--workers", str(count), tree], lambda: remove(index)) for count in WORKERS),
+                *(
+                    (
+                        f"index, --workers {count}",
+                        [*into, "--workers", str(count), tree],
+                        lambda: remove(index),
+                    )
+                    for count in WORKERS
+                ),
             ]
             least = None
             for way, words, before in runs:
                 took, used = seconds(words, turns, before)
                 least = least or used
                 a_file, an_envelope = used / files * 1e6, used / files / envelopes * 1e6
-                print(f"{files:6} {files * envelopes:9} {way:<22} {took:8.2f} {used:9.3f} {a_file:9.1f} {an_envelope:14.1f} {used / least:6.2f}", flush=True)
+                print(
+                    f"{files:6} {files * envelopes:9} {way:<22} {took:8.2f} {used:9.3f} {a_file:9.1f} {an_envelope:14.1f} {used / least:6.2f}",
+                    flush=True,
+                )
 
 
 # Passes generated rows through the process that writes. Each hundredth has the id of an earlier
@@ -141,21 +185,31 @@ def write_rows(rows):
     """Measure the process that writes on generated rows, and then the query of the repeats."""
     with tempfile.TemporaryDirectory() as folder:
         index = f"{folder}/index"
-        subprocess.run([sys.executable, "-c", WRITER, index, str(rows)], check=True, env={**os.environ, "PYTHONPATH": HERE})
+        subprocess.run(
+            [sys.executable, "-c", WRITER, index, str(rows)],
+            check=True,
+            env={**os.environ, "PYTHONPATH": HERE},
+        )
         print(f"size: {os.path.getsize(index) / 1e6:,.0f} MB")
         began = time.monotonic()
         words = [sys.executable, f"{HERE}/archive.py", "query", "--repeats", "--csv", index]
         with subprocess.Popen(words, stdout=subprocess.PIPE) as query:
             count = sum(1 for _ in query.stdout) - 1
             _, _, usage = os.wait4(query.pid, 0)
-        print(f"repeats: {count:,} in {time.monotonic() - began:.1f} seconds, memory {usage.ru_maxrss / 1000:.0f} MB")
+        print(
+            f"repeats: {count:,} in {time.monotonic() - began:.1f} seconds, memory {usage.ru_maxrss / 1000:.0f} MB"
+        )
 
 
 def index_files(files):
     """Measure the index of real files of three sizes, and a second run."""
     with tempfile.TemporaryDirectory() as folder:
         tree, index = f"{folder}/tree", f"{folder}/index"
-        sizes = [envelope(1), rules.packed(SMALL, rules.object_of(HEAD, [b""], b""), 1024), rules.packed(SMALL, rules.object_of(HEAD, [b"a line of copy"] * 1400, b""), 32_768)]
+        sizes = [
+            envelope(1),
+            rules.packed(SMALL, rules.object_of(HEAD, [b""], b""), 1024),
+            rules.packed(SMALL, rules.object_of(HEAD, [b"a line of copy"] * 1400, b""), 32_768),
+        ]
         for at in range(files):
             os.makedirs(f"{tree}/{at // 1000:04}", exist_ok=True)
             with open(f"{tree}/{at // 1000:04}/{at % 1000:03}.iim", "wb") as to:
@@ -166,7 +220,10 @@ def index_files(files):
             process = subprocess.Popen(words)
             _, status, usage = os.wait4(process.pid, 0)
             used = usage.ru_utime + usage.ru_stime
-            print(f"{way}: {time.monotonic() - began:.1f} seconds, {used / files * 1e6:.1f} us of a processor a file, {usage.ru_maxrss / 1000:.0f} MB", flush=True)
+            print(
+                f"{way}: {time.monotonic() - began:.1f} seconds, {used / files * 1e6:.1f} us of a processor a file, {usage.ru_maxrss / 1000:.0f} MB",
+                flush=True,
+            )
 
 
 def main():

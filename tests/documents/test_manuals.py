@@ -22,10 +22,10 @@ def listed_in_the_manual(section: str) -> Iterator[Tuple[str, str]]:
 
 
 def test_names_all_datasets_in_the_manual() -> None:
-    """Compare the datasets of the manual page with FORMAT.md."""
+    """Compare the datasets of the manual page with format.md."""
     rows = [
         cells[:2]
-        for _, cells in cells_of(one_of("docs/reference/format.md", "docs/FORMAT.md"))
+        for _, cells in cells_of(one_of("docs/reference/format.md"))
         if re.fullmatch(r"\d:\d+", cells[0]) and len(cells) == 6
     ]
     assert [list(item) for item in listed_in_the_manual("DATASETS")] == rows
@@ -37,7 +37,7 @@ def test_names_all_datasets_in_the_manual() -> None:
 
 
 def test_names_all_causes_in_the_manual() -> None:
-    """Compare the causes of the manual page with CAUSES.md."""
+    """Compare the causes of the manual page with causes.md."""
     known = {
         cause.number: f"{cause.name} {cause.entries['Meaning'].replace('`', '')}"
         for cause in causes.causes()
@@ -49,7 +49,7 @@ def test_names_all_causes_in_the_manual() -> None:
 
 
 def test_has_each_entry_of_each_cause() -> None:
-    """Check the entries of CAUSES.md."""
+    """Check the entries of causes.md."""
     assert causes.faults() == []
 
 
