@@ -40,6 +40,14 @@ HEAD_OF_REFUSALS = """# Refusals: cause, layer, contract, test
 that state when a cause is reported, and what shows that they can fail.
 [How to read the names](README.md#reading-an-entry). Generated from `tests/refusals.txt`.
 """
+# The lines `TOPIC | QUESTIONS | REPLIES`; without a question, what holds for all of the topic.
+QUESTIONS = "tests/questions.txt"
+
+HEAD_OF_QUESTIONS = """# The questions of `vectors`
+
+Each question with its arguments, and what the program replies. [`VECTORS.md`](../VECTORS.md)
+describes the form of arguments and replies. Generated from `tests/questions.txt`.
+"""
 # The section of promises that is a table of mutants, edits and lemmas.
 TABLE = "Mutants that a lemma rejects"
 HEAD_OF_TABLE = """These change a definition and its code in the same way, or the definition alone.
@@ -104,7 +112,24 @@ def refusals() -> Iterator[str]:
         yield f"## {heading}\n\n" + "\n".join(items) + "\n"
 
 
+def questions() -> Iterator[str]:
+    """Yield the sections of the page on the questions of `vectors`."""
+    yield HEAD_OF_QUESTIONS
+    for topic, found in itertools.groupby(records(QUESTIONS), lambda fields: fields[0]):
+        yield f"## {topic}\n"
+        for asked, each in itertools.groupby(found, lambda fields: bool(fields[1])):
+            texts = [item(f"{words}: {text}" if asked else text) for _, words, text in each]
+            yield "\n".join(
+                texts if asked else [text[2:].replace("\n  ", "\n") for text in texts]
+            ) + "\n"
+
+
 def wanted() -> Dict[str, str]:
     """Return the pages, with their texts."""
-    pages = {"definition-tests": definitions, "promises": promises, "refusals": refusals}
+    pages = {
+        "definition-tests": definitions,
+        "promises": promises,
+        "refusals": refusals,
+        "questions": questions,
+    }
     return {f"{FOLDER}/{name}.md": "\n".join(sections()) for name, sections in pages.items()}
