@@ -2,22 +2,20 @@
 from __future__ import annotations
 
 import glob
+import itertools
 import os
 import re
 from typing import Iterator, List, Set, Tuple
 
 from documents.reading import headings_of_vectors, names_of_tests, rooms_of
 from pages.items import TOP, text_of
-from pages import items
+from pages import evidence, items
 from pages.cited import imported
 from pages.clauses import ROOMS
 
 
 # A definition, as a file of definitions has it.
 DEFINITION = re.compile(r"(?:abbrev |unfoldable )?pub (?:record |data )?([^\s({:]+)")
-# The page that lists what detects a change of a definition and its code, and an item of it.
-DEFINITION_TESTS = f"{TOP}/docs/reference/definition-tests.md"
-ITEM = re.compile(r"- (`[^`]+`(?:, `[^`]+`)*): (.+)")
 # How an item begins to say that there is no such test.
 UNTESTED = "not needed: ", "not detected: "
 
@@ -30,12 +28,11 @@ def definitions(path: str) -> Iterator[Tuple[str, str]]:
 
 
 def definition_tests(path: str) -> Iterator[Tuple[List[str], str]]:
-    """Yield the items of a file on the page of tests: definitions, and what detects a change."""
+    """Yield the lines of a file in the list of tests: definitions, and what detects a change."""
     crate, name = re.findall(rf"^{TOP}/crates/(\w+)/specs/(.+)\.antt$", path)[0]
-    section = re.search(rf"^## {crate}/{name}\n\n((?:[- ].*\n)+)", text_of(DEFINITION_TESTS), re.M)
-    for item in re.sub(r"\n  ", " ", section[1] if section else "").splitlines():
-        (found,) = ITEM.finditer(item)
-        yield re.findall(r"`([^`]+)`", found[1]), found[2]
+    for file, names, finds in evidence.records(evidence.DEFINITIONS):
+        if file == f"{crate}/{name}":
+            yield names.split(", "), finds
 
 
 def holds_a_value(words: str) -> bool:
@@ -45,7 +42,7 @@ def holds_a_value(words: str) -> bool:
 
 
 def test_names_tests_of_definitions_with_a_value() -> None:
-    """Check that the page of their tests has each definition that holds a value."""
+    """Check that the list of their tests has each definition that holds a value."""
     for path in (path for crate in sorted(os.listdir(f"{TOP}/crates")) for path in rooms_of(crate)):
         known, named = list(definitions(path)), {
             name for names, _ in definition_tests(path) for name in names
@@ -111,13 +108,14 @@ def test_names_tests_of_definitions_that_are_there() -> None:
 
 
 def test_lists_each_file_of_definitions_once() -> None:
-    """Check that the page of their tests has each file of definitions once, in order."""
+    """Check that the list of their tests has each file of definitions once, in order."""
     there = [
         os.path.relpath(path, f"{TOP}/crates").replace("/specs", "")[:-5]
         for crate in sorted(os.listdir(f"{TOP}/crates"))
         for path in rooms_of(crate)
     ]
-    sections = re.findall(r"^## (.+)", text_of(DEFINITION_TESTS), re.M)
+    lines = evidence.records(evidence.DEFINITIONS)
+    sections = [file for file, _ in itertools.groupby(lines, lambda fields: fields[0])]
     assert sections == [name for name in there if name in set(sections)]
 
 
