@@ -14,7 +14,7 @@ import pytest
 # Where the package has to come from, by its directory.
 DIRECTORY = "IIM_TESTED"
 # What runs against an installed package: its other tests need what is beside it in a clone.
-NAMES = "receiver", "packing", "values", "auditing", "streams", "reading"
+NAMES = "receiver", "packing", "values", "streams", "reading"
 # What these read of the repository. The sources of the package are not among it.
 READ = "tests", "samples", "docs", "bindings/python/tests"
 READ_FILES = "conftest.py", "pyproject.toml", "bindings/conftest.py", "bindings/c/iim.h"
