@@ -11,7 +11,15 @@ from pathlib import Path
 from typing import Callable, List
 
 import pytest
-from support.bindings.harness import BUFFERS, HERE, REFUSING, SANITIZERS, STRICT, has_sanitizers
+from support.bindings.harness import (
+    BUFFERS,
+    HERE,
+    PARTS,
+    REFUSING,
+    SANITIZERS,
+    STRICT,
+    has_sanitizers,
+)
 from support.bindings.paths import BUILT
 from support.bindings.running import Name
 
@@ -47,7 +55,8 @@ def compiled(build_once: Build, library: Path) -> Callable[..., Path]:
 @pytest.fixture(scope="session")
 def plain_program(compiled: Callable[..., Path], compiler: str) -> Path:
     """Return the path of c/test.c, compiled without a sanitizer."""
-    return compiled(compiler, "test", "test.c", [str(BUILT / "libiim.a"), *REFUSING])
+    words = [*PARTS, str(BUILT / "libiim.a"), *REFUSING]
+    return compiled(compiler, "test", "test.c", words)
 
 
 @pytest.fixture(scope="session")
@@ -62,7 +71,7 @@ def sanitizing_compiler(shared_folder: Path) -> str:
 @pytest.fixture(scope="session")
 def sanitized_program(compiled: Callable[..., Path], sanitizing_compiler: str) -> Path:
     """Return the path of c/test.c, compiled with the sanitizers and with guard pages."""
-    words = ["-DGUARDED", *SANITIZERS, str(BUILT / "libiim.a"), *REFUSING]
+    words = ["-DGUARDED", *SANITIZERS, *PARTS, str(BUILT / "libiim.a"), *REFUSING]
     return compiled(sanitizing_compiler, "test_sanitized", "test.c", words)
 
 

@@ -8,14 +8,23 @@ from pathlib import Path
 from typing import Callable, List
 
 import pytest
-from support.bindings.harness import HERE, REFUSING, SIZES, STRICT, batches, octets_of_sample
+from support.bindings.harness import (
+    HERE,
+    PARTS,
+    REFUSING,
+    SIZES,
+    STRICT,
+    batches,
+    octets_of_sample,
+)
 from support.bindings.paths import BUILT, HEADER, SAMPLES
 from support.bindings.running import Name, run, run_text
 
 # The functions of the library that a planted fault of c/faults.c replaces.
 REPLACED = [f"-Wl,--wrap=iim_{name}" for name in ("feed", "audit", "pack", "field")]
-# The least share of the lines of c/test.c that its runs execute, in percent. The library is not
-# compiled from C: what is measured is which checks of the program take place.
+SOURCES: List[Name] = [HERE / "test.c", *PARTS]
+# The least share of the lines of c/test.c and its parts that its runs execute, in percent. The
+# library is not compiled from C: what is measured is which checks of the program take place.
 LEAST_LINES = 97.0
 
 
@@ -43,7 +52,7 @@ def test_is_killed_by_a_planted_fault(
     made, faulty = tmp_path / "fault.o", tmp_path / "faulty"
     plain = ["-std=c11", "-O1", "-Wall", "-Wextra", "-Werror", f"-DFAULT={fault}"]
     assert run_text([compiler, *plain, "-c", "-o", made, HERE / "faults.c"]) == (0, "", "")
-    words: List[Name] = [HERE / "test.c", made, BUILT / "libiim.a", *REFUSING, *REPLACED]
+    words: List[Name] = [*SOURCES, made, BUILT / "libiim.a", *REFUSING, *REPLACED]
     assert run_text([compiler, *STRICT, "-DGUARDED", "-o", faulty, *words]) == (0, "", "")
     # (ended by a signal, which is a negative status)
     assert run(["env", *filter(None, [end]), faulty, *buffers])[0] < 0
@@ -55,7 +64,7 @@ def test_executes_nearly_all_lines_of_the_program(
     if shutil.which("gcov") is None:
         pytest.skip("gcov is not installed")
     measured = tmp_path / "measured"
-    words: List[Name] = [HERE / "test.c", BUILT / "libiim.a", *REFUSING]
+    words: List[Name] = [*SOURCES, BUILT / "libiim.a", *REFUSING]
     ran = subprocess.run([compiler, *STRICT, "-O0", "--coverage", "-o", measured, *words])
     assert ran.returncode == 0
     sample, script = SAMPLES / "story.iim", SAMPLES / "smallest.script"
@@ -75,10 +84,13 @@ def test_executes_nearly_all_lines_of_the_program(
     ]
     for arguments, octets in runs:
         assert run([measured, *arguments], octets)[0] in (0, 1, 2), arguments
-    (notes,) = tmp_path.glob("*.gcno")
-    lines = run_text(["gcov", "--no-output", "--object-file", notes, "test.c"], cwd=tmp_path)[1]
-    (share,) = re.findall(r"File '.*/test\.c'\nLines executed:([\d.]+)% of", lines)
-    assert float(share) >= LEAST_LINES, lines
+    notes = sorted(tmp_path.glob("*.gcno"))
+    lines = run_text(["gcov", "--no-output", *notes], cwd=tmp_path)[1]
+    found = re.findall(r"File '.*/(test\w*\.c)'\nLines executed:([\d.]+)% of (\d+)", lines)
+    assert sorted(name for name, _, _ in found) == sorted(Path(str(it)).name for it in SOURCES)
+    counts = [(float(share) / 100 * int(count), int(count)) for _, share, count in found]
+    executed, all_lines = map(sum, zip(*counts))
+    assert 100 * executed / all_lines >= LEAST_LINES, lines
 
 
 def test_prints_a_headline(headline: Path, command: Path) -> None:

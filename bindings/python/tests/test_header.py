@@ -35,6 +35,11 @@ STRUCTS = {
     "iim_so_far": _library.SoFar,
     "iim_audit_row": _library.AuditRow,
 }
+# What the package does not use: its receivers are objects of Python, which keep the state.
+ONLY_IN_C = {
+    "iim_unpacker",
+    *("iim_unpacker_" + name for name in "close end feed open reset restore save".split()),
+}
 
 
 def told_by_a_compiler(lines: List[str]) -> List[str]:
@@ -57,9 +62,11 @@ def told_by_a_compiler(lines: List[str]) -> List[str]:
 
 def test_declares_the_structs_of_the_header() -> None:
     declared = re.findall(r"typedef struct (\w+) \{(.*?)\} \1;", header(), re.S)
-    assert sorted(name for name, _ in declared) == sorted(STRUCTS)
+    assert sorted(name for name, _ in declared if name not in ONLY_IN_C) == sorted(STRUCTS)
     want, lines = [], []
     for name, members in declared:
+        if name in ONLY_IN_C:
+            continue
         names = re.findall(r"(\w+)(?:\[\d+\])?;", members)
         kind = STRUCTS[name]
         assert (name, names) == (name, [each[0] for each in kind._fields_])
@@ -81,9 +88,11 @@ def test_has_functions_and_statuses_of_the_header() -> None:
         "uint32_t": ctypes.c_uint32,
     }
     got = {name: (answers, len(takes)) for name, (answers, takes) in _library.FUNCTIONS.items()}
+    assert ONLY_IN_C - {"iim_unpacker"} <= {name for _, name, _ in functions}
     assert got == {
         name: (kinds[answers], 0 if takes == "void" else takes.count(",") + 1)
         for answers, name, takes in functions
+        if name not in ONLY_IN_C
     }
     statuses = "DONE MORE REFUSED TRUNCATED NONE SHORT NO_MEMORY".split()
     statuses += ["BAD_TICKET", "BAD_PACKING", "BAD_INSTANT"]

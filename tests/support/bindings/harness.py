@@ -16,6 +16,8 @@ from support.bindings.paths import HEADER, SAMPLES, TOP
 from support.bindings.running import Name, run, text_of
 
 HERE = TOP / "bindings" / "c"
+# What is compiled together with c/test.c.
+PARTS = sorted(map(str, HERE.glob("test_*.c")))
 STRICT = ["-std=c11", "-O1", "-g", "-Wall", "-Wextra", "-Werror"]
 # Lets allocations fail, and observes how the library moves bytes.
 REFUSING = [f"-Wl,--wrap={name}" for name in ("malloc", "realloc", "free", "memmove")]

@@ -103,10 +103,14 @@ def load_library(arguments: argparse.Namespace) -> None:
         iim.cause_name(1)
 
 
+@contextlib.contextmanager
 def read_blocks(
     files: Iterable[FileRequest], arguments: argparse.Namespace, form: Form
-) -> Iterator[List[Any]]:
-    """Return the rows of the files, batch by batch, as the arguments specify."""
+) -> Iterator[Iterator[List[Any]]]:
+    """Yield the rows of the files, batch by batch, as the arguments specify.
+
+    The workers end with the context, also if an exception leaves it.
+    """
     options = {
         "limits": iim.Limits(*arguments.limits),
         "now": arguments.now,
@@ -118,14 +122,17 @@ def read_blocks(
     if arguments.scheduler is not None:
         from iim.archive.distributed import by_distributed
 
-        return map(marshal.loads, by_distributed(batches, reader, arguments.scheduler))
-    if arguments.workers is not None:
+        with contextlib.closing(by_distributed(batches, reader, arguments.scheduler)) as blocks:
+            yield map(marshal.loads, blocks)
+    elif arguments.workers is not None:
         from iim.archive.workers import by_processes
 
         count, most = arguments.workers, arguments.timeout
-        return map(marshal.loads, by_processes(batches, reader, count, most))
-    interrupt_reads()
-    return map(functools.partial(read_files, **options), batches)
+        with contextlib.closing(by_processes(batches, reader, count, most)) as blocks:
+            yield map(marshal.loads, blocks)
+    else:
+        interrupt_reads()
+        yield map(functools.partial(read_files, **options), batches)
 
 
 class Report:
@@ -180,9 +187,10 @@ def print_trees(arguments: argparse.Namespace, interrupt: Interrupt) -> int:
     try:
         with contextlib.suppress(KeyboardInterrupt):
             progress = progress_over(trees, arguments.name, interrupt)
-            for block in interrupt.each(read_blocks(files(), arguments, lines_of)):
-                report.add(block, progress)
-                LOGGER.info("%d files are read and printed", report.sums["files"])
+            with read_blocks(files(), arguments, lines_of) as blocks:
+                for block in interrupt.each(blocks):
+                    report.add(block, progress)
+                    LOGGER.info("%d files are read and printed", report.sums["files"])
             status = report.status()
     except (ReaderStopped, OutputFailed):
         raise
@@ -225,10 +233,10 @@ def write_index(arguments: argparse.Namespace, interrupt: Interrupt) -> int:
             with contextlib.suppress(KeyboardInterrupt):
                 trees = separate_trees(arguments.tree)
                 update.progress = progress = progress_over(trees, arguments.name, interrupt)
-                blocks = read_blocks(update.files(trees), arguments, kept_rows)
-                for block in interrupt.each(blocks):
-                    update.add(block)
-                    LOGGER.info("%d files are found, and their rows are stored", update.found)
+                with read_blocks(update.files(trees), arguments, kept_rows) as blocks:
+                    for block in interrupt.each(blocks):
+                        update.add(block)
+                        LOGGER.info("%d files are found, and their rows are stored", update.found)
                 stopped = False
             progress.end()
             sums = index.end(now)

@@ -116,7 +116,7 @@ class FileRequest(NamedTuple):
 
 # A function that reads a batch of files and returns a block: the files' rows, encoded by marshal.
 Reader = Callable[[List[FileRequest]], bytes]
-Blocks = Iterator[bytes]
+Blocks = Generator[bytes, None, None]
 
 # The version of marshal's encoding, which Python has from 3.4 on.
 FORM = 4
