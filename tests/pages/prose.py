@@ -70,7 +70,7 @@ def pages() -> List[str]:
     top = Path(TOP)
     folders = "", "docs", "docs/guide", "samples", "tests/fuzz"
     found = [path for folder in folders for path in (top / folder).glob("*.md")]
-    names = "README", "promises", "refusals", "causes", "format"
+    names = "README", "promises", "refusals", "questions", "causes", "format"
     found += [top / "docs" / "reference" / f"{name}.md" for name in names]
     return sorted(str(path.relative_to(top)) for path in found)
 
