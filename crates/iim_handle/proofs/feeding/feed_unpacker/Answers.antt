@@ -16,7 +16,7 @@ pub returns-in-Err : goal.returns-in-Err
 returns-in-Err c =
     let r = c.feed_text-fed in
     elim (either c.args.unpacker.now.refused) as (λ _. IsFedTo c.args.unpacker.now c.args.piece.now r.new.out r.new.unpacker (record
-        c.refusal_answer.result { written = r.result.1 })) [
+    c.refusal_answer.result { written = r.result.1 })) [
       | inl accepts ↦
           inr (inl (rejects c.dataset_laws.ensures c.args.unpacker.now r.new.unpacker c.args.piece.now r.new.out r.result.1 c.in-Err.refusal
           c.refusal_answer.result (rw c.in-Err.is at r.ensures.refused) accepts
