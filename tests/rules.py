@@ -305,7 +305,7 @@ NEXT = {0: 1, 1: 2, 2: 7, 7: 8, 8: 9}
 
 
 def row_of(record: int, dataset: int) -> Optional[Row]:
-    """Return the row of a dataset; None if there is none."""
+    """Return the row of a dataset; None if it is undefined."""
     return ROWS.get((record, dataset), OTHER if record in (1, 2) else None)
 
 
@@ -320,7 +320,7 @@ def admits(row: Row, octets: bytes) -> bool:
 class Message:
     """The message, octet by octet: `take` answers a cause where an octet is refused, else 0."""
 
-    # The parts, and the texts by the part that they stand in.
+    # The parts, and the texts of each part.
     BEFORE, SOURCE, NUMBER, SPACE, PRIORITY, CATEGORY, WORDS, INFO, GAP, TEXT, TAIL, AFTER = range(
         12
     )
@@ -358,7 +358,7 @@ class Message:
         return 0
 
     def goes_on(self, octet: int) -> bool:
-        """Takes an octet outside of the text; answers whether it may stand there."""
+        """Takes an octet outside of the text; returns whether it is valid there."""
         if self.part == self.BEFORE:
             return self.turns(octet, b"\1", self.SOURCE) or self.fills(octet)
         if self.part == self.SOURCE:

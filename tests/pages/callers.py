@@ -62,7 +62,7 @@ def said_of_file(path):
 
 
 def told(item):
-    """The lines of an item of a list: what is said of a part or a constant stands beside it where
+    """The lines of an item of a list: what is said of a part or a constant is beside it where
     there is room.
     """
     said = paragraphs(item.doc)
@@ -234,7 +234,7 @@ def by_hand():
 
 
 def from_here(text):
-    """A text of docs/CALLING.md as it stands in the folder of a crate: with links that lead to the
+    """A text of docs/CALLING.md as it is in the directory of a crate: with links that lead to the
     same.
     """
     return re.sub(
@@ -245,7 +245,7 @@ def from_here(text):
 
 
 def named_caller(crate):
-    """What the page of a library shows: the names as they are told, their file, and what else is
+    """What the page of a library shows: the names as they are shown, their file, and what else is
     said.
     """
     return CALLER.fullmatch("Caller: " + " ".join(by_hand()[crate][1].split())).groups()

@@ -28,7 +28,7 @@ HEAD = "## Calls\n\n"
 # Where public definitions stand: what octets are, where readers and writers stand, and what the
 # laws say.
 ROOMS = ("Format", "States", "Laws")
-# The longest clause without a name that stands in a list as it is.
+# The longest clause without a name that a list has as it is.
 SHORT = 60
 LIST = re.compile(rf"^{HEAD}(?:(?:- |  ).*\n)+", re.M)
 # The columns of a line.
@@ -42,7 +42,7 @@ def first_sentence(doc):
 
 
 def brought_in(path):
-    """The public definitions that a file brings in, by the words that stand for them there."""
+    """The public definitions that a file brings in, by their names there."""
     text = items.text_of(f"{TOP}/{path}")
     groups = re.findall(
         rf"^ *ghost use Rattle\.\w+\.specs\.(?:{'|'.join(ROOMS)})(?:\.[\w.]+)?\.\{{([^}}]*)\}};",
@@ -81,7 +81,7 @@ def told_clauses(item, definitions):
 
 
 def path_of(item):
-    """A function's path below its crate, as a wrong body names it."""
+    """A function's path below its crate, as a mutant names it."""
     below = item.path.split("/src/")[1].removesuffix(".rt")
     module = "" if below == "lib" else below.replace("/", "::") + "::"
     trait, _, name = item.name.rpartition("::")

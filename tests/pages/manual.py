@@ -50,8 +50,8 @@ def made(page, section, items):
     before, _, rest = page.partition(head)
     above, _, below = rest.partition(".PD 0\n")
     after = below.partition(".PD\n")[2]
-    told = "".join(f"{line}\n" for item in items for line in item)
-    return f"{before}{head}{above}.PD 0\n{told}.PD\n{after}"
+    listing = "".join(f"{line}\n" for item in items for line in item)
+    return f"{before}{head}{above}.PD 0\n{listing}.PD\n{after}"
 
 
 def wanted():

@@ -5,7 +5,7 @@ from pages.items import TOP, text_of
 
 
 def cut(lines, name):
-    """The lines of a function or a constant, with what stands above it, at the margin."""
+    """The lines of a function or a constant, with what is above it, at the margin."""
     (at,) = [
         at
         for at, line in enumerate(lines)

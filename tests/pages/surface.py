@@ -54,7 +54,7 @@ def key_of(row):
 def rows_of(crate):
     """Yield the public items of a crate.
 
-    A block without a trait is none, since its functions are.
+    A block without a trait is excluded, since its functions are.
     """
     for item in items.items(crate):
         if item.kind in KINDS and (item.kind != "impl" or " for " in item.code):
@@ -76,7 +76,7 @@ def listed():
 
 
 def text(crates):
-    """Return the list as it has to be.
+    """Return the list as it must be.
 
     An item keeps the origin that its name has in the list, and a trait of a type that of its code.
     """

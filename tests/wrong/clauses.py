@@ -1,4 +1,4 @@
-"""The clauses of a contract: a copy of a function has to show the one alone that its wrong body is
+"""The clauses of a contract: a copy of a function has to show the one alone that its mutant is
 held to.
 """
 import re
@@ -22,7 +22,7 @@ def spans(contract):
 
 
 def is_kept(clause, name):
-    """Whether a copy of a function keeps the clause of this name, where its wrong body is held to
+    """Whether a copy of a function keeps the clause of this name, where its mutant is held to
     that one. All stay where it is held to one without a name, or to what the prover names
     otherwise, and none where it is held to a call, a loop or its type's invariant.
     """

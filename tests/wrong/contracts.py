@@ -1,4 +1,4 @@
-"""The clauses that the function of a wrong body has: a body that is held to another one would be in
+"""The clauses that the function of a mutant has: a body that is held to another one would be in
 a copy without any, which any body meets.
 """
 import functools
@@ -19,7 +19,7 @@ def without_parameters(words):
 
 
 def owner_at(text, at):
-    """Return in whose impl or trait a function is, as the paths of wrong bodies name it: a type,
+    """Return in whose impl or trait a function is, as the paths of mutants name it: a type,
     and the trait after it if there is one.
     """
     if not text[:at].endswith("    "):
@@ -68,7 +68,7 @@ def declared(name):
 
 
 def contracts_of(body):
-    """Return the contracts of a wrong body's function: its own; those of the traits' methods of
+    """Return the contracts of a mutant's function: its own; those of the traits' methods of
     that name if its own promises nothing.
     """
     *above, name = body.function.split("::")
@@ -84,7 +84,7 @@ def contracts_of(body):
 
 
 def lacks(body):
-    """Check whether the clause that a wrong body is held to has a name that no contract of its
+    """Check whether the clause that a mutant is held to has a name that no contract of its
     function has.
     """
     named = NAMED.fullmatch(body.clause)
@@ -94,7 +94,7 @@ def lacks(body):
 
 
 def check(bodies):
-    """Raise `sources.Unread` for wrong bodies whose clause their function does not have."""
+    """Raise `sources.Unread` for mutants whose clause their function does not have."""
     if lost := [
         f"{body.file}: {body.name}: {body.function} has no clause `{body.clause}`"
         for body in bodies

@@ -1,4 +1,4 @@
-"""Judges wrong bodies and the right ones in their copies: rounds of many side by side, and again
+"""Judges mutants and the right ones in their copies: rounds of many side by side, and again
 alone what does not plainly pass in one.
 """
 import math
@@ -9,16 +9,16 @@ from concurrent.futures import FIRST_COMPLETED, ThreadPoolExecutor, wait
 
 from wrong import prover, rounds, sources, store, verdicts
 
-# A round of so many wrong bodies is never parted: what each round takes besides them would be more
+# A round of so many mutants is never parted: what each round takes besides them would be more
 # than theirs.
 LEAST = 16
-# No more wrong bodies than these stand in one check, but those of one round: it holds all of them
+# No more mutants than these stand in one check, but those of one round: it holds all of them
 # in memory.
 TOGETHER = 80
 
 
 class Crate:
-    """A crate's wrong bodies while they are judged: what each came to, and what that took."""
+    """A crate's mutants while they are judged: what each came to, and what that took."""
 
     def __init__(self, name, bodies, anew, most):
         self.name, self.bodies = name, bodies
@@ -41,7 +41,7 @@ class Crate:
         )
 
     def sums(self):
-        """A line that tells how its wrong bodies were judged, and what it took."""
+        """A line that tells how its mutants were judged, and what it took."""
         kept = f" ({self.kept} of them in an earlier run)" if self.kept else ""
         told = "; ".join(
             self.sums_of(word, of_right) for word, of_right in (("wrong", False), ("right", True))
@@ -50,7 +50,7 @@ class Crate:
         return f"{self.name}: {told}{kept}; {cost}"
 
     def sums_of(self, word, of_right):
-        """How many of its wrong bodies, or of its right ones, came to each verdict."""
+        """How many of its mutants, or of its right ones, came to each verdict."""
         names = [body.name for body in self.bodies if body.is_right == of_right]
         counts = Counter(self.verdicts[name][0] for name in names)
         return f"{len(names)} {word} bodies" + "".join(
@@ -81,7 +81,7 @@ def log(these, text):
 
 
 def judged(these, text):
-    """Of each of the wrong bodies of a round what it comes to by what the prover said."""
+    """Of each of the mutants of a round what it comes to by what the prover said."""
     found = verdicts.hear(text)
     return [
         (body, verdicts.judge(body, these.functions[body.name], found)) for body in these.bodies
@@ -200,7 +200,7 @@ class Judging:
                 self.again(crate, [rounds.alone(body)])
 
     def decide(self, crate, body, verdict):
-        """Notes what a wrong body comes to, and tells it unless it plainly passes."""
+        """Notes what a mutant comes to, and tells it unless it plainly passes."""
         crate.verdicts[body.name] = verdict
         if verdict[0] in verdicts.passing(body) and not sources.CHANGED:
             store.keep(body, verdict)

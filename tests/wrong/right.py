@@ -1,4 +1,4 @@
-"""The copies of functions with their right bodies: each must be proved, or a wrong body in its
+"""The copies of functions with their right bodies: each must be proved, or a mutant in its
 place would be rejected for nothing.
 """
 from dataclasses import replace

@@ -1,8 +1,8 @@
-"""Which wrong bodies stand together in one check: as many as can be, each in a copy of its function
+"""Which mutants stand together in one check: as many as can be, each in a copy of its function
 under another name.
 
 A copy has a copy of its function's proof. The function itself stays right, and so nothing that
-calls it is proved again. A method of a trait's impl can't be copied: such a wrong body stands in
+calls it is proved again. A method of a trait's impl can't be copied: such a mutant stands in
 the function itself.
 """
 import math
@@ -13,12 +13,12 @@ from wrong import clauses, code, sources
 
 
 def called(body):
-    """The names that a wrong body calls."""
+    """The names that a mutant calls."""
     return {name for _, _, new in body.pairs for name in re.findall(r"\b(\w+)\(", new)}
 
 
 def called_before(body):
-    """The names that are called where a wrong body changes something."""
+    """The names that are called where a mutant changes something."""
     return {name for _, old, _ in body.pairs for name in re.findall(r"\b(\w+)\(", old)}
 
 
@@ -36,7 +36,7 @@ def shows_one(body, text):
 
 
 def copied(body, text, at, named):
-    """A function under another name with the wrong body in it, and of its contract the clause alone
+    """A function under another name with the mutant in it, and of its contract the clause alone
     that the body is held to; None where it can't be so.
     """
     _, name, before = at
@@ -74,7 +74,7 @@ def copied_proof(body, text, named):
 
 
 class Round:
-    """Wrong bodies that stand together, the functions that are asked for them, and the texts of the
+    """Mutants that stand together, the functions that are asked for them, and the texts of the
     files that they change.
     """
 
@@ -83,7 +83,7 @@ class Round:
         self.texts = {path: text for (name, path), text in sources.CHANGED.items() if name == crate}
 
     def add(self, body, places):
-        """Adds a wrong body that changes these functions, in a copy or in its function itself, and
+        """Adds a mutant that changes these functions, in a copy or in its function itself, and
         returns whether it fits. A right one goes into a copy alone: the function itself is proved
         already.
         """
@@ -94,7 +94,7 @@ class Round:
         )
 
     def add_itself(self, body, places):
-        """Adds a wrong body in its function itself, where none of the functions that it changes is
+        """Adds a mutant in its function itself, where none of the functions that it changes is
         taken.
         """
         texts = sources.applied(self.texts, body)
@@ -104,7 +104,7 @@ class Round:
         return True
 
     def leads_back(self, body):
-        """Whether a wrong body calls what another of the round has changed to call its function:
+        """Whether a mutant calls what another of the round has changed to call its function:
         calls in a cycle are no crate.
         """
         found, more = set(), called(body)
@@ -119,7 +119,7 @@ class Round:
         return last(body.function) in found - called_before(body)
 
     def add_copy(self, body, places):
-        """Adds a wrong body in a copy of its function, which stays right: so all that calls it
+        """Adds a mutant in a copy of its function, which stays right: so all that calls it
         stays as it is proved.
         """
         (at,) = places if len(places) == 1 else (None,)
@@ -143,7 +143,7 @@ class Round:
         return True
 
     def note(self, body, function, texts, places):
-        """Notes a wrong body that is in, the function that is asked for it, and those that it
+        """Notes a mutant that is in, the function that is asked for it, and those that it
         changes.
         """
         self.bodies.append(body)
@@ -165,7 +165,7 @@ class Round:
 
 
 def alone(body):
-    """A round of one wrong body, in its function itself, with all of its contract; in a copy where
+    """A round of one mutant, in its function itself, with all of its contract; in a copy where
     it calls that, or is right.
     """
     found = Round(body.crate)
@@ -177,7 +177,7 @@ def alone(body):
 
 
 def plan(crate, bodies, most=1000):
-    """The rounds of a crate, about equal and each of so many wrong bodies at the most, the largest
+    """The rounds of a crate, about equal and each of so many mutants at the most, the largest
     first. What changes more than the bodies of functions stands alone: proofs of others see it.
     """
     found, apart = [], []

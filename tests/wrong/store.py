@@ -1,4 +1,4 @@
-"""What wrong bodies came to in earlier runs on this machine, by the sums of all that a verdict
+"""What mutants came to in earlier runs on this machine, by the sums of all that a verdict
 stands on.
 """
 import functools
@@ -50,7 +50,7 @@ def sum_of_crate(crate):
 
 
 def place(body):
-    """The file of a wrong body's verdict."""
+    """The file of a mutant's verdict."""
     stands_on = json.dumps(
         [
             sum_of_judges(),
@@ -65,7 +65,7 @@ def place(body):
 
 
 def known(body):
-    """What a wrong body came to, and what was named, or None where no run judged it so."""
+    """What a mutant came to, and what was named, or None where no run judged it so."""
     try:
         with open(place(body), encoding="utf-8") as file:
             verdict, named = json.load(file)
@@ -75,7 +75,7 @@ def known(body):
 
 
 def keep(body, verdict):
-    """Keeps what a wrong body came to. Where it can't, the next run judges it again."""
+    """Keeps what a mutant came to. Where it can't, the next run judges it again."""
     try:
         os.makedirs(PLACE, exist_ok=True)
         with open(f"{place(body)}.{os.getpid()}", "w", encoding="utf-8") as file:

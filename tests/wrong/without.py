@@ -1,4 +1,4 @@
-"""Takes away what the clause says that a wrong body is held to: the runner has to name that one as
+"""Takes away what the clause says that a mutant is held to: the runner has to name that one as
 accepted then.
 """
 import re
@@ -7,7 +7,7 @@ from wrong import clauses, code, sources, verdicts
 
 
 def contract_of(body):
-    """The file in which a wrong body's function stands, its text, and where its contract begins and
+    """The file in which a mutant's function stands, its text, and where its contract begins and
     ends.
     """
     texts = {path: sources.text_in(body.crate, path) for path in sources.original(body)}
@@ -40,8 +40,8 @@ def without_answers(text, clause):
 
 
 def take_away(crate, name):
-    """Takes away what the clause says that the wrong body of this name is held to, and the answers
-    for its goals. Returns the wrong bodies of its function.
+    """Takes away what the clause says that the mutant of this name is held to, and the answers
+    for its goals. Returns the mutants of its function.
     """
     bodies = sources.bodies(crate)
     body = next(body for body in bodies if name in (body.name, body.word))
