@@ -67,7 +67,7 @@ def is_const(text: str, at: int) -> bool:
 
 
 def is_free(text: str, at: int) -> bool:
-    """Whether the function whose name begins after this `fn` stands in no other item."""
+    """Whether the function whose name begins after this `fn` is in no other item."""
     return not text[text.rfind("\n", 0, at) + 1 : at].startswith(" ")
 
 
@@ -109,7 +109,7 @@ def place(path: str, text: str, old: str, new: str) -> Optional[Place]:
 
 
 def span(text: str, name: str, number: int) -> Tuple[int, int]:
-    """Where a function stands with its attributes, of those of its name the one after so many."""
+    """Where a function stands with its attributes, of those of its name the one after this number."""
     _, start, _, end = [each for each in functions(text) if each[0] == name][number]
     lines = text[:start].split("\n")
     first = len(lines) - 1
@@ -119,7 +119,7 @@ def span(text: str, name: str, number: int) -> Tuple[int, int]:
 
 
 def of_trait(text: str, at: int) -> bool:
-    """Whether what stands there is a method of a trait, or of a trait's impl: a trait says which
+    """Whether it is a method of a trait, or of a trait's impl: a trait says which
     methods there are.
     """
     heads = re.findall(r"^(?:pub(?:\(crate\))? )?(?:unsafe )?(?:impl|trait)\b.*", text[:at], re.M)
@@ -148,7 +148,7 @@ def own_place(texts: Dict[str, str], body: Body) -> Optional[Place]:
 
 
 def is_of(text: str, at: int, owner: str) -> bool:
-    """Whether what stands there is of a type's own impl."""
+    """Whether it is of a type's own impl."""
     heads = re.findall(r"^(?:unsafe )?impl\b.*", text[:at], re.M)
     return (
         not is_free(text, at)

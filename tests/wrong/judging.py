@@ -9,10 +9,10 @@ from concurrent.futures import FIRST_COMPLETED, ThreadPoolExecutor, wait
 
 from wrong import prover, rounds, sources, store, verdicts
 
-# A round of so many mutants is never parted: what each round takes besides them would be more
+# A round of this number of mutants is never parted: what each round takes besides them would be more
 # than theirs.
 LEAST = 16
-# No more mutants than these stand in one check, but those of one round: it holds all of them
+# No more mutants than these are in one check, but those of one round: it holds all of them
 # in memory.
 TOGETHER = 80
 
@@ -22,8 +22,8 @@ class Crate:
 
     def __init__(self, name, bodies, anew, most):
         self.name, self.bodies = name, bodies
-        told = {} if anew else {body.name: store.known(body) for body in bodies}
-        self.verdicts = {name: verdict for name, verdict in told.items() if verdict}
+        earlier = {} if anew else {body.name: store.known(body) for body in bodies}
+        self.verdicts = {name: verdict for name, verdict in earlier.items() if verdict}
         self.kept = len(self.verdicts)
         self.planned = rounds.plan(
             name, [body for body in bodies if body.name not in self.verdicts], most
@@ -41,13 +41,13 @@ class Crate:
         )
 
     def sums(self):
-        """A line that tells how its mutants were judged, and what it took."""
+        """A line that states how its mutants were judged, and what it took."""
         kept = f" ({self.kept} of them in an earlier run)" if self.kept else ""
-        told = "; ".join(
+        sums = "; ".join(
             self.sums_of(word, of_right) for word, of_right in (("wrong", False), ("right", True))
         )
         cost = f"{self.checks} checks, {self.seconds:.0f} seconds of a processor"
-        return f"{self.name}: {told}{kept}; {cost}"
+        return f"{self.name}: {sums}{kept}; {cost}"
 
     def sums_of(self, word, of_right):
         """How many of its mutants, or of its right ones, came to each verdict."""
@@ -60,7 +60,7 @@ class Crate:
 
 
 def first_error(text):
-    """The first line that tells why a check came to nothing."""
+    """The first line that states why a check came to nothing."""
     lines = (
         [line for line in text.splitlines() if "error" in line]
         or text.splitlines()[-1:]
@@ -200,7 +200,7 @@ class Judging:
                 self.again(crate, [rounds.alone(body)])
 
     def decide(self, crate, body, verdict):
-        """Notes what a mutant comes to, and tells it unless it plainly passes."""
+        """Notes what a mutant comes to, and prints it unless it plainly passes."""
         crate.verdicts[body.name] = verdict
         if verdict[0] in verdicts.passing(body) and not sources.CHANGED:
             store.keep(body, verdict)

@@ -17,7 +17,7 @@ ENDED = re.compile(r"^only=\d+ (proved|holes)=\d+$", re.M)
 
 
 class Missing(Exception):
-    """What a check stands on and isn't there."""
+    """What a check depends on and isn't there."""
 
 
 @dataclass
@@ -38,7 +38,7 @@ def kit():
 
 
 def below(crates):
-    """The libraries that crates stand on, and the folders in which they are: those of the
+    """The libraries that crates depend on, and the folders in which they are: those of the
     repository as `rt ci` has proved them.
     """
     at, listed, found = kit(), sources.order_of_crates(), {"std": None}
@@ -56,7 +56,7 @@ def below(crates):
 
 
 def words_of(crates):
-    """The words of a check over the libraries that crates stand on, without what stands in it and
+    """The words of a check over the libraries that crates depend on, without what is in it and
     is asked for.
     """
     at, listed = kit(), sources.order_of_crates()
@@ -137,7 +137,7 @@ def said_of(text, room, name):
 def check(rounds):
     """What the prover says of the functions of each of some rounds, and all that it says.
 
-    They stand in one check, each as a library of a name of its own: what a check reads first, it
+    They are in one check, each as a library of a separate name: what a check reads first, it
     reads once for all of them. None of any where the check came to nothing.
     """
     with tempfile.TemporaryDirectory(prefix="wrong-bodies-") as room:

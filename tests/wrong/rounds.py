@@ -177,7 +177,7 @@ def alone(body):
 
 
 def plan(crate, bodies, most=1000):
-    """The rounds of a crate, about equal and each of so many mutants at the most, the largest
+    """The rounds of a crate, about equal and each of N mutants at the most, the largest
     first. What changes more than the bodies of functions stands alone: proofs of others see it.
     """
     found, apart = [], []
