@@ -11,8 +11,8 @@ import itertools
 import os
 import re
 import textwrap
-
 from typing import Collection, Dict, Iterator, List, Sequence, Set
+
 from pages import callers, items
 from pages.items import TOP
 from wrong import sources as wrong_bodies

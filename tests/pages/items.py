@@ -62,7 +62,7 @@ def record_of_laws(crate: str) -> Tuple[Optional[str], str]:
     its name, and its lines. None and none where there is no such record.
     """
     path = f"{TOP}/crates/{crate}/specs/Laws.antt"
-    found = (
+    found: List[Tuple[str, str]] = (
         re.findall(r"^pub record (\w+Laws) : Type 0 where\n((?:  .*\n)+)", text_of(path), re.M)
         if os.path.isfile(path)
         else []

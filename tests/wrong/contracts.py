@@ -93,7 +93,7 @@ def lacks(body: sources.Body) -> bool:
     function has.
     """
     named = NAMED.fullmatch(body.clause)
-    return bool(named) and named[1] not in {
+    return named is not None and named[1] not in {
         name for contract in contracts_of(body) for name, *_ in clauses.spans(contract)
     }
 
