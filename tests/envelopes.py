@@ -53,7 +53,7 @@ STORY = rules.packed(STORY_FIELDS, STORY_OBJECT, 1024)
 
 
 def counted(each: Field, size: int) -> bytes:
-    """A dataset with a count of so many octets behind its tag, or in it where that is 0."""
+    """A dataset with a count of this number of octets behind its tag, or in it if that is 0."""
     record, dataset, data = each
     if size == 0:
         return dataset_of(record, dataset, data)
@@ -125,7 +125,7 @@ SETS = {
 
 
 def some(random: Random, octets: Collection[int], least: int, most: int) -> bytes:
-    """So many of the octets: often the fewest, and now and then the most."""
+    """A number of the octets: often the fewest, and now and then the most."""
     few = min(most, least + 12)
     many = most if most <= 64 or random.random() < 0.05 else few
     size = random.choice([least, random.randint(least, few), random.randint(least, few), many])
@@ -251,7 +251,7 @@ def story(random: Random) -> bytes:
 
 FILLERS = [b"\n" * 32, b"\n" * 33, b"\r" * 32, b"\0\x15"]
 MARKS = [b"", b"\0", b"  "]
-# What is put in the place of each part: some of it may stand there.
+# What is put in the place of each part: some of it may be valid there.
 OTHERS = [
     FILLERS,
     [b"", b"\1\1"],
@@ -360,7 +360,7 @@ def spoiled(random: Random, made: Sequence[Field]) -> List[Field]:
     made, at = list(made), random.randrange(len(made))
     sizes = [place for place, each in enumerate(made) if each[0] in (7, 9)]
     if sizes and random.random() < 0.4:
-        # (records 7 and 9 have rules of their own)
+        # (records 7 and 9 have separate rules)
         at = random.choice(sizes)
     record, dataset, data = made[at]
     how = random.randrange(6)

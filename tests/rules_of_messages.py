@@ -10,7 +10,7 @@ from rules_of_values import DIGITS, FILLER, LETTERS, SPACED, TRAILER
 class Message:
     """The message, octet by octet: `take` answers a cause where an octet is refused, else 0."""
 
-    # The parts, and the texts by the part that they stand in.
+    # The parts, and the texts of each part.
     BEFORE, SOURCE, NUMBER, SPACE, PRIORITY, CATEGORY, WORDS, INFO, GAP, TEXT, TAIL, AFTER = range(
         12
     )
@@ -48,7 +48,7 @@ class Message:
         return 0
 
     def goes_on(self, octet: int) -> bool:
-        """Takes an octet outside of the text; answers whether it may stand there."""
+        """Consume an octet outside of the text; return whether it is valid there."""
         if self.part == self.BEFORE:
             return self.turns(octet, b"\1", self.SOURCE) or self.fills(octet)
         if self.part == self.SOURCE:

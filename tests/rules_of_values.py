@@ -287,7 +287,7 @@ NEXT = {0: 1, 1: 2, 2: 7, 7: 8, 8: 9}
 
 
 def row_of(record: int, dataset: int) -> Optional[Row]:
-    """Return the row of a dataset; None if there is none."""
+    """Return the row of a dataset; None if it is undefined."""
     return ROWS.get((record, dataset), OTHER if record in (1, 2) else None)
 
 

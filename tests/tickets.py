@@ -53,7 +53,7 @@ def place(envelope: Envelope) -> Place:
 
 
 def ticket(envelope: Envelope, version: int = 2) -> Optional[bytes]:
-    """The ticket of the place, or None where it is none of this version."""
+    """The ticket of the place, or None if it is not of this version."""
     found = place(envelope)
     if version == 1 and not is_place(found, EARLIER_GREATEST, EARLIER_OCTETS):
         return None
@@ -118,7 +118,7 @@ class Cutter:
 
 
 def place_of(octets: bytes) -> Tuple[int, Place]:
-    """The version and the place that a ticket tells, whether or not there is such a place."""
+    """The version and the place that a ticket encodes, whether or not there is such a place."""
     if len(octets) < 5 or octets[:4] != b"IIMT":
         raise Unreadable("100 TicketForm")
     version = octets[4]
@@ -253,7 +253,7 @@ def are_numbers(place: Place, greatest: int, wide: int) -> bool:
 
 
 def is_object(place: Place, greatest: int, wide: int) -> bool:
-    """Whether the subfiles may hold so many octets."""
+    """Whether the subfiles may hold this number of octets."""
     numbers = place.numbers
     bound = min(greatest, numbers.get(90, greatest), numbers.get(95, greatest))
     whole, ended, least = place.total, place.subfiles, 0
@@ -281,7 +281,7 @@ def is_message(place: Place) -> bool:
     texts, part, counter, flag = place.texts, place.part, place.counter, place.flag
     if part > Message.AFTER:
         return False
-    # (each text with its octets, its most and the part that it stands in)
+    # (each text with its octets, its most and its part)
     forms = [
         (texts[0], LETTERS, 8, Message.SOURCE),
         (texts[1], DIGITS, 8, Message.NUMBER),

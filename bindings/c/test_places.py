@@ -53,22 +53,22 @@ def place_of(front: bytes, whole: bytes) -> Tuple[List[int], bytes]:
     Returns:
         The numbers that the C program prints, and the bytes of it that a ticket stores.
     """
-    at, section, told = 0, 0, b""
+    at, section, printed = 0, 0, b""
     while len(rest := front[at:]) >= 5 and len(rest) >= 5 + int.from_bytes(rest[3:5], "big"):
         section, count = rest[1], int.from_bytes(rest[3:5], "big")
-        told += rest[5 : 5 + count] if section == 8 else b""
+        printed += rest[5 : 5 + count] if section == 8 else b""
         at += 5 + count
     if len(rest) < 5:
         kind = 3 if front == whole else 1 if rest else 0
-        numbers = [*(rest + bytes(3))[1:3], *part_of(told), 0, len(rest), 0, at, at]
+        numbers = [*(rest + bytes(3))[1:3], *part_of(printed), 0, len(rest), 0, at, at]
         return [kind, section, *numbers], rest
     section, number = rest[1], rest[2]
     count, taken = int.from_bytes(rest[3:5], "big"), rest[5:]
-    told += taken if section == 8 else b""
+    printed += taken if section == 8 else b""
     token = len(front) if section == 8 else at + 5
     of_data = [count, len(taken), count - len(taken), at + 5, token]
     kept = b"" if section == 8 else taken
-    return [2, section, section, number, *part_of(told), *of_data], kept
+    return [2, section, section, number, *part_of(printed), *of_data], kept
 
 
 def set_of(octets: Iterable[int]) -> str:
@@ -145,8 +145,8 @@ def expect_audit(
 ) -> None:
     """Check the rows of a file, for some sizes of chunks and a capacity, against these."""
     words = *map(str, (*sizes, capacity, NOON)), path
-    told = by_each_size((int("at" in want), want.encode(), b""), *sizes)
-    assert run([program, "audit", *words]) == told
+    printed = by_each_size((int("at" in want), want.encode(), b""), *sizes)
+    assert run([program, "audit", *words]) == printed
 
 
 @pytest.mark.parametrize("name", ROWS)

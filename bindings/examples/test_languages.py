@@ -46,8 +46,8 @@ def run(words: Sequence[Name], folder: str, **more: str) -> "subprocess.Complete
 def make(words: Sequence[Name], folder: str, **more: str) -> None:
     """Run a compiler, which must succeed."""
     ran = run(words, folder, **more)
-    told = (ran.stdout + ran.stderr).decode(errors="replace")
-    assert ran.returncode == 0, f"{words}\n{told}"
+    printed = (ran.stdout + ran.stderr).decode(errors="replace")
+    assert ran.returncode == 0, f"{words}\n{printed}"
 
 
 def need(*commands: str) -> None:

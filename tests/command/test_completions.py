@@ -61,9 +61,9 @@ def test_zsh_completes_what_help_lists(run: Command) -> None:
         # (the options of a command are in its arm; a colon is written with a backslash)
         arm = text.partition(f"        {name})\n")[2].partition(";;")[0]
         rows = re.findall(r"'(--[a-z-]+)(=?)\[((?:\\.|[^\]])*)\]", arm)
-        options = {option: (equals, told.replace("\\", "")) for option, equals, told in rows}
+        options = {option: (equals, printed.replace("\\", "")) for option, equals, printed in rows}
         listed = options_of(run, name).items()
-        want = {option: ("=" if value else "", told) for option, (value, told) in listed}
+        want = {option: ("=" if value else "", printed) for option, (value, printed) in listed}
         assert options == {option: it for option, it in want.items() if option != "--help"}, name
 
 

@@ -48,9 +48,9 @@ def test_accepts_a_file_name_like_an_option(run: Command, tmp_path: Path) -> Non
 def test_accepts_any_file_name(run: Command, tmp_path: Path, name: str) -> None:
     write(tmp_path / name, STORY)
     file = ["--", name] if name.startswith("--") else [name]
-    told = STORY_ACCEPTED
-    assert run(["check", *file], SMALLEST, cwd=tmp_path) == (0, told, b"")
-    assert run(["story", *file], SMALLEST, cwd=tmp_path) == (0, TEXT, told)
+    reported = STORY_ACCEPTED
+    assert run(["check", *file], SMALLEST, cwd=tmp_path) == (0, reported, b"")
+    assert run(["story", *file], SMALLEST, cwd=tmp_path) == (0, TEXT, reported)
     shown = run(["show", *file], SMALLEST, cwd=tmp_path).output
     assert shown.splitlines()[5] == b"1:40 00000002"
     report = run(["audit", *NOON, *file], SMALLEST, cwd=tmp_path).output

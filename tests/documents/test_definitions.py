@@ -57,8 +57,8 @@ def test_names_tests_of_definitions_with_a_value() -> None:
 def laws_and_tests() -> Set[str]:
     """Return the names of lemmas, of the tests of crates, and of the tests in Python."""
     code = "\n".join(map(text_of, glob.glob(f"{TOP}/crates/*/src/**/*.rt", recursive=True)))
-    told = "\n".join(map(text_of, glob.glob(f"{TOP}/crates/*_tests/stdout")))
-    found = re.findall(r"^pub fn (\w+)\(\)$", code, re.M) + re.findall(r"^(\w+): ", told, re.M)
+    printed = "\n".join(map(text_of, glob.glob(f"{TOP}/crates/*_tests/stdout")))
+    found = re.findall(r"^pub fn (\w+)\(\)$", code, re.M) + re.findall(r"^(\w+): ", printed, re.M)
     for crate in os.listdir(f"{TOP}/crates"):
         found += [name for name, _, _ in items.laws_of(crate)[1]]
     return {*found, *names_of_tests()}

@@ -44,10 +44,10 @@ def test_defines_all_that_the_headline_cites_in_order() -> None:
     assert sorted({file for file, _ in headline if file.split("/")[1] != "Format"}) == []
     pages = definition_pages.PAGE, definition_pages.PAGE_BELOW
     counts = lines_told(headline), f"the headline they are {cited.lines_of(all_of_them):,} lines."
-    for path, told in zip(pages, counts):
-        assert (path, told, told in " ".join(text_of(f"{TOP}/{path}").split())) == (
+    for path, printed in zip(pages, counts):
+        assert (path, printed, printed in " ".join(text_of(f"{TOP}/{path}").split())) == (
             path,
-            told,
+            printed,
             True,
         )
     assert (

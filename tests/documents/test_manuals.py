@@ -42,9 +42,9 @@ def test_names_all_causes_in_the_manual() -> None:
         cause.number: f"{cause.name} {cause.entries['Meaning'].replace('`', '')}"
         for cause in causes.causes()
     }
-    assert [(int(number), told) for number, told in listed_in_the_manual("CAUSES")] == sorted(
-        known.items()
-    )
+    assert [
+        (int(number), reported) for number, reported in listed_in_the_manual("CAUSES")
+    ] == sorted(known.items())
     assert (len(known) >= 40, known[14][:7]) == (True, "Missing")
 
 

@@ -4,10 +4,13 @@ A page has what the root of the crate says of it, what docs/CALLING.md says for 
 caller that is named there, cut out of its source, and then all that a caller can name, with its doc
 comments, a part for each file.
 """
+from __future__ import annotations
+
 import functools
 import os
 import re
 import textwrap
+from typing import Dict, Iterator, List, Sequence, Tuple
 
 from pages import items, shown
 from pages.items import TOP
@@ -28,7 +31,7 @@ LAWS = "The clause of `{}` is a record: each lemma is a field of it."
 CALLER = re.compile(r"Caller: ((?:`\w+`(?:, | and )?)+) of `(crates/[\w/.]+\.rt)`(.*)")
 
 
-def wrapped(text, first="", rest=""):
+def wrapped(text: str, first: str = "", rest: str = "") -> List[str]:
     """A text in lines of the page's width."""
     return textwrap.wrap(
         text,
@@ -40,14 +43,14 @@ def wrapped(text, first="", rest=""):
     )
 
 
-def without_links(text):
+def without_links(text: str) -> str:
     """A doc comment's text with the names of code in the place of links to code."""
     return re.sub(
         r"\[(`[^`\]]+`)\](?:\([\w:]+\))?", lambda link: link[1].replace("crate::", ""), text
     )
 
 
-def paragraphs(doc):
+def paragraphs(doc: Sequence[str]) -> List[str]:
     """The paragraphs of a doc comment."""
     return [
         without_links(" ".join(part.split("\n")))
@@ -56,13 +59,13 @@ def paragraphs(doc):
     ]
 
 
-def said_of_file(path):
+def said_of_file(path: str) -> List[str]:
     """What the comment at the top of a file says, as lines."""
     return [line[3:].strip() for line in items.text_of(path).split("\n") if line.startswith("//!")]
 
 
-def told(item):
-    """The lines of an item of a list: what is said of a part or a constant stands beside it where
+def told(item: items.Item) -> Iterator[str]:
+    """The lines of an item of a list: what is said of a part or a constant is beside it where
     there is room.
     """
     said = paragraphs(item.doc)
@@ -78,17 +81,21 @@ def told(item):
         yield from wrapped(f"`{name}`: {words}", "  - ", "    ")
 
 
-def trait_of(code):
+def trait_of(code: str) -> str:
     """A trait that a type has, by the first line of its block: its name, and what it needs."""
-    needs, name = re.match(r"impl(?:<(.*?)>)? (.*) for ", code).groups()
+    head = re.match(r"impl(?:<(.*?)>)? (.*) for ", code)
+    assert head is not None, code
+    needs, name = head.groups()
     return f"`{name}`{f' (`{needs}`)' if needs and ':' in needs else ''}"
 
 
-def traits_of(found):
+def traits_of(found: Sequence[items.Item]) -> Iterator[str]:
     """The lines on the traits that a type has, and on what its calls need."""
     needs = list(
         dict.fromkeys(
-            re.match(r"impl<(.*?)> ", item.code)[1] for item in found if " for " not in item.code
+            re.sub(r"^impl<(.*?)> (?s:.*)", r"\1", item.code)
+            for item in found
+            if " for " not in item.code
         )
     )
     traits = [trait_of(item.code) for item in found if " for " in item.code]
@@ -101,7 +108,7 @@ def traits_of(found):
         yield from ["", *wrapped(f"It implements {', '.join(traits)}.")]
 
 
-def part_of_type(found):
+def part_of_type(found: Sequence[items.Item]) -> Iterator[str]:
     """The lines on a type or a trait, with its parts, its calls and its traits."""
     (head,) = [item for item in found if item.kind in items.BLOCKS]
     yield from ["", f"### `{head.code}`"]
@@ -120,7 +127,7 @@ def part_of_type(found):
         yield from told(item)
 
 
-def part_of_file(path, found, modules):
+def part_of_file(path: str, found: Sequence[items.Item], modules: set[str]) -> Iterator[str]:
     """The lines on what a file has: its types and traits, its functions, and its constants."""
     said = paragraphs(said_of_file(f"{TOP}/{path}"))
     title = re.split(r"\.(?: |$)", said[0])[0] if said else ""
@@ -141,28 +148,28 @@ def part_of_file(path, found, modules):
             yield from told(item)
 
 
-def is_laws(path):
+def is_laws(path: str) -> bool:
     """Whether a file has laws."""
     return path.removesuffix(".rt").endswith("laws")
 
 
-def files_of(crate):
+def files_of(crate: str) -> Iterator[Tuple[str, List[items.Item]]]:
     """What a caller can name, file by file: first what the front of the page names, in its order,
     and the laws last. What is of a type stands where the type does.
     """
     front = " ".join(
         [
             *paragraphs(said_of_file(f"{TOP}/crates/{crate}/src/lib.rt")),
-            by_hand().get(crate, ("",))[0],
+            by_hand().get(crate, ("", ""))[0],
         ]
     )
     found = items.items(crate)
     home = {item.name: item.path for item in found if item.kind in items.BLOCKS}
-    files = {}
+    files: Dict[str, List[items.Item]] = {}
     for item in found:
-        files.setdefault(home.get(item.owner, item.path), []).append(item)
+        files.setdefault(home.get(item.owner or "", item.path), []).append(item)
 
-    def order(path):
+    def order(path: str) -> Tuple[bool, int, str]:
         named = [
             at
             for item in files[path]
@@ -175,7 +182,7 @@ def files_of(crate):
         yield path, sorted(files[path], key=lambda item: item.path != path)
 
 
-def parts_of_page(crate):
+def parts_of_page(crate: str) -> Iterator[str]:
     """The lines on all that a caller can name, file by file."""
     _, modules = items.handed_on(crate)
     files = list(files_of(crate))
@@ -188,7 +195,7 @@ def parts_of_page(crate):
         yield from part_of_file(path, found, modules)
 
 
-def names_of(crate):
+def names_of(crate: str) -> Iterator[str]:
     """The lines on where names stand, and on those of other crates."""
     names, modules = items.handed_on(crate)
     own = ", ".join(
@@ -224,17 +231,18 @@ def names_of(crate):
 
 
 @functools.cache
-def by_hand():
+def by_hand() -> Dict[str, Tuple[str, str]]:
     """What docs/CALLING.md says of each library, and the line on its caller."""
     parts = re.split(r"^## `(\w+)`\n", items.text_of(HAND), flags=re.M)
     return {
-        crate: text.strip().partition("Caller: ")[::2]
+        crate: (above, caller)
         for crate, text in zip(parts[1::2], parts[2::2])
+        for above, _, caller in [text.strip().partition("Caller: ")]
     }
 
 
-def from_here(text):
-    """A text of docs/CALLING.md as it stands in the folder of a crate: with links that lead to the
+def from_here(text: str) -> str:
+    """A text of docs/CALLING.md as it is in the directory of a crate: with links that lead to the
     same.
     """
     return re.sub(
@@ -244,19 +252,21 @@ def from_here(text):
     )
 
 
-def named_caller(crate):
-    """What the page of a library shows: the names as they are told, their file, and what else is
+def named_caller(crate: str) -> Tuple[str, str, str]:
+    """What the page of a library shows: the names as they are shown, their file, and what else is
     said.
     """
-    return CALLER.fullmatch("Caller: " + " ".join(by_hand()[crate][1].split())).groups()
+    line = CALLER.fullmatch("Caller: " + " ".join(by_hand()[crate][1].split()))
+    assert line is not None, crate
+    return line[1], line[2], line[3]
 
 
-def caller_of(crate):
+def caller_of(crate: str) -> str:
     """The file whose code the page of a library shows."""
     return named_caller(crate)[1]
 
 
-def page(crate):
+def page(crate: str) -> str:
     """The page for the callers of a library."""
     names, path, rest = named_caller(crate)
     root = paragraphs(said_of_file(f"{TOP}/crates/{crate}/src/lib.rt"))
@@ -278,6 +288,6 @@ def page(crate):
     return "\n".join(lines) + "\n"
 
 
-def wanted():
+def wanted() -> Dict[str, str]:
     """Each page with its text."""
     return {f"crates/{crate}/CALLING.md": page(crate) for crate in by_hand()}

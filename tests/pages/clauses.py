@@ -11,6 +11,7 @@ import itertools
 import os
 import re
 import textwrap
+from typing import Collection, Dict, Iterator, List, Sequence, Set
 
 from pages import callers, items
 from pages.items import TOP
@@ -28,21 +29,22 @@ HEAD = "## Calls\n\n"
 # Where public definitions stand: what octets are, where readers and writers stand, and what the
 # laws say.
 ROOMS = ("Format", "States", "Laws")
-# The longest clause without a name that stands in a list as it is.
+# The longest clause without a name that a list has as it is.
 SHORT = 60
 LIST = re.compile(rf"^{HEAD}(?:(?:- |  ).*\n)+", re.M)
 # The columns of a line.
 WIDTH = 100
 
 
-def first_sentence(doc):
+def first_sentence(doc: Sequence[str]) -> str:
     """What a doc comment says first."""
     said = callers.paragraphs(doc)
-    return re.match(r".*?[.](?= |$)|.*", said[0])[0] if said else ""
+    first = re.match(r".*?[.](?= |$)|.*", said[0]) if said else None
+    return first[0] if first else ""
 
 
-def brought_in(path):
-    """The public definitions that a file brings in, by the words that stand for them there."""
+def brought_in(path: str) -> Set[str]:
+    """The public definitions that a file brings in, by their names there."""
     text = items.text_of(f"{TOP}/{path}")
     groups = re.findall(
         rf"^ *ghost use Rattle\.\w+\.specs\.(?:{'|'.join(ROOMS)})(?:\.[\w.]+)?\.\{{([^}}]*)\}};",
@@ -52,23 +54,25 @@ def brought_in(path):
     return {name.split(" as ")[-1].strip() for group in groups for name in group.split(",")}
 
 
-def told_clause(clause, definitions):
+def told_clause(clause: str, definitions: Collection[str]) -> str:
     """A clause: its name and the public definitions that it cites; one without a name by these, or
     as it is where it is short.
     """
-    name, body = re.match(r"\w+\*?(?: (\w+))?(.*)", " ".join(clause.split())).groups()
+    head = re.match(r"\w+\*?(?: (\w+))?(.*)", " ".join(clause.split()))
+    assert head is not None, clause
+    name, body = head.groups()
     cited = list(
         dict.fromkeys(f"`{word}`" for word in re.findall(r"[\w']+", body) if word in definitions)
     )
     if name:
         return f"`{name}`" + (f" ({', '.join(cited)})" if cited else "")
-    code = re.fullmatch(r" *\{ ?(.*?) ?\}?;?", body)[1]
+    code = re.sub(r"\A *\{ ?(.*?) ?\}?;?\Z", r"\1", body)
     return (
         f"`{code}`" if len(code) <= SHORT and "|" not in code else ", ".join(cited) or "one clause"
     )
 
 
-def told_clauses(item, definitions):
+def told_clauses(item: items.Item, definitions: Collection[str]) -> str:
     """The clauses of a call: what it needs, and what it promises."""
     needs = [told_clause(each, definitions) for each in item.clauses if each.startswith("requires")]
     promises = [
@@ -80,15 +84,15 @@ def told_clauses(item, definitions):
     )
 
 
-def path_of(item):
-    """A function's path below its crate, as a wrong body names it."""
+def path_of(item: items.Item) -> str:
+    """A function's path below its crate, as a mutant names it."""
     below = item.path.split("/src/")[1].removesuffix(".rt")
     module = "" if below == "lib" else below.replace("/", "::") + "::"
     trait, _, name = item.name.rpartition("::")
     return f"{module}{f'{item.owner}{trait}::' if item.owner else ''}{name}"
 
 
-def name_of(item):
+def name_of(item: items.Item) -> str:
     """A call, as a list names it."""
     return (
         f"{item.owner}::{item.name}"
@@ -99,9 +103,9 @@ def name_of(item):
     )
 
 
-def told(crate):
+def told(crate: str) -> Iterator[str]:
     """Yield the parts of a list: the calls of a crate, then the mutants of private functions."""
-    bodies = {}
+    bodies: Dict[str, List[str]] = {}
     for body in wrong_bodies.bodies(crate):
         bodies.setdefault(body.function, []).append(f"`{body.word}`")
     for item in (item for _, found in callers.files_of(crate) for item in found):
@@ -118,25 +122,29 @@ def told(crate):
         yield part("Private functions.", "", sorted(itertools.chain(*bodies.values())))
 
 
-def part(said, clauses, bodies, indent=""):
+def part(said: str, clauses: str, bodies: Sequence[str], indent: str = "") -> str:
     """A part of a list, in lines."""
     words = [
         said,
         *(f"*Clauses:* {clauses}." for _ in clauses[:1]),
         *(f"*Mutants:* {', '.join(bodies)}." for _ in bodies[:1]),
     ]
-    indents = {"initial_indent": f"{indent}- ", "subsequent_indent": f"{indent}  "}
     return textwrap.fill(
-        " ".join(words), WIDTH, **indents, break_long_words=False, break_on_hyphens=False
+        " ".join(words),
+        WIDTH,
+        initial_indent=f"{indent}- ",
+        subsequent_indent=f"{indent}  ",
+        break_long_words=False,
+        break_on_hyphens=False,
     )
 
 
-def page_of(crate):
+def page_of(crate: str) -> str:
     """Return the path of the page of a crate, below the repository."""
     return f"{FOLDER}/{crate}.md"
 
 
-def pages():
+def pages() -> Dict[str, str]:
     """Return the pages of crates, by their crates, with their texts."""
     paths = sorted(glob.glob(f"{TOP}/{FOLDER}/*.md"))
     crates = [os.path.basename(path).removesuffix(".md") for path in paths]
@@ -147,13 +155,13 @@ def pages():
     }
 
 
-def made(crate, page):
+def made(crate: str, page: str) -> str:
     """Return the page of a crate with its list generated anew, and all else as it is."""
     listed = list(told(crate)) if items.is_library(crate) else []
     return LIST.sub(lambda _: HEAD + "\n".join(listed) + "\n", page, count=1) if listed else page
 
 
-def by_hand():
+def by_hand() -> str:
     """Return all that is written by hand on these pages, without code blocks."""
     texts = [
         LIST.sub("", text, count=1) if items.is_library(crate) else text
@@ -167,6 +175,6 @@ def by_hand():
     )
 
 
-def wanted():
+def wanted() -> Dict[str, str]:
     """Return the pages of crates, with their texts."""
     return {page_of(crate): made(crate, text) for crate, text in pages().items()}

@@ -7,7 +7,7 @@ import itertools
 import os
 import re
 from dataclasses import dataclass
-from typing import List
+from typing import Iterator, List, Optional, Sequence, Tuple
 
 TOP = os.path.dirname(os.path.dirname(os.path.dirname(os.path.realpath(__file__))))
 # What a caller can name, by the word that begins it.
@@ -22,23 +22,23 @@ class Item:
 
     kind: str
     # the type or the trait that it is of, or None
-    owner: str
+    owner: Optional[str]
     name: str
     code: str
-    doc: list
+    doc: List[str]
     # its file below the repository, and its module below the root of the crate
     path: str
     place: str
     # of a function its clauses
-    clauses: list
+    clauses: List[str]
 
 
-def text_of(path):
+def text_of(path: str) -> str:
     with open(path, encoding="utf-8") as text:
         return text.read()
 
 
-def cells_of(page):
+def cells_of(page: str) -> List[Tuple[str, List[str]]]:
     """The cells of the tables of a page, row by row, and with each row its line."""
     return [
         (row, [cell.strip() for cell in row.strip("| ").split(" | ")])
@@ -47,22 +47,22 @@ def cells_of(page):
     ]
 
 
-def is_library(crate):
+def is_library(crate: str) -> bool:
     """Whether a crate is one, and a library."""
     return os.path.isfile(f"{TOP}/crates/{crate}/src/lib.rt")
 
 
-def sources_of(crate):
+def sources_of(crate: str) -> List[str]:
     """The paths of the code of a crate."""
     return sorted(glob.glob(f"{TOP}/crates/{crate}/src/**/*.rt", recursive=True))
 
 
-def record_of_laws(crate):
+def record_of_laws(crate: str) -> Tuple[Optional[str], str]:
     """The record that has the laws of a crate, the last one of specs/Laws.antt that is named so:
     its name, and its lines. None and none where there is no such record.
     """
     path = f"{TOP}/crates/{crate}/specs/Laws.antt"
-    found = (
+    found: List[Tuple[str, str]] = (
         re.findall(r"^pub record (\w+Laws) : Type 0 where\n((?:  .*\n)+)", text_of(path), re.M)
         if os.path.isfile(path)
         else []
@@ -70,12 +70,12 @@ def record_of_laws(crate):
     return found[-1] if found else (None, "")
 
 
-def words_of(comment):
+def words_of(comment: str) -> str:
     """Return the words of a comment, without its marks."""
     return " ".join(line.strip()[3:] for line in comment.splitlines())
 
 
-def laws_of(crate):
+def laws_of(crate: str) -> Tuple[Optional[str], List[Tuple[str, str, str]]]:
     """The laws of a crate that are one record, the contract of one call: the record's name, and of
     each field its name, its statement and what is said of it: above the field, or else above the
     statement. (What ends in a colon is said of several fields.)
@@ -101,13 +101,13 @@ def laws_of(crate):
     ]
 
 
-def laws_at(item):
+def laws_at(item: Item) -> List[Tuple[str, str, str]]:
     """The laws that a call has as one record: none but for the call of a crate's laws."""
     name, laws = laws_of(item.path.split("/")[1])
     return laws if item.clauses == [f"ensures {{ {name} }}"] else []
 
 
-def used_publicly(code):
+def used_publicly(code: str) -> set[str]:
     """The names of the `pub use` lines of some code."""
     uses = re.findall(r"^pub use ([\w:]+?)(?:::\{([^}]*)\})?;", code, re.M)
     names = {
@@ -118,13 +118,13 @@ def used_publicly(code):
     return names - {""}
 
 
-def internals(crate):
+def internals(crate: str) -> set[str]:
     """The names of a library's module `internals`, which is for the layers above alone."""
     path = f"{TOP}/crates/{crate}/src/internals.rt"
     return used_publicly(re.sub("//.*", "", text_of(path))) if os.path.isfile(path) else set()
 
 
-def handed_on(crate):
+def handed_on(crate: str) -> Tuple[set[str], set[str]]:
     """Return what a library exports: the names of the `pub use` lines of its root and of its module
     `internals`, and its public modules.
     """
@@ -134,8 +134,8 @@ def handed_on(crate):
     ) - {"internals"}
 
 
-def of_others(crate):
-    """What a library hands on of other crates: of each its public module, or None for the root; the
+def of_others(crate: str) -> Iterator[Tuple[Optional[str], str, List[str]]]:
+    """What a library exports of other crates: of each its public module, or None for the root; the
     other crate; and the names.
     """
     _, modules = handed_on(crate)
@@ -148,7 +148,7 @@ def of_others(crate):
                 yield None if place == "lib" else place, other, re.findall(r"\w+", names)
 
 
-def plain(words):
+def plain(words: str) -> str:
     """Code on one line, as the pages for callers have it: without `pub`, and without `mut` at a
     name.
     """
@@ -156,23 +156,26 @@ def plain(words):
     return re.sub(r"\s+", " ", re.sub(r"([(\[])\s+|\s+([)\]])", r"\1\2", words)).strip(" ;")
 
 
-def shortened(code):
-    """A constant's code; a long value is told by its type."""
+def shortened(code: str) -> str:
+    """A constant's code; a long value is shown by its type."""
     return plain(code) if len(plain(code)) < 160 else plain(code.partition(" =")[0])
 
 
-def parts_of(body):
-    """What stands in the body of a type between commas that stand in no brackets: of each its doc
+def parts_of(body: str) -> Iterator[Tuple[List[str], str]]:
+    """The parts of the body of a type between commas outside of brackets: of each its doc
     comment and its code. What is said of a field of a variant stands after what is said of the
     variant.
     """
-    depth, doc, code, field = 0, [], "", []
+    depth, code = 0, ""
+    doc: List[str] = []
+    field: List[str] = []
     for line in body.split("\n"):
         if said := re.match(r" *///(.*)", line):
             (field if depth else doc).append(said[1].strip())
             continue
         if field:
-            doc += ["", f"`{re.match(r' *(?:pub )?(.*?),?$', line)[1]}`: {' '.join(field)}"]
+            code_of_field = re.sub(r"^ *(?:pub )?(.*?),?$", r"\1", line)
+            doc += ["", f"`{code_of_field}`: {' '.join(field)}"]
             field = []
         for letter in re.sub("//.*", "", line) + "\n":
             depth += (letter in "([{<") - (letter in ")]}>")
@@ -185,29 +188,41 @@ def parts_of(body):
         yield doc, code.strip()
 
 
-def until(lines, ends):
+def until(lines: Sequence[str], ends: str) -> str:
     """The lines up to the first that matches, without comments."""
     rest = itertools.takewhile(lambda each: not re.match(ends, each), lines)
     return "\n".join(each for each in rest if not each.lstrip().startswith("//"))
 
 
 class File:
-    """A file of code, read line by line: its public items, as far as it can tell that they are."""
+    """A file of code, read line by line: its public items, as far as it recognises them."""
 
-    def __init__(self, crate, path):
+    def __init__(self, crate: str, path: str) -> None:
         self.path, self.place = (
             os.path.relpath(path, TOP),
             os.path.relpath(path, f"{TOP}/crates/{crate}/src").removesuffix(".rt").split("/")[0],
         )
         self.lines = text_of(path).partition("#[cfg(test)]")[0].split("\n")
         # the type or trait that a block is of, the word that begins it, and the trait that it gives
-        self.owner = self.block = self.trait = None
+        self.owner: Optional[str] = None
+        self.block: Optional[str] = None
+        self.trait: Optional[str] = None
 
-    def item(self, kind, name, code, doc, owner=None, clauses=()):
+    def item(
+        self,
+        kind: str,
+        name: str,
+        code: str,
+        doc: List[str],
+        owner: Optional[str] = None,
+        clauses: Sequence[str] = (),
+    ) -> Item:
+        """Return an item of this file."""
         return Item(kind, owner, name, code, doc, self.path, self.place, list(clauses))
 
-    def items(self):
-        doc = []
+    def items(self) -> Iterator[Item]:
+        """Yield the public items of the file."""
+        doc: List[str] = []
         for at, line in enumerate(self.lines):
             if said := re.match(r" *///(.*)", line):
                 doc.append(said[1].strip())
@@ -215,7 +230,7 @@ class File:
                 yield from self.read(at, line, doc)
                 doc = []
 
-    def read(self, at, line, doc):
+    def read(self, at: int, line: str, doc: List[str]) -> Iterator[Item]:
         """What begins in a line."""
         if line.startswith("}"):
             self.owner = self.block = self.trait = None
@@ -249,7 +264,7 @@ class File:
                 self.owner,
             )
 
-    def type(self, at, block, doc):
+    def type(self, at: int, block: re.Match[str], doc: List[str]) -> Iterator[Item]:
         """A type or a trait, and the parts of a type."""
         public, kind, name = block.groups()
         head = plain(until(self.lines[at:], r"\}|$").partition(" {\n")[0].removesuffix(" {"))
@@ -265,11 +280,10 @@ class File:
         )
         for said, code in parts_of(re.sub(r"^ *#\[.*\]\n", "", body, flags=re.M)):
             if public and (kind == "enum" or code.startswith("pub ")):
-                yield self.item(
-                    "part", re.match(r"(?:pub )?(\w+)", code)[1], plain(code), said, name
-                )
+                part = re.sub(r"^(?:pub )?(\w+)(?s:.*)", r"\1", code)
+                yield self.item("part", part, plain(code), said, name)
 
-    def function(self, kind, at, name, doc):
+    def function(self, kind: str, at: int, name: str, doc: List[str]) -> Item:
         """A function: its clauses end where its body begins, or in a trait with a `;`."""
         text = until(self.lines[at:], r" *[{}]").partition("};\n")[0]
         signature, *clauses = re.split(r"^ *(?=requires|ensures|ghost)", text, flags=re.M)
@@ -279,7 +293,7 @@ class File:
 
 
 @functools.cache
-def items(crate):
+def items(crate: str) -> List[Item]:
     """What a caller of a library can name, in the order of its files."""
     names, modules = handed_on(crate)
     found = [item for path in sources_of(crate) for item in File(crate, path).items()]
@@ -292,7 +306,7 @@ def items(crate):
     return [item for item in found if is_handed_on(item, names, modules, types)]
 
 
-def is_handed_on(item, names, modules, types):
+def is_handed_on(item: Item, names: set[str], modules: set[str], types: set[str]) -> bool:
     """Whether a caller can name an item."""
     if item.kind == "impl":
         return (
@@ -307,7 +321,7 @@ def is_handed_on(item, names, modules, types):
     )
 
 
-def functions(crate):
+def functions(crate: str) -> List[Item]:
     """The public functions of a library that a crate above can call."""
     return [item for item in items(crate) if item.kind == "fn"]
 

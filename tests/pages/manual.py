@@ -4,8 +4,11 @@ The datasets are those of docs/reference/format.md, the causes those of docs/ref
 
 All else on the page is written by hand.
 """
+from __future__ import annotations
+
 import re
 import textwrap
+from typing import Dict, Iterable, Iterator, List
 
 from pages import causes
 from pages.items import TOP, cells_of, text_of
@@ -17,20 +20,20 @@ WIDTH = 77
 ESCAPES = {"\\": "\\e", "-": "\\-", "'": "\\(aq", "~": "\\(ti", "^": "\\(ha", "`": "\\(ga"}
 
 
-def roff(words):
+def roff(words: str) -> List[str]:
     """The lines of words."""
     lines = textwrap.wrap(words, WIDTH, break_on_hyphens=False)
     return ["".join(ESCAPES.get(letter, letter) for letter in line) for line in lines]
 
 
-def datasets():
+def datasets() -> Iterator[List[str]]:
     """The number and the name of each dataset."""
     for _, cells in cells_of(f"{TOP}/docs/reference/format.md"):
         if re.fullmatch(r"\d:\d+", cells[0]) and len(cells) == 6:
             yield [".TP 8", cells[0], *roff(cells[1])]
 
 
-def listed_causes():
+def listed_causes() -> Iterator[List[str]]:
     """Yield the lines of each cause, in the order of their numbers: its number, its name and what
     it means.
     """
@@ -44,17 +47,17 @@ def listed_causes():
         ]
 
 
-def made(page, section, items):
+def made(page: str, section: str, items: Iterable[List[str]]) -> str:
     """The page with the list of a section as it is made of these items."""
     head = f".SH {section}\n"
     before, _, rest = page.partition(head)
     above, _, below = rest.partition(".PD 0\n")
     after = below.partition(".PD\n")[2]
-    told = "".join(f"{line}\n" for item in items for line in item)
-    return f"{before}{head}{above}.PD 0\n{told}.PD\n{after}"
+    listing = "".join(f"{line}\n" for item in items for line in item)
+    return f"{before}{head}{above}.PD 0\n{listing}.PD\n{after}"
 
 
-def wanted():
+def wanted() -> Dict[str, str]:
     """The page, with its text."""
     page = made(text_of(f"{TOP}/{PAGE}"), "DATASETS", datasets())
     return {PAGE: made(page, "CAUSES", listed_causes())}

@@ -1,17 +1,20 @@
 """A caller that a page shows, cut out of its source: its functions, and what they bring in."""
+from __future__ import annotations
+
 import re
+from typing import List, Optional, Sequence
 
 from pages.items import TOP, text_of
 
 
-def cut(lines, name):
-    """The lines of a function or a constant, with what stands above it, at the margin."""
+def cut(lines: Sequence[str], name: str) -> List[str]:
+    """The lines of a function or a constant, with what is above it, at the margin."""
     (at,) = [
         at
         for at, line in enumerate(lines)
         if re.match(rf'\s*(?:pub(?:\(crate\))? )?(?:extern "C" )?(?:fn|const) {name}\b', line)
     ]
-    margin = re.match(r"\s*", lines[at])[0]
+    margin = lines[at][: len(lines[at]) - len(lines[at].lstrip())]
     begin = at
     while re.match(r"\s*(///|#\[)", lines[begin - 1]):
         begin -= 1
@@ -24,7 +27,7 @@ def cut(lines, name):
     return [line.removeprefix(margin) for line in lines[begin : end + 1]]
 
 
-def occurs(name, code):
+def occurs(name: str, code: str) -> bool:
     """Whether code has a name, or each part of one whose places for arguments are marked."""
     name = name.split(" as ")[-1].strip()
     marked = [part for part in re.split("[◌]", name) if part]
@@ -33,13 +36,15 @@ def occurs(name, code):
     return bool(re.search(rf"(?<![\w'.]){re.escape(name)}(?![\w'])", code))
 
 
-def used(line, code):
+def used(line: str, code: str) -> Optional[str]:
     """A line that brings names in, with those alone that the code has; None where it has none of
     them.
     """
     if "{" not in line:
         return line if occurs(re.split(r"::|[.]", line.rstrip(";"))[-1], code) else None
-    front, group = re.fullmatch(r"(.*?)\{(.*)\};", line).groups()
+    parts = re.fullmatch(r"(.*?)\{(.*)\};", line)
+    assert parts is not None, line
+    front, group = parts.groups()
     # (a module that is brought in with its own names is called by the last word before them)
     module = re.split(r"\W+", front.strip(":. "))[-1]
     kept = [
@@ -51,7 +56,7 @@ def used(line, code):
     return f"{front}{kept[0] if single else '{' + ', '.join(kept) + '}'};" if kept else None
 
 
-def shown(path, names):
+def shown(path: str, names: Sequence[str]) -> str:
     """The code of functions of a file, after what they bring in."""
     text = text_of(f"{TOP}/{path}")
     code = "\n\n".join("\n".join(cut(text.split("\n"), name)) for name in names)

@@ -5,7 +5,10 @@ A line is `CRATE | ORIGIN | PLACE | NAME | CODE`. The origin is `format` for an 
 parameters and result the format's specification fixes, and `own` for one that this project added.
 The place is the module, `-` at the root of the crate.
 """
+from __future__ import annotations
+
 from dataclasses import dataclass
+from typing import Dict, Iterable, Iterator, List, Tuple
 
 from pages import items
 from pages.items import TOP
@@ -25,11 +28,11 @@ class Row:
     name: str
     code: str
 
-    def __str__(self):
+    def __str__(self) -> str:
         return f"{self.crate} | {self.place} | {self.name} | {self.code}"
 
 
-def place_of(crate, item):
+def place_of(crate: str, item: items.Item) -> str:
     """Return the module of an item, `-` at the root."""
     if (item.owner or item.name) in items.internals(crate):
         return "internals"
@@ -37,7 +40,7 @@ def place_of(crate, item):
     return item.place if item.place in modules else "-"
 
 
-def name_of(item):
+def name_of(item: items.Item) -> str:
     """Return the name of an item, with its type or trait before it."""
     return (
         item.name
@@ -46,27 +49,27 @@ def name_of(item):
     )
 
 
-def key_of(row):
+def key_of(row: Row) -> Tuple[str, str]:
     """Return what an item keeps when its code changes."""
     return row.crate, row.code if row.code.startswith("impl") else row.name
 
 
-def rows_of(crate):
+def rows_of(crate: str) -> Iterator[Row]:
     """Yield the public items of a crate.
 
-    A block without a trait is none, since its functions are.
+    A block without a trait is excluded, since its functions are.
     """
     for item in items.items(crate):
         if item.kind in KINDS and (item.kind != "impl" or " for " in item.code):
             yield Row(crate, place_of(crate, item), name_of(item), item.code)
 
 
-def rows(crates):
+def rows(crates: Iterable[str]) -> List[Row]:
     """Return the public items of crates, in order."""
     return sorted({row for crate in crates for row in rows_of(crate)}, key=str)
 
 
-def listed():
+def listed() -> Dict[Row, str]:
     """Return the rows of the list, each with its origin."""
     found = {}
     for line in items.text_of(LIST).splitlines():
@@ -75,8 +78,8 @@ def listed():
     return found
 
 
-def text(crates):
-    """Return the list as it has to be.
+def text(crates: Iterable[str]) -> str:
+    """Return the list as it must be.
 
     An item keeps the origin that its name has in the list, and a trait of a type that of its code.
     """

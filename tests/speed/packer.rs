@@ -3,7 +3,7 @@
 //!     packer pack FILE [--subfile N]
 //!
 //! The whole file is in memory, and so is the object; the text is looked through sixteen octets at a time. It writes the octets that
-//! the command writes, of known size, and tells the fault of a script that is refused.
+//! the command writes, of known size, and reports the fault of a script that is refused.
 
 mod rules;
 
@@ -24,7 +24,7 @@ const MOST_TRAILER: usize = 64;
 /// The number of a line, and what is wrong with it.
 type Answer<T> = Result<T, (u64, Cause)>;
 
-/// What is left of a script, after so many lines.
+/// What is left of a script, after N lines.
 #[derive(Clone, Copy)]
 struct Rest<'a> {
     octets: &'a [u8],
@@ -88,14 +88,14 @@ fn last(end: &[u8]) -> Option<Vec<u8>> {
     }
 }
 
-/// The record, number and data of a line that tells a dataset.
+/// The record, number and data of a line that encodes a dataset.
 fn dataset_of(line: &[u8]) -> Option<(u8, u8, Vec<u8>)> {
     let (rec, after) = cut(line, b':')?;
     let digits = after.iter().take_while(|octet| octet.is_ascii_digit()).count();
     Some((short_number(rec)?, short_number(&after[..digits])?, last(&after[digits..])?))
 }
 
-/// Adds a dataset to those before it, if it may stand there.
+/// Adds a dataset to those before it, if it is valid there.
 fn add(order: &mut Order, kept: &mut Kept, line: &[u8]) -> Result<(), Cause> {
     let (rec, set, data) = dataset_of(line).ok_or(SCRIPT_LINE)?;
     if rec != 1 && rec != 2 {
@@ -108,15 +108,15 @@ fn add(order: &mut Order, kept: &mut Kept, line: &[u8]) -> Result<(), Cause> {
     }
 }
 
-/// Whether octets are so many at most, one at least, and each passes.
+/// Whether octets are N at most, one at least, and each passes.
 fn is_part(octets: &[u8], most: usize, test: impl Fn(&u8) -> bool) -> bool {
     (1..=most).contains(&octets.len()) && octets.iter().all(test)
 }
 
-/// The front of the object that a line `message ..` tells, up to STX.
+/// The front of the object that a line `message ..` encodes, up to STX.
 fn front_of(line: &[u8]) -> Option<Vec<u8>> {
-    let told = line.strip_prefix(b"message ")?;
-    let (source, after) = cut(told, b' ')?;
+    let value = line.strip_prefix(b"message ")?;
+    let (source, after) = cut(value, b' ')?;
     let (number, after) = cut(after, b' ')?;
     let (priority, after) = cut(after, b' ')?;
     let (category, after) = cut(after, b' ')?;
@@ -138,10 +138,10 @@ fn front_of(line: &[u8]) -> Option<Vec<u8>> {
     is_header.then_some(front)
 }
 
-/// The trailer that the next line tells, if it tells one.
+/// The trailer of the next line, if it has one.
 fn trailer_of(rest: Rest) -> Answer<(Vec<u8>, Rest)> {
-    let told = rest.next_line().and_then(|(line, after)| Some((last(line.strip_prefix(b"trailer")?)?, after)));
-    let Some((trailer, after)) = told else {
+    let value = rest.next_line().and_then(|(line, after)| Some((last(line.strip_prefix(b"trailer")?)?, after)));
+    let Some((trailer, after)) = value else {
         return Ok((Vec::new(), rest));
     };
     let may_stand = |octet: &u8| is_spaced(*octet) || *octet == b'\n' || *octet == b'\r';
@@ -184,7 +184,7 @@ struct Text<'a> {
 }
 
 impl Text<'_> {
-    /// Takes a mark: the end of a line, with one CR right before LF, or an octet that may not stand in a line.
+    /// Takes a mark: the end of a line, with one CR right before LF, or an octet that is invalid in a line.
     #[inline(always)]
     fn mark(&mut self, at: usize, object: &mut Vec<u8>) -> Answer<()> {
         let octets = self.octets;
@@ -219,7 +219,7 @@ fn add_line(line: &[u8], is_followed: bool, object: &mut Vec<u8>) {
 
 // --- The envelope ---
 
-/// What a script tells: the datasets of records 1 and 2, and the object.
+/// What a script encodes: the datasets of records 1 and 2, and the object.
 struct Told {
     kept: Kept,
     object: Vec<u8>,
@@ -240,8 +240,8 @@ fn read(script: &[u8]) -> Answer<Told> {
         }
         rest = after;
     }
-    let told = rest.next_line().and_then(|(line, after)| Some((front_of(line)?, after)));
-    let Some((mut object, after)) = told else {
+    let value = rest.next_line().and_then(|(line, after)| Some((front_of(line)?, after)));
+    let Some((mut object, after)) = value else {
         return rest.refused(SCRIPT_LINE);
     };
     let (trailer, rest) = trailer_of(after)?;
@@ -283,17 +283,17 @@ fn write_number<W: Write>(output: &mut W, rec: u8, set: u8, number: u64) -> io::
     }
 }
 
-fn write_envelope<W: Write>(told: &Told, subfile: u64, output: &mut W) -> io::Result<()> {
+fn write_envelope<W: Write>(value: &Told, subfile: u64, output: &mut W) -> io::Result<()> {
     let mut from = 0;
-    for field in &told.kept.fields {
-        write_dataset(output, field.rec, field.set, &told.kept.octets[from..field.end])?;
+    for field in &value.kept.fields {
+        write_dataset(output, field.rec, field.set, &value.kept.octets[from..field.end])?;
         from = field.end;
     }
-    let size = told.object.len() as u64;
+    let size = value.object.len() as u64;
     write_dataset(output, 7, 10, &[1])?;
     write_number(output, 7, 20, subfile)?;
     write_number(output, 7, 90, size)?;
-    for part in told.object.chunks(subfile.min(size) as usize) {
+    for part in value.object.chunks(subfile.min(size) as usize) {
         write_dataset(output, 8, 10, part)?;
     }
     write_number(output, 9, 10, size)?;
@@ -306,9 +306,9 @@ fn main() -> ExitCode {
     let subfile = words.get(4).map_or(1024, |number| number.parse().expect("N is a number"));
     assert!((1..=GREATEST).contains(&subfile), "a subfile has an octet at least");
     match read(&script) {
-        Ok(told) => {
+        Ok(value) => {
             let mut output = BufWriter::with_capacity(8192, io::stdout().lock());
-            write_envelope(&told, subfile, &mut output).expect("can be written");
+            write_envelope(&value, subfile, &mut output).expect("can be written");
             ExitCode::SUCCESS
         }
         Err((line, (_, cause, name))) => {

@@ -42,7 +42,7 @@ fn refused<T>(octet: usize, (rec, set): (u8, u8), cause: Cause) -> Answer<T> {
 
 // --- The message ---
 
-/// What is told of the text.
+/// What is reported of the text.
 trait Sink {
     fn run(&mut self, run: &[u8]);
     fn line_end(&mut self);
@@ -159,7 +159,7 @@ impl Message {
         self.feed = octet == b'\n';
     }
 
-    /// Takes an octet outside of the text, if it may stand there.
+    /// Takes an octet outside of the text, if it is valid there.
     #[inline(always)]
     fn step(&mut self, octet: u8) -> bool {
         match self.part {
@@ -222,7 +222,7 @@ impl Message {
         Ok(())
     }
 
-    /// Takes a mark, and tells whether the text can continue.
+    /// Takes a mark, and returns whether the text can continue.
     #[inline(always)]
     fn mark<S: Sink>(&mut self, octets: &[u8], at: usize, sink: &mut S) -> Result<bool, (usize, Cause)> {
         match octets[at] {
@@ -241,7 +241,7 @@ impl Message {
         Ok(true)
     }
 
-    /// Takes octets of the text up to its end, and tells how many.
+    /// Takes octets of the text up to its end, and returns how many.
     #[inline(always)]
     fn text<S: Sink>(&mut self, octets: &[u8], sink: &mut S) -> Result<usize, (usize, Cause)> {
         let (blocks, rest) = octets.as_chunks::<16>();
@@ -421,7 +421,7 @@ impl Envelope {
         Ok(())
     }
 
-    /// Reads an envelope at the front, and tells how many octets it has.
+    /// Reads an envelope at the front, and returns how many octets it has.
     fn read<S: Sink>(&mut self, input: &[u8], sink: &mut S) -> Answer<usize> {
         let mut at = 0;
         loop {

@@ -92,7 +92,7 @@ def seconds(words):
 
 
 def least(turns, runs):
-    """The least processor time of each run, of so many turns in which each has its own; None of
+    """The least processor time of each run, of N turns in which each has its own; None of
     what is None.
     """
     taken = [[words and seconds(words) for words in runs] for _ in range(turns)]

@@ -19,12 +19,12 @@ OBJECT = rules.object_of(SMALLEST_HEAD, [b""], b"")
 
 
 def keywords(octets):
-    """The smallest envelope with 400 keywords of so many octets."""
+    """The smallest envelope with 400 keywords of N octets."""
     return rules.packed([*SMALLEST_FIELDS, *[(2, 25, b"k" * octets)] * 400], OBJECT, 1024)
 
 
 def prose(lines, header, subfile):
-    """An envelope with so many lines of prose, in subfiles of so many octets."""
+    """An envelope with N lines of prose, in subfiles of M octets."""
     return rules.packed(header, rules.object_of(STORY_HEAD, [PROSE] * lines, b""), subfile)
 
 
@@ -45,14 +45,14 @@ SHAPES = {
     "lines of one octet, LF": short_lines(b"\n"),
     "subfiles of one octet": prose(2560, SMALLEST_FIELDS, 1),
 }
-# Of each script the line of its story, how often it stands there, and the words that `pack` is
+# Of each script the line of its story, how often it occurs there, and the words that `pack` is
 # given.
 SCRIPTS: "dict[str, tuple[bytes, int, list[str]]]" = {
     "a script of prose": (PROSE, 16_384, []),
     "a script of lines of one octet": (b"x", 340_000, []),
     "a script of prose, subfiles of one octet": (PROSE, 2600, ["--subfile", "1"]),
 }
-# So many envelopes are audited, their ids in this order.
+# The envelopes that are audited, their ids in this order.
 AUDITS = {
     "10,000, by their ids": (10_000, False),
     "100,000, by their ids": (100_000, False),
@@ -63,13 +63,13 @@ NUMBER = slice(34, 42)
 
 
 def script(line: bytes, lines: int) -> bytes:
-    """The smallest script, its story so many of this line."""
+    """The smallest script, its story N of this line."""
     with open(f"{TOP}/samples/smallest.script", "rb") as sample:
         return sample.read() + (line + b"\n") * lines
 
 
 def write_numbered(path, envelopes, is_mixed):
-    """Writes so many of the smallest envelope, numbered from 0, in the order of their numbers or,
+    """Writes N of the smallest envelope, numbered from 0, in the order of their numbers or,
     always the same way, in none.
     """
     octets, numbers = bytearray(SMALLEST), list(range(envelopes))

@@ -1,4 +1,4 @@
-"""The tables of what is measured, as they are printed and as they stand in docs/SPEED.md.
+"""The tables of what is measured, as they are printed and as they are in docs/SPEED.md.
 
 The page has a place for each part that is measured, between two marked lines. There the script
 writes what was measured, and nobody else: `tests/documents` holds each place to its tables, but for
@@ -25,7 +25,7 @@ BESIDE = [
     "iim_feed",
 ]
 PACKED = ["Script", "pack", "plain Rust", "ratio"]
-# What memory is measured with: the shape or script, and how often it stands in the input.
+# What memory is measured with: the shape or script, and how often it occurs in the input.
 MEMORY = {
     "envelopes of 246 octets, 2 MB": ("envelopes of 246 octets", 2),
     "envelopes of 246 octets, 200 MB": ("envelopes of 246 octets", 200),
@@ -67,7 +67,7 @@ def row(name, numbers):
 
 
 def marks(part):
-    """The lines between which a part stands in the page."""
+    """The lines that enclose a part of the page."""
     return f"<!-- tests/speed/measure {part} -->\n", f"<!-- the end of {part} -->\n"
 
 
@@ -109,7 +109,7 @@ def faults(page):
             for each in found
         ]
         if there != wanted:
-            yield f"{part}: {there} stands in the place of {wanted}"
+            yield f"{part}: {there} replaces {wanted}"
         cells = [
             cell
             for each in found

@@ -17,6 +17,6 @@ def load_profile() -> None:
     """Register the profiles, and load the one that the environment names."""
     both: Dict[str, Any] = {"deadline": None, "database": None, "suppress_health_check": SLOW}
     settings.register_profile("gate", derandomize=True, max_examples=100, **both)
-    night = {"derandomize": False, "max_examples": 5000, "print_blob": True}
+    night: Dict[str, Any] = {"derandomize": False, "max_examples": 5000, "print_blob": True}
     settings.register_profile("night", **night, **both)
     settings.load_profile(os.environ.get("HYPOTHESIS_PROFILE", "gate"))

@@ -10,7 +10,7 @@ from typing import Any, Callable, Mapping, Optional
 
 from support.running import SECONDS, TOP, Argument, Ran, as_streams, write_program
 
-# Stands in for `rt`: its program prints the source as it was when the build began, and the
+# Replaces `rt`: its program prints the source as it was when the build began, and the
 # arguments. Files control it: `slow` and `paused` make it wait, `edit` changes the source, `wrong`
 # lets it fail, and with `proved` both crates are proved anew. While `paused` exists, a crate is
 # built once the file `continue` exists, which it removes, or after two minutes.

@@ -123,16 +123,16 @@ def in_other_ways(octets: bytes) -> Iterator[Case]:
 def stream_case(octets: bytes) -> Case:
     """Return a case that reads a stream of envelopes."""
     found, why = listed(octets)
-    told = [f"{envelope.at} octets, {envelope.total} total" for envelope in found]
+    printed = [f"{envelope.at} octets, {envelope.total} total" for envelope in found]
     question = f"intake {LIMITS[0]}/{LIMITS[1]} {digits(octets)}"
-    return Case(is_new=False).ask(question, *told, why or "end")
+    return Case(is_new=False).ask(question, *printed, why or "end")
 
 
 def audit_case(octets: bytes) -> Case:
     """Return a case that audits a stream of envelopes."""
     found, why = listed(octets)
-    told = [f"{len(found) + 1} {why}"] if why else rules.report(found, worked.NOW)
-    return Case(is_new=False).ask(f"audit 2024-03-01T12:00:00Z {digits(octets)}", *told)
+    printed = [f"{len(found) + 1} {why}"] if why else rules.report(found, worked.NOW)
+    return Case(is_new=False).ask(f"audit 2024-03-01T12:00:00Z {digits(octets)}", *printed)
 
 
 def one_subfile_too_many() -> Case:
@@ -224,8 +224,8 @@ def row_case(record: int, dataset: int) -> Case:
     duty = "Mandatory" if row.is_mandatory else "Optional"
     duty = "ByMode" if (record, dataset) == (7, 90) else duty
     repeats = "repeats" if row.repeats else "once"
-    told = f"{named(record, dataset)} {row.least}..{row.most} {row.kind} {duty} {repeats}"
-    case.ask(f"row {record} {dataset}", told)
+    printed = f"{named(record, dataset)} {row.least}..{row.most} {row.kind} {duty} {repeats}"
+    case.ask(f"row {record} {dataset}", printed)
     for octet in range(256):
         case.ask(f"admits {record} {dataset} {octet:02X}", yes_of(row, bytes([octet])))
     most = min(row.most, 20000)

@@ -27,7 +27,7 @@ ANY = frozenset(range(256))
 
 
 def examples(count: int) -> settings:
-    """Return settings for so many examples in the gate, and in proportion in other profiles."""
+    """Return settings for this number of examples in the gate, and in proportion in other profiles."""
     return settings(max_examples=max(1, count * settings.default.max_examples // 100))
 
 
@@ -52,7 +52,7 @@ def choose(draw: DrawFn, options: Sequence[T]) -> T:
 
 @once
 def fixed(size: int) -> SearchStrategy[bytes]:
-    """Generate so many octets, in one draw."""
+    """Generate N octets, in one draw."""
     return st.binary(min_size=size, max_size=size)
 
 
@@ -260,7 +260,7 @@ MESSAGES, WRONG_MESSAGES = PARTS.map(b"".join), wrong_messages()
 
 
 def draw_subfiles(draw: DrawFn, octets: bytes, most: int) -> List[bytes]:
-    """Draw subfiles of at most so many octets for an object, some of them empty."""
+    """Draw subfiles of at most N octets for an object, some of them empty."""
     found: List[bytes] = []
     while octets or not found:
         size = choose(draw, [most, most, 0, draw(up_to(most, 1))]) if len(found) < 20 else most

@@ -4,9 +4,12 @@ say.
 Of such a function the proof is a hole, which the prover takes by what it states. So no goal of it
 is proved again. It has no body either, so that nothing is borrowed in it.
 """
+from __future__ import annotations
+
 import json
 import os
 import re
+from typing import Collection, Iterable, List, Optional, Sequence, Set, Tuple
 
 from wrong import code, sources
 
@@ -21,13 +24,13 @@ pub {name}_spec : {{M : Type 1}} → statement M
 """
 
 
-def texts(folder):
+def texts(folder: str) -> List[Tuple[str, str]]:
     """The path of each source below a folder, from there, and its text."""
     paths = [f"{at}/{file}" for at, _, files in os.walk(folder) for file in files]
     return [(os.path.relpath(path, folder), sources.text_of(path)) for path in paths]
 
 
-def listed(crate):
+def listed(crate: str) -> Optional[List[List[str]]]:
     """The functions that the built library of a crate states, each by the words of its path; None
     where it is a program, which nobody links.
     """
@@ -51,11 +54,11 @@ def listed(crate):
     return [path for path in paths if path[-2:-1] not in traits(crate)]
 
 
-def free(crate):
+def free(crate: str) -> List[List[str]]:
     """The free functions of a program, each by the words of its path, but that with which it
     begins.
     """
-    found = []
+    found: List[List[str]] = []
     for path, text in texts(f"{sources.TOP}/crates/{crate}/src"):
         module = [word for word in path.removesuffix(".rt").split("/") if word not in BEGINS]
         found += [
@@ -66,7 +69,7 @@ def free(crate):
     return found
 
 
-def traits(crate):
+def traits(crate: str) -> List[List[str]]:
     """The traits of a crate, each in a list: what they only declare has no proof."""
     return [
         [name]
@@ -75,18 +78,18 @@ def traits(crate):
     ]
 
 
-def owner(path):
-    """The function in which a closure stands, or the function itself: `a.fn.B.f.closure` stands in
+def owner(path: Sequence[str]) -> Sequence[str]:
+    """The function of a closure, or the function itself: `a.fn.B.f.closure` is in
     `a.B.f`.
     """
     return [word for word in path[:-1] if word != "fn"] if "fn" in path else path
 
 
-def empty(room, kept, only):
+def empty(room: str, kept: Collection[str], only: Optional[Collection[str]]) -> Set[str]:
     """Empties the functions in the folder of a check, but those of the names that are kept, and
     where `only` names some no others. Returns the names of those that have a body.
     """
-    whole = set()
+    whole: Set[str] = set()
     for path, text in texts(f"{room}/src"):
         text, named = code.emptied(text, kept, only)
         whole |= named
@@ -95,7 +98,7 @@ def empty(room, kept, only):
     return whole
 
 
-def write(crate, room, asked):
+def write(crate: str, room: str, asked: Iterable[str]) -> None:
     """Writes into the folder of a check proofs with holes for all functions but those that are
     asked for, and takes their bodies away. Of a program these are the free ones.
     """
@@ -112,9 +115,9 @@ def write(crate, room, asked):
         if tuple(own) in kept or ("fn" in path and own[-1] not in whole):
             continue
         at = f"{room}/proofs/{'/'.join(path)}"
-        for file in ("Answers.antt", "Invariants.antt"):
-            if os.path.exists(f"{at}/{file}"):
-                os.remove(f"{at}/{file}")
+        for name in ("Answers.antt", "Invariants.antt"):
+            if os.path.exists(f"{at}/{name}"):
+                os.remove(f"{at}/{name}")
         os.makedirs(at, exist_ok=True)
         with open(f"{at}/Proof.antt", "w", encoding="utf-8") as file:
             file.write(HOLE.format(crate=crate, path=".".join(path), name=path[-1]))

@@ -1,7 +1,10 @@
-"""The clauses of a contract: a copy of a function has to show the one alone that its wrong body is
+"""The clauses of a contract: a copy of a function has to show the one alone that its mutant is
 held to.
 """
+from __future__ import annotations
+
 import re
+from typing import List, Optional, Tuple
 
 from wrong import code
 
@@ -11,8 +14,8 @@ NOTHING = "{ result ≡ result }"
 HEAD = re.compile(r"\n *ensures(?: (\w+))? (?=\{)")
 
 
-def spans(contract):
-    """Of each clause of a contract that tells of what is returned its name, or None, and where what
+def spans(contract: str) -> List[Tuple[Optional[str], int, int]]:
+    """Of each clause of a contract on what is returned its name, or None, and where what
     it says begins and ends.
     """
     return [
@@ -21,8 +24,8 @@ def spans(contract):
     ]
 
 
-def is_kept(clause, name):
-    """Whether a copy of a function keeps the clause of this name, where its wrong body is held to
+def is_kept(clause: str, name: Optional[str]) -> bool:
+    """Whether a copy of a function keeps the clause of this name, where its mutant is held to
     that one. All stay where it is held to one without a name, or to what the prover names
     otherwise, and none where it is held to a call, a loop or its type's invariant.
     """
@@ -30,7 +33,7 @@ def is_kept(clause, name):
     return kind == "ensures" and (name == held or not re.fullmatch(r"\w+", held))
 
 
-def kept_alone(function, clause):
+def kept_alone(function: str, clause: str) -> str:
     """A function whose contract says what this clause says of what is returned, and no more.
 
     What it requires, its loops and its body stay.
@@ -42,15 +45,15 @@ def kept_alone(function, clause):
     return function
 
 
-def answered(part):
+def answered(part: str) -> Optional[str]:
     """The clause whose goal an answer is for: its name, or None where it has none or the goal is no
     clause's of what is returned.
     """
     said = re.match(r"pub returns\S*-clause-(\w+?)(-\d+)? :", part)
-    return said and said[1]
+    return said[1] if said else None
 
 
-def answers_alone(text, clause):
+def answers_alone(text: str, clause: str) -> str:
     """A file of answers without those for clauses that say nothing in a copy.
 
     What stands between answers stays: others may cite it.

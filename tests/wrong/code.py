@@ -1,13 +1,22 @@
-"""The functions of a source file, and what of them a wrong body changes."""
+"""The functions of a source file, and what of them a mutant changes."""
+from __future__ import annotations
+
 import functools
 import re
+from typing import TYPE_CHECKING, Container, Dict, List, Optional, Set, Tuple
+
+if TYPE_CHECKING:
+    from wrong.sources import Body
+
+# A function of a file: the file, its name, and how many before it have that name.
+Place = Tuple[str, str, int]
 
 # What may stand between a function's signature and its body.
 CLAUSE = re.compile(r"(requires|ensures|ghost(?! use)|decreases|where|\{)")
 WORDS = re.compile(r"//[^\n]*|\"(?:\\.|[^\"\\])*\"|b?'(?:\\.[^']*|[^'\\])'", re.S)
 
 
-def end_of_group(text, at):
+def end_of_group(text: str, at: int) -> int:
     """Where the group that a brace begins ends."""
     depth = 0
     for brace in re.finditer(r"[{}]", text[at:]):
@@ -17,7 +26,7 @@ def end_of_group(text, at):
     return len(text)
 
 
-def body_of(text, at):
+def body_of(text: str, at: int) -> Optional[Tuple[int, int]]:
     """The span of a function's body: the last of its brace groups.
 
     None where it has none, as what a trait only declares.
@@ -31,7 +40,7 @@ def body_of(text, at):
             return None if text[at:].startswith(";") else (brace.start(), at)
 
 
-def hidden(words):
+def hidden(words: re.Match[str]) -> str:
     """Blanks in the place of words that hold no brace and no end of a function: of a comment, of a
     literal, of an array's type.
     """
@@ -39,7 +48,7 @@ def hidden(words):
 
 
 @functools.lru_cache(maxsize=4096)
-def functions(text):
+def functions(text: str) -> List[Tuple[str, int, int, int]]:
     """Of each function of a source its name, where it begins, and the span of its body."""
     blank = re.sub(r"\[(?:[^\[\]{}]|\[[^\[\]]*\])*;[^\[\]{}]*\]", hidden, WORDS.sub(hidden, text))
     found = []
@@ -50,24 +59,28 @@ def functions(text):
     return found
 
 
-def is_const(text, at):
+def is_const(text: str, at: int) -> bool:
     """Whether the function whose name begins after this `fn` may be called where constants are
     made.
     """
     return bool(re.search(r"\bconst (?:unsafe )?$", text[:at]))
 
 
-def is_free(text, at):
-    """Whether the function whose name begins after this `fn` stands in no other item."""
+def is_free(text: str, at: int) -> bool:
+    """Whether the function whose name begins after this `fn` is in no other item."""
     return not text[text.rfind("\n", 0, at) + 1 : at].startswith(" ")
 
 
-def emptied(text, kept, only=None):
+def emptied(
+    text: str, kept: Container[str], only: Optional[Container[str]] = None
+) -> Tuple[str, Set[str]]:
     """A source whose functions have a body that is never reached, but those of the names that are
     kept, and where `only` names some no others; and the names of those that have theirs still. What
     makes constants keeps its body: it is run where they are made.
     """
-    whole, parts, copied, past = set(), [], 0, 0
+    copied, past = 0, 0
+    whole: Set[str] = set()
+    parts: List[str] = []
     for name, start, body, end in functions(text):
         if body < past:
             continue
@@ -80,7 +93,7 @@ def emptied(text, kept, only=None):
     return "".join([*parts, text[copied:]]), whole
 
 
-def place(path, text, old, new):
+def place(path: str, text: str, old: str, new: str) -> Optional[Place]:
     """The function whose body alone a pair changes: its file, its name, and how many before it have
     that name. None where it is more.
     """
@@ -95,8 +108,8 @@ def place(path, text, old, new):
     return None
 
 
-def span(text, name, number):
-    """Where a function stands with its attributes, of those of its name the one after so many."""
+def span(text: str, name: str, number: int) -> Tuple[int, int]:
+    """Where a function stands with its attributes, of those of its name the one after this number."""
     _, start, _, end = [each for each in functions(text) if each[0] == name][number]
     lines = text[:start].split("\n")
     first = len(lines) - 1
@@ -105,8 +118,8 @@ def span(text, name, number):
     return len("\n".join(lines[:first])) + 1, end
 
 
-def of_trait(text, at):
-    """Whether what stands there is a method of a trait, or of a trait's impl: a trait says which
+def of_trait(text: str, at: int) -> bool:
+    """Whether it is a method of a trait, or of a trait's impl: a trait says which
     methods there are.
     """
     heads = re.findall(r"^(?:pub(?:\(crate\))? )?(?:unsafe )?(?:impl|trait)\b.*", text[:at], re.M)
@@ -117,10 +130,11 @@ def of_trait(text, at):
     )
 
 
-def own_place(texts, body):
-    """The function of a wrong body that is written whole: its file, its name, and how many before
+def own_place(texts: Dict[str, str], body: Body) -> Optional[Place]:
+    """The function of a mutant that is written whole: its file, its name, and how many before
     it have that name. None where it is not there, or where more than one of its type can be meant.
     """
+    assert body.whole is not None
     *above, name = body.function.split("::")
     path, text = body.whole[0], texts[body.whole[0]]
     named = [start for each, start, *_ in functions(text) if each == name]
@@ -133,8 +147,8 @@ def own_place(texts, body):
     return (path, name, own[0]) if len(own) == 1 else None
 
 
-def is_of(text, at, owner):
-    """Whether what stands there is of a type's own impl."""
+def is_of(text: str, at: int, owner: str) -> bool:
+    """Whether it is of a type's own impl."""
     heads = re.findall(r"^(?:unsafe )?impl\b.*", text[:at], re.M)
     return (
         not is_free(text, at)
@@ -143,10 +157,11 @@ def is_of(text, at, owner):
     )
 
 
-def parameters(function):
+def parameters(function: str) -> List[str]:
     """The names of a function's parameters, `self` among them."""
     first = function.index("(", function.index("fn "))
-    depth, parts, begun = 0, [], first + 1
+    depth, start = 0, first + 1
+    parts: List[str] = []
     for mark in re.finditer(r"->|[(\[<{>\]}),]", function[first:]):
         at = first + mark.start()
         if mark[0] in ("(", "[", "<", "{"):
@@ -154,8 +169,8 @@ def parameters(function):
         elif mark[0] in (")", "]", ">", "}"):
             depth -= 1
         if depth == 0 or depth == 1 and mark[0] == ",":
-            parts.append(function[begun:at].strip())
-            begun = at + 1
+            parts.append(function[start:at].strip())
+            start = at + 1
         if depth == 0:
             break
     return [
@@ -165,13 +180,13 @@ def parameters(function):
     ]
 
 
-def with_body(function, text):
+def with_body(function: str, text: str) -> str:
     """A function with its attributes and its contract, and another body."""
     _, _, body, _ = functions(function)[0]
     return f"{function[:body]}{{ {text} }}"
 
 
-def called(function, path):
+def called(function: str, path: str) -> str:
     """A call of a function with its own parameters."""
     *above, name = path.split("::")
     words = parameters(function)
@@ -181,14 +196,15 @@ def called(function, path):
     return f"{owner}{name}({', '.join(words)})"
 
 
-def places(texts, body):
-    """The functions that a wrong body changes; None where it changes something outside of their
+def places(texts: Dict[str, str], body: Body) -> Optional[Set[Place]]:
+    """The functions that a mutant changes; None where it changes something outside of their
     bodies.
     """
     if body.whole:
-        at = own_place(texts, body)
-        return at and {at}
-    found, texts = set(), dict(texts)
+        own = own_place(texts, body)
+        return own and {own}
+    texts = dict(texts)
+    found: Set[Place] = set()
     for path, old, new in body.pairs:
         at = (
             place(path, texts[path], old, new)

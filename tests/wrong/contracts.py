@@ -1,9 +1,12 @@
-"""The clauses that the function of a wrong body has: a body that is held to another one would be in
+"""The clauses that the function of a mutant has: a body that is held to another one would be in
 a copy without any, which any body meets.
 """
+from __future__ import annotations
+
 import functools
 import glob
 import re
+from typing import Iterable, List, Optional
 
 from wrong import clauses, code, sources
 
@@ -11,15 +14,15 @@ NAMED = re.compile(r"ensures (\w+)")
 IMPL = re.compile(r"^(?:pub(?:\(crate\))? )?(?:unsafe )?(impl|trait)\b([^{]*)", re.M)
 
 
-def without_parameters(words):
+def without_parameters(words: str) -> str:
     """Return the words of a type without its type parameters."""
     while words != (words := re.sub(r"<[^<>]*>", "", words)):
         pass
     return words
 
 
-def owner_at(text, at):
-    """Return in whose impl or trait a function is, as the paths of wrong bodies name it: a type,
+def owner_at(text: str, at: int) -> str:
+    """Return in whose impl or trait a function is, as the paths of mutants name it: a type,
     and the trait after it if there is one.
     """
     if not text[:at].endswith("    "):
@@ -32,10 +35,12 @@ def owner_at(text, at):
         .strip()
         .split(" for ")
     ]
-    return "".join(re.match(r"&?\s*(?:mut )?(\w*)", part.strip())[1] for part in reversed(named))
+    return "".join(
+        re.sub(r"^&?\s*(?:mut )?(\w*)(?s:.*)", r"\1", part.strip()) for part in reversed(named)
+    )
 
 
-def contracts_in(text, owner, name):
+def contracts_in(text: str, owner: Optional[str], name: str) -> List[str]:
     """Return the contract of each function of a name in a source: those of an owner, or the free
     ones.
     """
@@ -50,7 +55,7 @@ def contracts_in(text, owner, name):
 
 
 @functools.cache
-def declared(name):
+def declared(name: str) -> List[str]:
     """Return the contract of each method of a name that a trait of the repository declares, with a
     body or without one.
     """
@@ -67,8 +72,8 @@ def declared(name):
     return found
 
 
-def contracts_of(body):
-    """Return the contracts of a wrong body's function: its own; those of the traits' methods of
+def contracts_of(body: sources.Body) -> List[str]:
+    """Return the contracts of a mutant's function: its own; those of the traits' methods of
     that name if its own promises nothing.
     """
     *above, name = body.function.split("::")
@@ -83,18 +88,18 @@ def contracts_of(body):
     return [*own, *([] if any(clauses.spans(contract) for contract in own) else declared(name))]
 
 
-def lacks(body):
-    """Check whether the clause that a wrong body is held to has a name that no contract of its
+def lacks(body: sources.Body) -> bool:
+    """Check whether the clause that a mutant is held to has a name that no contract of its
     function has.
     """
     named = NAMED.fullmatch(body.clause)
-    return bool(named) and named[1] not in {
+    return named is not None and named[1] not in {
         name for contract in contracts_of(body) for name, *_ in clauses.spans(contract)
     }
 
 
-def check(bodies):
-    """Raise `sources.Unread` for wrong bodies whose clause their function does not have."""
+def check(bodies: Iterable[sources.Body]) -> None:
+    """Raise `sources.Unread` for mutants whose clause their function does not have."""
     if lost := [
         f"{body.file}: {body.name}: {body.function} has no clause `{body.clause}`"
         for body in bodies

@@ -1,8 +1,11 @@
-"""What is written from the wrong bodies: docs/reference/mutants.md, and those in
+"""What is written from the mutants: docs/reference/mutants.md, and those in
 crates/*/must-fail, which `rt ci` tries.
 """
+from __future__ import annotations
+
 import glob
 import os
+from typing import Dict, Iterator, List, Optional, Tuple, Union
 
 from wrong import sources
 
@@ -68,7 +71,7 @@ takes a complete check of its crate, so this is a crate with a short check. `tes
 """
 
 
-def rows(crate):
+def rows(crate: str) -> Iterator[str]:
     """The table of a crate."""
     yield f"\n## `{crate}`\n\n| Mutant | Function | Clause |\n|---|---|---|\n"
     for body in sources.bodies(crate):
@@ -76,16 +79,17 @@ def rows(crate):
         yield f"| `{body.name}`{means} | `{body.function}` | `{body.clause}` |\n"
 
 
-def document():
+def document() -> str:
     """The page."""
     crates = sources.crates()
     count = sum(len(sources.bodies(crate)) for crate in crates)
     return FOREWORD.format(count=count) + "".join(line for crate in crates for line in rows(crate))
 
 
-def edit(body):
-    """A wrong body as `rt ci` reads it."""
-    lines, path = [], None
+def edit(body: sources.Body) -> str:
+    """A mutant as `rt ci` reads it."""
+    lines: List[str] = []
+    path: Optional[str] = None
     for at, old, new in body.pairs:
         lines += [f"file: {at}"] if at != path else []
         lines += [f"old: {old}", f"new: {new}" if new else "new:"]
@@ -93,8 +97,8 @@ def edit(body):
     return "\n".join(lines) + "\n"
 
 
-def tried(crate):
-    """The wrong bodies of a crate that `rt ci` tries: of each its file, and what stands there."""
+def tried(crate: str) -> Dict[str, str]:
+    """The mutants of a crate that `rt ci` tries: of each its file, and what stands there."""
     return {
         f"crates/{crate}/must-fail/{body.word}.edit": edit(body)
         for body in sources.bodies(crate)
@@ -102,19 +106,19 @@ def tried(crate):
     }
 
 
-def wanted():
-    """Each file that is written from the wrong bodies, with its text."""
+def wanted() -> Dict[str, str]:
+    """Each file that is written from the mutants, with its text."""
     edits = {path: text for crate in sources.crates() for path, text in tried(crate).items()}
     return {"docs/reference/mutants.md": document(), **edits}
 
 
-def there():
+def there() -> Dict[str, str]:
     """Each such file that there is, with its text."""
     paths = [PAGE, *glob.glob(f"{sources.TOP}/crates/*/must-fail/*")]
     return {os.path.relpath(path, sources.TOP): sources.text_of(path) for path in paths}
 
 
-def write(names):
+def write(names: Union[str, Tuple[str, ...]]) -> List[str]:
     """Writes those of the files whose names begin so, removes what else stands there, and returns
     the names of those that changed.
     """

@@ -1,4 +1,6 @@
 """Asks the prover for the functions of a round."""
+from __future__ import annotations
+
 import os
 import re
 import resource
@@ -6,8 +8,12 @@ import shutil
 import subprocess
 import tempfile
 from dataclasses import dataclass
+from typing import TYPE_CHECKING, Dict, Iterable, List, Optional, Sequence, Tuple
 
 from wrong import assumed, sources
+
+if TYPE_CHECKING:
+    from wrong.rounds import Round
 
 PARTS = "src", "specs", "proofs"
 # The octets of a file that a check may write: less than it makes of any function.
@@ -17,7 +23,7 @@ ENDED = re.compile(r"^only=\d+ (proved|holes)=\d+$", re.M)
 
 
 class Missing(Exception):
-    """What a check stands on and isn't there."""
+    """What a check depends on and isn't there."""
 
 
 @dataclass
@@ -29,7 +35,7 @@ class Said:
     seconds: float
 
 
-def kit():
+def kit() -> str:
     """The folder of the toolchain."""
     rt = shutil.which("rt")
     if not rt:
@@ -37,14 +43,16 @@ def kit():
     return os.path.dirname(os.path.dirname(os.path.realpath(rt)))
 
 
-def below(crates):
-    """The libraries that crates stand on, and the folders in which they are: those of the
+def below(crates: Iterable[str]) -> Dict[str, str]:
+    """The libraries that crates depend on, and the folders in which they are: those of the
     repository as `rt ci` has proved them.
     """
-    at, listed, found = kit(), sources.order_of_crates(), {"std": None}
-    for crate in crates:
-        found |= dict.fromkeys(listed[crate][0], crate)
-    for name, crate in found.items():
+    at, listed = kit(), sources.order_of_crates()
+    users: Dict[str, Optional[str]] = {"std": None}
+    found: Dict[str, str] = {}
+    for above in crates:
+        users |= dict.fromkeys(listed[above][0], above)
+    for name, crate in users.items():
         folder = f"{sources.TOP}/crates/{name}/out/rlib" if name in listed else f"{at}/rlibs"
         found[name] = f"{folder}/{name}.rlib"
         if not os.path.exists(found[name]):
@@ -55,8 +63,8 @@ def below(crates):
     return found
 
 
-def words_of(crates):
-    """The words of a check over the libraries that crates stand on, without what stands in it and
+def words_of(crates: Iterable[str]) -> List[str]:
+    """The words of a check over the libraries that crates depend on, without what is in it and
     is asked for.
     """
     at, listed = kit(), sources.order_of_crates()
@@ -75,7 +83,7 @@ def words_of(crates):
     return [*words, "--jobs", "1", "--allow-holes"]
 
 
-def run(words, room):
+def run(words: Sequence[str], room: str) -> Said:
     """Runs the words in a folder.
 
     No file gets as long as what is made of a function: where the prover can't write all that it
@@ -92,6 +100,7 @@ def run(words, room):
         restore_signals=False,
     )
     resource.prlimit(ran.pid, resource.RLIMIT_FSIZE, (LONGEST, LONGEST))
+    assert ran.stdout is not None
     with ran.stdout as out:
         text = out.read().decode(errors="replace")
     _, status, used = os.wait4(ran.pid, 0)
@@ -99,7 +108,7 @@ def run(words, room):
     return Said(text, ran.returncode, used.ru_utime + used.ru_stime)
 
 
-def lay(room, these, name):
+def lay(room: str, these: Round, name: str) -> None:
     """Lays a crate's folders with the texts of a round into the folder of a check, as a library of
     another name: of a program the function that begins it is one like others, and nothing that it
     calls is linked.
@@ -124,7 +133,7 @@ def lay(room, these, name):
             file.write(text)
 
 
-def said_of(text, room, name):
+def said_of(text: str, room: str, name: str) -> str:
     """Return what is said of one of several crates, as it would be said of it alone."""
     lines = re.sub(r"\n  +(?=\S)", " ", text).splitlines()
     return "\n".join(
@@ -134,10 +143,10 @@ def said_of(text, room, name):
     )
 
 
-def check(rounds):
+def check(rounds: Sequence[Round]) -> Tuple[List[Optional[str]], Said]:
     """What the prover says of the functions of each of some rounds, and all that it says.
 
-    They stand in one check, each as a library of a name of its own: what a check reads first, it
+    They are in one check, each as a library of a separate name: what a check reads first, it
     reads once for all of them. None of any where the check came to nothing.
     """
     with tempfile.TemporaryDirectory(prefix="wrong-bodies-") as room:

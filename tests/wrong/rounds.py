@@ -1,33 +1,36 @@
-"""Which wrong bodies stand together in one check: as many as can be, each in a copy of its function
+"""Which mutants stand together in one check: as many as can be, each in a copy of its function
 under another name.
 
 A copy has a copy of its function's proof. The function itself stays right, and so nothing that
-calls it is proved again. A method of a trait's impl can't be copied: such a wrong body stands in
+calls it is proved again. A method of a trait's impl can't be copied: such a mutant stands in
 the function itself.
 """
+from __future__ import annotations
+
 import math
 import os
 import re
+from typing import Dict, Iterable, List, Optional, Sequence, Set
 
 from wrong import clauses, code, sources
 
 
-def called(body):
-    """The names that a wrong body calls."""
+def called(body: sources.Body) -> Set[str]:
+    """The names that a mutant calls."""
     return {name for _, _, new in body.pairs for name in re.findall(r"\b(\w+)\(", new)}
 
 
-def called_before(body):
-    """The names that are called where a wrong body changes something."""
+def called_before(body: sources.Body) -> Set[str]:
+    """The names that are called where a mutant changes something."""
     return {name for _, old, _ in body.pairs for name in re.findall(r"\b(\w+)\(", old)}
 
 
-def last(path):
+def last(path: str) -> str:
     """The last word of a function's path."""
     return path.split("::")[-1]
 
 
-def shows_one(body, text):
+def shows_one(body: sources.Body, text: str) -> bool:
     """Whether a copy has to show one clause alone: not where its whole proof is written by hand and
     taken over, nor where its file lacks the sign of what says nothing.
     """
@@ -35,8 +38,8 @@ def shows_one(body, text):
     return "◌≡◌" in text and (bool(body.whole) or not sources.is_there(body.crate, by_hand))
 
 
-def copied(body, text, at, named):
-    """A function under another name with the wrong body in it, and of its contract the clause alone
+def copied(body: sources.Body, text: str, at: code.Place, named: str) -> Optional[str]:
+    """A function under another name with the mutant in it, and of its contract the clause alone
     that the body is held to; None where it can't be so.
     """
     _, name, before = at
@@ -54,7 +57,7 @@ def copied(body, text, at, named):
     return clauses.kept_alone(copy, body.clause) if shows_one(body, text) else copy
 
 
-def copied_proof(body, text, named):
+def copied_proof(body: sources.Body, text: str, named: str) -> Dict[str, str]:
     """The files of proof of a function for its copy of that name, without answers for clauses that
     the copy lacks. A body that is written whole has none: it stands on what the right function
     says.
@@ -74,16 +77,19 @@ def copied_proof(body, text, named):
 
 
 class Round:
-    """Wrong bodies that stand together, the functions that are asked for them, and the texts of the
+    """Mutants that stand together, the functions that are asked for them, and the texts of the
     files that they change.
     """
 
-    def __init__(self, crate):
-        self.crate, self.bodies, self.functions, self.taken = crate, [], {}, set()
+    def __init__(self, crate: str) -> None:
+        self.crate = crate
+        self.bodies: List[sources.Body] = []
+        self.functions: Dict[str, str] = {}
+        self.taken: Set[object] = set()
         self.texts = {path: text for (name, path), text in sources.CHANGED.items() if name == crate}
 
-    def add(self, body, places):
-        """Adds a wrong body that changes these functions, in a copy or in its function itself, and
+    def add(self, body: sources.Body, places: Set[code.Place]) -> bool:
+        """Adds a mutant that changes these functions, in a copy or in its function itself, and
         returns whether it fits. A right one goes into a copy alone: the function itself is proved
         already.
         """
@@ -93,8 +99,8 @@ class Round:
             and self.add_itself(body, places)
         )
 
-    def add_itself(self, body, places):
-        """Adds a wrong body in its function itself, where none of the functions that it changes is
+    def add_itself(self, body: sources.Body, places: Set[code.Place]) -> bool:
+        """Adds a mutant in its function itself, where none of the functions that it changes is
         taken.
         """
         texts = sources.applied(self.texts, body)
@@ -103,11 +109,12 @@ class Round:
         self.note(body, body.function, texts, places)
         return True
 
-    def leads_back(self, body):
-        """Whether a wrong body calls what another of the round has changed to call its function:
+    def leads_back(self, body: sources.Body) -> bool:
+        """Whether a mutant calls what another of the round has changed to call its function:
         calls in a cycle are no crate.
         """
-        found, more = set(), called(body)
+        found: Set[str] = set()
+        more = called(body)
         while more - found:
             found |= more
             more = {
@@ -118,8 +125,8 @@ class Round:
             }
         return last(body.function) in found - called_before(body)
 
-    def add_copy(self, body, places):
-        """Adds a wrong body in a copy of its function, which stays right: so all that calls it
+    def add_copy(self, body: sources.Body, places: Set[code.Place]) -> bool:
+        """Adds a mutant in a copy of its function, which stays right: so all that calls it
         stays as it is proved.
         """
         (at,) = places if len(places) == 1 else (None,)
@@ -142,8 +149,14 @@ class Round:
         self.note(body, "::".join([*body.function.split("::")[:-1], named]), texts, ())
         return True
 
-    def note(self, body, function, texts, places):
-        """Notes a wrong body that is in, the function that is asked for it, and those that it
+    def note(
+        self,
+        body: sources.Body,
+        function: str,
+        texts: Dict[str, str],
+        places: Iterable[code.Place],
+    ) -> None:
+        """Notes a mutant that is in, the function that is asked for it, and those that it
         changes.
         """
         self.bodies.append(body)
@@ -151,11 +164,11 @@ class Round:
         self.texts = texts
         self.taken |= {function, *places}
 
-    def asked(self):
+    def asked(self) -> List[str]:
         """The functions whose proofs are asked."""
         return list(dict.fromkeys(self.functions.values()))
 
-    def is_plain(self):
+    def is_plain(self) -> bool:
         """Whether it is of one body, which is in its function itself, calls that, or is right."""
         return len(self.bodies) == 1 and (
             bool(self.bodies[0].whole)
@@ -164,23 +177,24 @@ class Round:
         )
 
 
-def alone(body):
-    """A round of one wrong body, in its function itself, with all of its contract; in a copy where
+def alone(body: sources.Body) -> Round:
+    """A round of one mutant, in its function itself, with all of its contract; in a copy where
     it calls that, or is right.
     """
     found = Round(body.crate)
     if body.whole or body.is_right:
-        found.add_copy(body, code.places(sources.original(body), body))
+        found.add_copy(body, code.places(sources.original(body), body) or set())
     else:
         found.add_itself(body, set())
     return found
 
 
-def plan(crate, bodies, most=1000):
-    """The rounds of a crate, about equal and each of so many wrong bodies at the most, the largest
+def plan(crate: str, bodies: Sequence[sources.Body], most: int = 1000) -> List[Round]:
+    """The rounds of a crate, about equal and each of N mutants at the most, the largest
     first. What changes more than the bodies of functions stands alone: proofs of others see it.
     """
-    found, apart = [], []
+    found: List[Round] = []
+    apart: List[Round] = []
     parts = max(1, math.ceil(len(bodies) / most))
     most = math.ceil(len(bodies) / parts)
     for body in bodies:

@@ -1,4 +1,4 @@
-"""The wrong bodies as they are committed: crates/CRATE/wrong-bodies.edits.
+"""The mutants as they are committed: crates/CRATE/wrong-bodies.edits.
 
 A file has many, each with lines in front of what it changes:
 
@@ -17,9 +17,12 @@ A clause is `ensures` (one without a name, or where the prover doesn't say which
 `ensures of std's METHOD` or `ensures NAME of std's METHOD`, or `lemma NAME in FILE.antt` (a lemma
 on which the function's proof stands).
 """
+from __future__ import annotations
+
 import os
 import re
 from dataclasses import dataclass, field
+from typing import Dict, List, Optional, Tuple
 
 TOP = os.path.dirname(os.path.dirname(os.path.dirname(os.path.realpath(__file__))))
 FORMS = re.compile(
@@ -28,52 +31,56 @@ FORMS = re.compile(
 WORDS = "name", "function", "clause", "means", "must-fail"
 
 # Texts that stand in the place of a crate's own, by the crate and the file.
-CHANGED = {}
+CHANGED: Dict[Tuple[str, str], str] = {}
 
 
 class Unread(Exception):
-    """What is wrong with a file of wrong bodies."""
+    """What is wrong with a file of mutants."""
 
 
 @dataclass
 class Body:
-    """A wrong body: what it is, and its pairs of a file, the text there, and what takes its place;
+    """A mutant: what it is, and its pairs of a file, the text there, and what takes its place;
     or the file of its function and all that stands in its braces. Or the right body in the place of
     one.
     """
 
     crate: str
     file: str
-    said: dict = field(default_factory=dict)
-    pairs: list = field(default_factory=list)
-    whole: tuple = ()
+    said: Dict[str, str] = field(default_factory=dict)
+    pairs: List[Tuple[str, str, str]] = field(default_factory=list)
+    whole: Optional[Tuple[str, str]] = None
     is_right: bool = False
 
     @property
-    def name(self):
+    def name(self) -> str:
+        """Its name."""
         return f"{self.said['name']} (its right body)" if self.is_right else self.said["name"]
 
     @property
-    def function(self):
+    def function(self) -> str:
+        """The path of its function below the crate."""
         return self.said["function"]
 
     @property
-    def clause(self):
+    def clause(self) -> str:
+        """The clause that must fail."""
         return self.said["clause"]
 
     @property
-    def word(self):
+    def word(self) -> str:
         """Its name as one word, by which pages cite it."""
         return self.name.replace(" ", "_")
 
 
-def text_of(path):
+def text_of(path: str) -> str:
+    """Return the text of a file."""
     with open(path, encoding="utf-8") as text:
         return text.read()
 
 
-def read_line(body, line, changing):
-    """Adds a line of a file of wrong bodies to its body; `changing` holds the file and the text
+def read_line(body: Body, line: str, changing: Dict[str, str]) -> None:
+    """Adds a line of a file of mutants to its body; `changing` holds the file and the text
     that the next `new:` is for.
     """
     if said := re.fullmatch(r"# ([\w-]+): (.+)", line):
@@ -90,9 +97,10 @@ def read_line(body, line, changing):
         raise Unread(f"{body.file}: a line that is not read: {line}")
 
 
-def read(crate, path):
-    """The wrong bodies of a file."""
-    found, changing = [], {}
+def read(crate: str, path: str) -> List[Body]:
+    """The mutants of a file."""
+    found: List[Body] = []
+    changing: Dict[str, str] = {}
     for line in text_of(path).split("\n"):
         if line.startswith("# name: "):
             found.append(Body(crate, os.path.relpath(path, TOP)))
@@ -114,8 +122,8 @@ def read(crate, path):
     return found
 
 
-def bodies(crate):
-    """The wrong bodies of a crate, in the order of their names."""
+def bodies(crate: str) -> List[Body]:
+    """The mutants of a crate, in the order of their names."""
     found = (
         read(crate, f"{TOP}/crates/{crate}/wrong-bodies.edits")
         if is_there(crate, "wrong-bodies.edits")
@@ -124,7 +132,7 @@ def bodies(crate):
     return sorted(found, key=lambda body: body.name)
 
 
-def order_of_crates():
+def order_of_crates() -> Dict[str, Tuple[List[str], bool]]:
     """The crates in the order of crates.txt, lowest first: of each the libraries that it stands on,
     and whether C links it.
     """
@@ -137,30 +145,29 @@ def order_of_crates():
     return found
 
 
-def crates():
-    """The crates that have wrong bodies, lowest first."""
+def crates() -> List[str]:
+    """The crates that have mutants, lowest first."""
     return [crate for crate in order_of_crates() if is_there(crate, "wrong-bodies.edits")]
 
 
-def text_in(crate, path):
+def text_in(crate: str, path: str) -> str:
     """The text of a file of a crate."""
     return CHANGED.get((crate, path)) or text_of(f"{TOP}/crates/{crate}/{path}")
 
 
-def is_there(crate, path):
+def is_there(crate: str, path: str) -> bool:
     """Whether a crate has a file."""
     return os.path.exists(f"{TOP}/crates/{crate}/{path}")
 
 
-def original(body):
-    """The texts of the files that a wrong body changes."""
-    return {
-        path: text_in(body.crate, path) for path, *_ in [*body.pairs, *filter(None, [body.whole])]
-    }
+def original(body: Body) -> Dict[str, str]:
+    """The texts of the files that a mutant changes."""
+    paths = [path for path, _, _ in body.pairs] + ([body.whole[0]] if body.whole else [])
+    return {path: text_in(body.crate, path) for path in paths}
 
 
-def applied(texts, body):
-    """The texts with the wrong body in them, or None where a text that it replaces doesn't stand
+def applied(texts: Dict[str, str], body: Body) -> Optional[Dict[str, str]]:
+    """The texts with the mutant in them, or None where a text that it replaces doesn't stand
     there once.
     """
     texts = {**original(body), **texts}

@@ -1,7 +1,12 @@
-"""What the prover says of a function, and what a wrong body comes to by that."""
+"""What the prover says of a function, and what a mutant comes to by that."""
+from __future__ import annotations
+
 import os
 import re
 from dataclasses import dataclass, field
+from typing import Dict, List, Optional, Set, Tuple
+
+from wrong.sources import Body
 
 REFUSED, WEAK, OTHER, GONE, ACCEPTED, UNHEARD, UNTRIED = (
     "refused",
@@ -40,14 +45,14 @@ class Heard:
     """
 
     line: str = ""
-    open: list = field(default_factory=list)
-    by_hand: list = field(default_factory=list)
-    gone: list = field(default_factory=list)
-    rests: list = field(default_factory=list)
+    open: List[str] = field(default_factory=list)
+    by_hand: List[str] = field(default_factory=list)
+    gone: List[str] = field(default_factory=list)
+    rests: List[str] = field(default_factory=list)
     waits: bool = False
 
 
-def read_error(said, errors):
+def read_error(said: re.Match[str], errors: Dict[str, Heard]) -> None:
     """Notes what is wrong in a file of proofs: of a function's answers by the function, of lemmas
     by their file.
     """
@@ -64,9 +69,12 @@ def read_error(said, errors):
         found.by_hand.append(said[2])
 
 
-def hear(text):
+def hear(text: str) -> Dict[str, Heard]:
     """What is said of each function, and of each file of lemmas."""
-    found, goals, errors, waits = {}, [], {}, set()
+    found: Dict[str, Heard] = {}
+    goals: List[str] = []
+    errors: Dict[str, Heard] = {}
+    waits: Set[str] = set()
     # (what goes on in lines below stands in one)
     for line in re.sub(r"\n  +(?=\S)", " ", text).splitlines():
         line = line.removeprefix("help: ")
@@ -91,7 +99,7 @@ def hear(text):
     return found
 
 
-def of_clause(clause, goal):
+def of_clause(clause: str, goal: str) -> bool:
     """Whether a goal is of a clause."""
     kind, _, name = clause.partition(" ")
     if kind == "loop":
@@ -108,7 +116,7 @@ def of_clause(clause, goal):
     )
 
 
-def whose(found, function):
+def whose(found: Dict[str, Heard], function: str) -> Optional[Heard]:
     """What is heard of a function, or None: its path may stand longer in its line, as where it is
     of an `impl` in a function.
     """
@@ -117,8 +125,8 @@ def whose(found, function):
     return next((heard for path, heard in found.items() if path.endswith(f"::{function}")), None)
 
 
-def by_lemma(clause, found):
-    """What a wrong body comes to that is held to a lemma."""
+def by_lemma(clause: str, found: Dict[str, Heard]) -> Tuple[str, str]:
+    """What a mutant comes to that is held to a lemma."""
     _, lemma, _, file = clause.split(" ")
     heard = found.get(file, Heard())
     failing = heard.open + heard.by_hand
@@ -135,13 +143,13 @@ def by_lemma(clause, found):
     return (OTHER if elsewhere else ACCEPTED), ", ".join(elsewhere)
 
 
-def passing(body):
+def passing(body: Body) -> Tuple[str, ...]:
     """Return the verdicts with which a body passes, the plain one first."""
     return RIGHT if body.is_right else PASSED
 
 
-def judge(body, function, found):
-    """What a wrong body comes to that stands in this function, and what the prover names."""
+def judge(body: Body, function: str, found: Dict[str, Heard]) -> Tuple[str, str]:
+    """What a mutant comes to that stands in this function, and what the prover names."""
     if body.clause.startswith("lemma "):
         return by_lemma(body.clause, found)
     heard = whose(found, function)

@@ -1,13 +1,16 @@
-"""Takes away what the clause says that a wrong body is held to: the runner has to name that one as
+"""Takes away what the clause says that a mutant is held to: the runner has to name that one as
 accepted then.
 """
+from __future__ import annotations
+
 import re
+from typing import List, Tuple
 
 from wrong import clauses, code, sources, verdicts
 
 
-def contract_of(body):
-    """The file in which a wrong body's function stands, its text, and where its contract begins and
+def contract_of(body: sources.Body) -> Tuple[str, str, int, int]:
+    """The file in which a mutant's function stands, its text, and where its contract begins and
     ends.
     """
     texts = {path: sources.text_in(body.crate, path) for path in sources.original(body)}
@@ -17,10 +20,10 @@ def contract_of(body):
                 before
             ]
             return path, texts[path], start, first
-    raise SystemExit(f"{body.name}: its function is none of those that it changes")
+    raise SystemExit(f"{body.name}: it does not change its function")
 
 
-def clause_in(contract, clause):
+def clause_in(contract: str, clause: str) -> Tuple[int, int]:
     """The span of what a clause of a contract says."""
     held = clause.partition(" ")[2] or None
     for name, first, end in clauses.spans(contract):
@@ -29,7 +32,7 @@ def clause_in(contract, clause):
     raise SystemExit(f"the contract has no clause of the form {clause}")
 
 
-def without_answers(text, clause):
+def without_answers(text: str, clause: str) -> str:
     """A file of answers without those for the goals of a clause."""
     parts = re.split(r"\n(?=pub )", text)
     return "\n".join(
@@ -39,9 +42,9 @@ def without_answers(text, clause):
     )
 
 
-def take_away(crate, name):
-    """Takes away what the clause says that the wrong body of this name is held to, and the answers
-    for its goals. Returns the wrong bodies of its function.
+def take_away(crate: str, name: str) -> List[sources.Body]:
+    """Takes away what the clause says that the mutant of this name is held to, and the answers
+    for its goals. Returns the mutants of its function.
     """
     bodies = sources.bodies(crate)
     body = next(body for body in bodies if name in (body.name, body.word))

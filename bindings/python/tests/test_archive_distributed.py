@@ -124,14 +124,14 @@ def test_fails_with_one_line_without_a_scheduler(folder: str) -> None:
         # (it reports that it waits, and then that it stops waiting)
         wait = "distributed.FIRST_WAIT, distributed.LAST_WAIT = 0.5, 1"
         status, _, errors = failing(["--scheduler", address, tree], wait, python=python)
-        told = [
+        reported = [
             f"iim-archive: {address}: the scheduler {words}\n"
             for words in (
                 "has no worker yet; waiting 1 seconds at most",
                 "had no worker for 1 seconds",
             )
         ]
-        assert (status, errors) == (3, "".join(told))
+        assert (status, errors) == (3, "".join(reported))
 
 
 # Kills the process of this id after some rows are printed.

@@ -35,9 +35,9 @@ def at_terminal(text: str, words: Sequence[str]) -> Tuple[str, Row]:
     """Return the progress printed on a terminal, and the last line of standard output."""
     program = [sys.executable, "-c", MAIN.format(text), "--now", NOW, *words]
     with tempfile.TemporaryFile() as output:
-        told = told_at_terminal(program, output)
+        reported = told_at_terminal(program, output)
         output.seek(0)
-        return told.decode(), json.loads(output.read().splitlines()[-1])
+        return reported.decode(), json.loads(output.read().splitlines()[-1])
 
 
 def told_at_terminal(program: Sequence[str], output: Union[int, IO[bytes]]) -> bytes:
@@ -45,31 +45,31 @@ def told_at_terminal(program: Sequence[str], output: Union[int, IO[bytes]]) -> b
     mine, its = pty.openpty()
     process = subprocess.Popen(program, stdout=output, stderr=its, env=environment())
     os.close(its)
-    told = []
+    reported = []
     with contextlib.suppress(OSError):
         while piece := os.read(mine, 4096):
-            told.append(piece)
+            reported.append(piece)
     os.close(mine)
     assert process.wait(SECONDS) == 1
-    return b"".join(told)
+    return b"".join(reported)
 
 
 def test_prints_progress_on_a_terminal(folder: str) -> None:
     tree = random_tree(f"{folder}/tree")
     count = len(files_in(tree))
     for words in NO_ARGUMENTS, ["--into", f"{folder}/index"], ["--into", f"{folder}/index"]:
-        told, sums = at_terminal(
+        reported, sums = at_terminal(
             "progress.Progress.EVERY = 0\nsys.modules['tqdm'] = None",
             [*words, "--batch", "5", tree],
         )
-        last = told.splitlines()[-1]
+        last = reported.splitlines()[-1]
         of = f"{count} of {count} files, "
         assert (
             last.startswith(of)
             and " envelopes, " in last
             and " refused, " in last
             and last.endswith(" left")
-        ), f"{words}: {told[-300:]}"
+        ), f"{words}: {reported[-300:]}"
         assert sums["files"] == count
     # (not at each batch)
     assert at_terminal("progress.Progress.EVERY = 60\nsys.modules['tqdm'] = None", [tree])[0] == ""
@@ -81,8 +81,10 @@ def test_prints_progress_with_tqdm(folder: str) -> None:
     # (at each batch: by default tqdm reports nothing within a tenth of a second)
     text = MAIN.format("progress.Progress.EVERY = 0")
     program = [python, "-c", text, "--now", NOW, "--batch", "5", tree]
-    told = told_at_terminal(program, subprocess.DEVNULL)
-    assert b"% " in told and b"B/s" in told and b" files, " in told, repr(told[-300:])
+    reported = told_at_terminal(program, subprocess.DEVNULL)
+    assert b"% " in reported and b"B/s" in reported and b" files, " in reported, repr(
+        reported[-300:]
+    )
 
 
 def indexes_at_fault(folder: str, tree: str) -> List[Tuple[str, str]]:
@@ -180,9 +182,9 @@ def test_fails_with_one_line_and_status_three(folder: str) -> None:
     tree, index = random_tree(f"{folder}/tree"), f"{folder}/index"
     at_fault = indexes_at_fault(folder, tree)
     provoked: List[Tuple[Any, ...]] = []
-    for path, told in at_fault:
+    for path, reported in at_fault:
         for words in ["query", path], ["report", path], ["--into", path, tree]:
-            provoked.append((words, told))
+            provoked.append((words, reported))
     provoked += failing_outputs(tree, index) + provoked_failures(folder, tree, index)
     expect_failures(provoked)
     write_file(tree, "new.iim", SMALLEST)

@@ -108,10 +108,10 @@ def test_reads_only_new_or_changed_files(folder: str) -> None:
         "empty": 1,
         "failed": 0,
     }
-    told = [(os.path.relpath(row["file"], tree), row.get("length")) for row in query([index])[1]]
+    printed = [(os.path.relpath(row["file"], tree), row.get("length")) for row in query([index])[1]]
     want = [("a.iim", 114)] * 3 + [("b.iim", 246), ("b.iim", None), ("c.iim", 246), ("e.iim", 246)]
     want += [("e/f.iim", 114)] * 3 + [("e/ff.iim", None)] + [("e/g.iim", 114)] * 3
-    assert told == want
+    assert printed == want
     assert query(["--only", "gone", index])[1] == [{"file": f"{tree}/d.iim", "gone": True}]
     # (a file that is present again, and unchanged, is not read)
     write_file(tree, "d.iim", b"\x1d" * 342)

@@ -61,7 +61,7 @@ def test_reports_as_text_without_matplotlib(folder: str) -> None:
     path = os.pathsep.join([f"{folder}/without", environment()["PYTHONPATH"]])
     for module in "matplotlib", "jinja2":
         write_file(folder, f"without/{module}.py", b"raise ImportError\n")
-        told = archive_text(
+        printed = archive_text(
             "report",
             index,
             "--now",
@@ -70,11 +70,11 @@ def test_reports_as_text_without_matplotlib(folder: str) -> None:
             f"{folder}/out.html",
             PYTHONPATH=path,
         )
-        assert told[::2] == (
+        assert printed[::2] == (
             0,
             "no page is written: python3-matplotlib or python3-jinja2 is not installed\n",
         )
-        assert told[1] == archive_text("report", index, "--now", NOW)[1]
+        assert printed[1] == archive_text("report", index, "--now", NOW)[1]
         assert os.path.exists(f"{folder}/out.html") is False
 
 
@@ -138,8 +138,8 @@ DRAWN = """
 import re
 from iim.archive import page as archive_page, report as archive_report
 bars = archive_report.Bars("Bars", [("one", 1), ("two & <three>", 1234567)])
-told = archive_report.Content("name", "now", [], [bars], [], [])
-for each in told, told._replace(bars=[bars._replace(rows=[])]):
+printed = archive_report.Content("name", "now", [], [bars], [], [])
+for each in printed, printed._replace(bars=[bars._replace(rows=[])]):
     page = archive_page.page(each)
     print(page.count("<svg"), "1,234,567</text>" in page, "<three>" not in page)
 """

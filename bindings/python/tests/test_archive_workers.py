@@ -77,10 +77,10 @@ print(sorted(wrong))
 
 
 def test_survives_killed_runs() -> None:
-    told: List[str] = []
-    is_same, hit = kills.survive(400, 10, 3, told.append)
-    assert is_same, "\n".join(told)
-    assert hit >= 7, "\n".join(told)
+    reported: List[str] = []
+    is_same, hit = kills.survive(400, 10, 3, reported.append)
+    assert is_same, "\n".join(reported)
+    assert hit >= 7, "\n".join(reported)
 
 
 def test_ends_quietly_at_ctrl_c_and_at_sigterm(folder: str) -> None:
@@ -175,13 +175,13 @@ def test_ends_while_long_blocks_are_returned() -> None:
                 env=unmeasured(),
                 timeout=60,
             )
-            told = f"{1 + more} {{3000000}} []\n".encode()
+            reported = f"{1 + more} {{3000000}} []\n".encode()
             assert (killed, more, turn, ran.returncode, ran.stdout, ran.stderr) == (
                 killed,
                 more,
                 turn,
                 0,
-                told,
+                reported,
                 b"",
             )
 

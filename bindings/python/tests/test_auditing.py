@@ -230,7 +230,7 @@ def test_reports_unreadable_files_and_continues(folder: str) -> None:
             "empty": 0,
             "failed": 3,
         }
-        told = [(os.path.relpath(row["file"], folder), outcome(row)) for row in rows]
+        printed = [(os.path.relpath(row["file"], folder), outcome(row)) for row in rows]
         missing = "No such file or directory"
         want = [
             ("a/one.iim", 114),
@@ -238,7 +238,7 @@ def test_reports_unreadable_files_and_continues(folder: str) -> None:
             ("b/pipe.iim", "not a regular file"),
             ("b/two.iim", "Truncated"),
         ]
-        assert told == [*want, ("z.iim", 114), ("z.iim", "Marker"), ("absent", missing)]
+        assert printed == [*want, ("z.iim", 114), ("z.iim", "Marker"), ("absent", missing)]
         assert rows[4]["repeats"] == {"file": f"{folder}/a/one.iim", "envelope": 1}
     assert archive([f"{folder}/a/one.iim"])[0] == 0
     assert (

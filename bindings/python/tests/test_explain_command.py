@@ -206,8 +206,8 @@ def test_explains_a_long_file_in_little_memory(folder: str) -> None:
             env=environment(),
             timeout=SECONDS,
         )
-        told, _, used = ran.stdout.rpartition("used ")
-        assert (ran.returncode, ran.stderr, "Cause 25" in unwrapped(told)) == (1, "", True)
+        reported, _, used = ran.stdout.rpartition("used ")
+        assert (ran.returncode, ran.stderr, "Cause 25" in unwrapped(reported)) == (1, "", True)
         assert int(used) < 48 << 10, f"{int(used) >> 10} MB for {os.path.getsize(path) >> 20} MB"
-        assert len(told.splitlines()) < 900, f"{len(told.splitlines())} lines"
+        assert len(reported.splitlines()) < 900, f"{len(reported.splitlines())} lines"
         assert os.path.getsize(f"{folder}/page.html") <= 2 << 20, "the page is long"

@@ -217,11 +217,11 @@ def change_explained(changes: Sequence[Change]) -> Tried:
         refused += 1
         tries = case.wholes[-1].tries
         assert tries
-        told = tries.reported_fixes()[: explain_sections.CHANGES]
-        there = any(each.first <= at <= each.last and whole[at] in each.octets for each in told)
+        outputs = tries.reported_fixes()[: explain_sections.CHANGES]
+        there = any(each.first <= at <= each.last and whole[at] in each.octets for each in outputs)
         if not there and not (at == case.refusal.octet and whole[at] in tries.accepted):
             lost.append((len(whole), at, value, str(case.refusal)))
-        for each in told:
+        for each in outputs:
             for octet in random.Random(at).sample(sorted(each.octets), min(3, len(each.octets))):
                 valid, is_whole = reach(
                     octets[: each.first] + bytes([octet]) + octets[each.first + 1 :]
@@ -296,8 +296,8 @@ def test_lists_the_likeliest_fix_first() -> None:
                 whole.setdefault(at, set()).add(value)
     assert sorted(whole) == sorted(MENDING)
     assert (whole[79], whole[94], whole[66]) == ({UNSIGNED[79] ^ 0x10}, set(b"+-"), {0x20})
-    told = tries.reported_fixes()
-    assert [(each.first, each.last, each.octets, each.whole) for each in told] == [
+    outputs = tries.reported_fixes()
+    assert [(each.first, each.last, each.octets, each.whole) for each in outputs] == [
         (at, at, frozenset(whole[at]), True) for at in MENDING
     ]
     printed = text_told(case).partition("SINGLE-BYTE FIXES\n")[2].partition("\n\n")[0]

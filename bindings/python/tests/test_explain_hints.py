@@ -180,8 +180,8 @@ def test_names_its_sections(folder: str) -> None:
 def test_states_that_nothing_was_repaired(folder: str) -> None:
     for name, (octets, _) in explained_samples().items():
         case = case_of(octets)
-        told = [unwrapped(text_told(case)), unwrapped(explain_page.page(case))]
-        assert (name, [explain_sections.NOTE in each for each in told]) == (
+        reported = [unwrapped(text_told(case)), unwrapped(explain_page.page(case))]
+        assert (name, [explain_sections.NOTE in each for each in reported]) == (
             name,
             [case.refusal is not None] * 2,
         )

@@ -85,8 +85,10 @@ def test_lists_each_part_of_an_envelope(folder: str) -> None:
         items = whole.walk.items
         datasets = [item for item in items if item.kind == "dataset"]
         assert b"".join(octets[item.at : item.at + item.length] for item in datasets) == octets
-        told = [octets[item.at : item.at + item.length] for item in items if item.kind != "dataset"]
-        assert b"".join(told) == b"".join(
+        printed = [
+            octets[item.at : item.at + item.length] for item in items if item.kind != "dataset"
+        ]
+        assert b"".join(printed) == b"".join(
             octets[item.at + item.head : item.at + item.length]
             for item in datasets
             if item.record == 8
@@ -240,26 +242,26 @@ def test_truncates_texts_between_escapes(folder: str) -> None:
 def test_never_truncates_the_file_name(folder: str) -> None:
     for name in "a" * 250 + ".iim", "\u202e" * 80, "big.iim":
         octets = SMALLEST * 1_000 + b"\n" * 11_500_001
-        told = list(explain_text.lines(case_of(octets, name=name), explain_text.Paint(False)))
-        assert told[0].startswith(explain_words.printable(name) + ":") is True
+        printed = list(explain_text.lines(case_of(octets, name=name), explain_text.Paint(False)))
+        assert printed[0].startswith(explain_words.printable(name) + ":") is True
         verdict = "11,614,001 octets, 1,000 envelopes accepted, envelope 1,001 refused"
-        assert verdict in unwrapped(" ".join(told[:3])) and all(
-            len(line) <= 80 for line in told[1:3]
-        ), told[:3]
+        assert verdict in unwrapped(" ".join(printed[:3])) and all(
+            len(line) <= 80 for line in printed[1:3]
+        ), printed[:3]
 
 
 def test_prints_rows_as_wide_as_the_terminal(folder: str) -> None:
     path = write_file(folder, "wide.iim", of_service(b"NTB")[:-1])
     longest = {}
     for columns in 40, 70, 100, 140:
-        told = (
+        printed = (
             on_a_terminal(["explain", path], columns, NO_COLOR="1").decode().replace("\r\n", "\n")
         )
         # (the hexadecimal dump has 78 columns)
         longest[columns] = max(
-            len(line) for line in told.splitlines() if not re.match("  [0-9A-F]{8} ", line)
+            len(line) for line in printed.splitlines() if not re.match("  [0-9A-F]{8} ", line)
         )
-        assert "..." in told, told
+        assert "..." in printed, printed
     # (rows have at least 70 columns)
     assert {
         columns: 60 <= most <= max(70, columns) for columns, most in longest.items()

@@ -86,14 +86,14 @@ def test_runs_the_c_program_of_the_guide(command: Path) -> None:
             want = rules.read(octets)
             headline = rules.first(want.fields, 2, 105)
             if not want.is_done:
-                told = 1, "", f"{want.refusal or want.end()}\n"
+                reported = 1, "", f"{want.refusal or want.end()}\n"
             else:
-                told = (
+                reported = (
                     (1, "", "the envelope has no headline\n")
                     if headline is None
                     else (0, f"{headline.decode()}\n", "")
                 )
-            assert (name, run_shell(f"./headline samples/{name}", folder)) == (name, told)
+            assert (name, run_shell(f"./headline samples/{name}", folder)) == (name, reported)
 
 
 def test_runs_the_python_programs_of_the_guide(command: Path) -> None:
@@ -103,8 +103,8 @@ def test_runs_the_python_programs_of_the_guide(command: Path) -> None:
         words, output = block("python", "sh", "receive.py")
         assert run_shell(words, folder) == (0, output, "")
         refused = "1 refused at octet 54 by layer record on 1:70, cause 15 BadValue"
-        told = f"octet 54 of the file: {refused}\n"
-        assert run_shell(words.replace("stream", "damaged/bad_value"), folder) == (1, "", told)
+        reported = f"octet 54 of the file: {refused}\n"
+        assert run_shell(words.replace("stream", "damaged/bad_value"), folder) == (1, "", reported)
         assert run_shell(words.replace("stream", "damaged/truncated"), folder) == (
             1,
             "",
@@ -228,10 +228,10 @@ def test_runs_the_python_lines_of_the_readme(command: Path) -> None:
     (program,) = [text for name, text in blocks("README.md") if name == "python"]
     with clone(command) as folder:
         write_file(folder, "lines.py", program.encode())
-        told = "b'TST' b'Rates held' [b'Rates stay.', b'No change.']\n"
+        reported = "b'TST' b'Rates held' [b'Rates stay.', b'No change.']\n"
         assert run_shell(f"PYTHONPATH=bindings/python/src {sys.executable} lines.py", folder) == (
             0,
-            told,
+            reported,
             "",
         )
 

@@ -55,9 +55,9 @@ def told_by_a_compiler(lines: List[str]) -> List[str]:
             *lines,
             "return 0; }",
         ]
-        path = write_file(folder, "told.c", "\n".join(lines).encode())
-        assert run([compiler, "-I", f"{TOP}/bindings/c", path, "-o", f"{folder}/told"])[0] == 0
-        return run([f"{folder}/told"])[1].decode().splitlines()
+        path = write_file(folder, "reported.c", "\n".join(lines).encode())
+        assert run([compiler, "-I", f"{TOP}/bindings/c", path, "-o", f"{folder}/reported"])[0] == 0
+        return run([f"{folder}/reported"])[1].decode().splitlines()
 
 
 def test_declares_the_structs_of_the_header() -> None:

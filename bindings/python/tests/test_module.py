@@ -165,7 +165,7 @@ def test_reports_a_closed_pipe_and_a_full_disk() -> None:
     closed = b"python3 -m iim: standard output: Broken pipe\n"
     of_module, of_archive = [*MODULE, f"{SAMPLES}/story.iim"], [*ARCHIVE, str(SAMPLES)]
     # (iim-archive ends without an error if its reader has closed the pipe)
-    for words, told in (of_module, closed), (of_archive, b""):
+    for words, printed in (of_module, closed), (of_archive, b""):
         ran = subprocess.run(
             words,
             stdout=writer,
@@ -173,11 +173,11 @@ def test_reports_a_closed_pipe_and_a_full_disk() -> None:
             env=environment(),
             timeout=SECONDS,
         )
-        assert (words, ran.returncode, ran.stderr) == (words, 3, told)
+        assert (words, ran.returncode, ran.stderr) == (words, 3, printed)
     os.close(writer)
     with open("/dev/full", "wb") as full:
         for words, name in (of_module, "python3 -m iim"), (of_archive, "iim-archive"):
-            told = f"{name}: standard output: No space left on device\n".encode()
+            printed = f"{name}: standard output: No space left on device\n".encode()
             ran = subprocess.run(
                 words,
                 stdout=full,
@@ -185,7 +185,7 @@ def test_reports_a_closed_pipe_and_a_full_disk() -> None:
                 env=environment(),
                 timeout=SECONDS,
             )
-            assert (words, ran.returncode, ran.stderr) == (words, 3, told)
+            assert (words, ran.returncode, ran.stderr) == (words, 3, printed)
 
 
 def test_reports_a_missing_library(folder: str) -> None:

@@ -292,13 +292,13 @@ def test_lists_the_bytes_accepted_next() -> None:
             receiver.feed(whole[:count])
             ticket = receiver.current_ticket() if count else b""
             _library.library.iim_next(receiver._limits, ticket, len(ticket), next_ones, answer)
-            told = [octet for octet in range(256) if next_ones.bits[octet // 8] >> octet % 8 & 1]
+            printed = [octet for octet in range(256) if next_ones.bits[octet // 8] >> octet % 8 & 1]
             fits = [
                 octet
                 for octet in range(256)
                 if rules.read(whole[:count] + bytes([octet])).refusal is None
             ]
-            assert (count, answer.status, told) == (count, _library.MORE, fits)
+            assert (count, answer.status, printed) == (count, _library.MORE, fits)
 
 
 def test_locates_the_rejected_token() -> None:

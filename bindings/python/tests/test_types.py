@@ -62,16 +62,16 @@ def test_types_each_named_dataset() -> None:
 def test_mypy_accepts_the_package(mypy: List[Name]) -> None:
     names = modules()
     assert len(names) > 20 and (PACKAGE / "py.typed").exists()
-    told = f"Success: no issues found in {len(names)} source files\n"
-    assert typed(mypy, *names) == (0, told, "")
+    printed = f"Success: no issues found in {len(names)} source files\n"
+    assert typed(mypy, *names) == (0, printed, "")
 
 
 def test_mypy_accepts_the_oldest_python(mypy: List[Name], folder: str) -> None:
     settings = text_of(TOP / "bindings" / "python" / "pyproject.toml")
     (claimed,) = re.findall(r'^requires-python = ">= (3\.\d+)"$', settings, re.M)
     names = modules()
-    told = (0, f"Success: no issues found in {len(names)} source files\n", "")
-    assert typed(mypy, "--python-version", claimed, *names) == told
+    printed = (0, f"Success: no issues found in {len(names)} source files\n", "")
+    assert typed(mypy, "--python-version", claimed, *names) == printed
     # (and it detects attributes that the module lacks)
     text = "def joined(one: dict[str, int], other: dict[str, int]) -> dict[str, int]:\n"
     path = write_file(folder, "newer.py", f"{text}    return one | other\n".encode())
@@ -102,8 +102,8 @@ def test_mypy_finds_an_unknown_dataset_name(mypy: List[Name], folder: str) -> No
         "    print(envelope.headlin)",
         "    print(envelope.bylines.text('ascii'))\n",
     ]
-    status, told, _ = typed(mypy, write_file(folder, "wrong.py", "\n".join(lines).encode()))
-    found = re.findall(r":(\d+): error: .* has no attribute \"(\w+)\"", told)
+    status, printed, _ = typed(mypy, write_file(folder, "wrong.py", "\n".join(lines).encode()))
+    found = re.findall(r":(\d+): error: .* has no attribute \"(\w+)\"", printed)
     assert (status, found) == (1, [("4", "headlin"), ("5", "text")])
 
 
@@ -111,6 +111,6 @@ def test_pydoc_works_without_the_library(folder: str) -> None:
     shutil.copytree(PACKAGE, f"{folder}/iim", ignore=shutil.ignore_patterns("__pycache__"))
     words = [sys.executable, "-m", "pydoc", "iim"]
     env = {**os.environ, "IIM_LIBRARY": f"{folder}/none.so", "PYTHONPATH": folder}
-    status, told, _ = run_text(words, env=env)
-    assert (status, "class Envelope" in told) == (0, True)
-    assert "def read(" in told or "read(file" in told
+    status, printed, _ = run_text(words, env=env)
+    assert (status, "class Envelope" in printed) == (0, True)
+    assert "def read(" in printed or "read(file" in printed

@@ -111,11 +111,11 @@ def expect_failures(provoked: Sequence[Tuple[Any, ...]]) -> None:
             `failing`.
     """
     wrong = []
-    for words, told, *more in provoked:
+    for words, printed, *more in provoked:
         status, _, errors = failing(words, **(more[0] if more else {}))
         found = status, errors.count("\n"), errors.startswith("iim-archive: ")
-        if found != (3, 1, True) or told not in errors or "Traceback" in errors:
-            wrong.append(f"{words} {more}: status {status}, {errors!r}, and not {told!r}")
+        if found != (3, 1, True) or printed not in errors or "Traceback" in errors:
+            wrong.append(f"{words} {more}: status {status}, {errors!r}, and not {printed!r}")
     assert wrong == []
 
 
@@ -216,13 +216,13 @@ def audit_line(at: int, row: Row, repeats: Optional[int]) -> str:
 
 def check_line(row: Row) -> Tuple[str, int]:
     """Return a row's line of `check`, and the offset of the rejected byte or the envelope's end."""
-    told = row.get("refused")
-    if told is None:
+    printed = row.get("refused")
+    if printed is None:
         accepted = f"{row['envelope']} accepted {row['length']} octets"
         return accepted, row["at"] + row["length"]
-    place = f"octet {told['octet']} by layer {told['layer']} on {told['dataset']}"
-    cause = f"cause {told['cause']} {told['cause_name']}"
-    return f"{row['envelope']} refused at {place}, {cause}", told["octet_in_file"]
+    place = f"octet {printed['octet']} by layer {printed['layer']} on {printed['dataset']}"
+    cause = f"cause {printed['cause']} {printed['cause_name']}"
+    return f"{row['envelope']} refused at {place}, {cause}", printed["octet_in_file"]
 
 
 def expect_audit(command: Path, rows: List[Row], sums: Row, folder: str) -> None:
