@@ -127,11 +127,11 @@ def test_admits_values_by_the_rules(program: Path, count_cases: Callable[[int], 
     count_cases(len(asked))
 
 
-# Results for the smallest envelope, of 114 bytes, derived by hand from docs/reference/format.md and
-# the header: status, layer, cause, record, number, octet, used, written and ticket. Its 27th byte is in
-# the data of 1:30. The ticket there has 79 bytes; at the end it has 135, of which 69 are the seven
-# datasets (six each, and 27 of data), 28 the numbers of record 7, and 12 the texts of the message
-# (seven, and five bytes).
+# Results for the smallest envelope, of 114 bytes, derived by hand from docs/reference/format.md
+# and the header: status, layer, cause, record, number, octet, used, written and ticket. Its 27th
+# byte is in the data of 1:30. The ticket there has 79 bytes; at the end it has 135, of which 69
+# are the seven datasets (six each, and 27 of data), 28 the numbers of record 7,
+# and 12 the texts of the message (seven, and five bytes).
 VALUES = """\
 done 0 0 0 0 0 114 114 0 0
 more 1 0 0 0 0 27 27 0 79

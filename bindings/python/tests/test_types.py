@@ -82,7 +82,7 @@ def test_mypy_accepts_the_oldest_python(mypy: List[Name], folder: str) -> None:
 
 
 def test_mypy_accepts_the_scripts(mypy: List[Name]) -> None:
-    for path in "build", "packages/sbom", "packages/spdx.py":
+    for path in "build", "packages/sbom", "tests/support/spdx.py":
         assert (path, *run_text([*mypy, TOP / path])) == (path, 0, SUCCESS, "")
 
 
