@@ -60,7 +60,7 @@ def test_rejects_a_clause_that_no_contract_has() -> None:
     wrong_contracts.check(everyone)
     # (a name that the crate has, and the function has not)
     held = next(
-        body for body in everyone if body.word == "last_piece_of_seven_octets_is_not_counted"
+        body for body in everyone if body.word == "last_chunk_of_seven_octets_is_not_counted"
     )
     assert (
         wrong_contracts.lacks(
@@ -82,13 +82,13 @@ def test_rejects_a_clause_that_no_contract_has() -> None:
 def test_judges_a_right_body_in_its_copy_alone() -> None:
     """Check that a correct body is judged in its copy of the function alone."""
     body = next(
-        body for body in wrong_bodies.bodies("iim_dataset") if body.function == "place::is_inside"
+        body for body in wrong_bodies.bodies("iim_dataset") if body.function == "place::has_data_remaining"
     )
     (right_one,) = right.copies([body, body])
     # (in the function itself it would be proved whatever becomes of a copy)
     assert [rounds.alone(each).asked() for each in (body, right_one)] == [
-        ["place::is_inside"],
-        ["place::is_inside_right_1"],
+        ["place::has_data_remaining"],
+        ["place::has_data_remaining_right_1"],
     ]
     assert [verdicts.passing(each)[0] for each in (body, right_one)] == [
         verdicts.REFUSED,

@@ -3,7 +3,7 @@
 ghost use Rattle.std.specs.Prelude.{◌≡◌, List, None, IfOk};
 ghost use Rattle.iim_audit.specs.Format.{IsAudited, printed_report};
 ghost use Rattle.iim_audit.specs.declared.row.AuditRow.{AuditRow};
-ghost use Rattle.iim_unpack.specs.States.Intakes.{in_line};
+ghost use Rattle.iim_unpack.specs.States.Intakes.{input_of};
 
 use iim_audit::{AuditCause, audit, report_text};
 use iim_dataset::Source;
@@ -21,7 +21,7 @@ pub(crate) fn report_of<R: Source>(
 ) -> Result<Vec<u8>, AuditCause>
     requires { intake.old.failed ≡ None }
     ensures { IfOk result (λ text. (rows : List AuditRow)
-        × IsAudited limits now.nanosecond (in_line R.state intake.old) (in_line R.state intake.new) rows
+        × IsAudited limits now.nanosecond (input_of R.state intake.old) (input_of R.state intake.new) rows
         × (text.items ≡ printed_report rows)) }
 {
     match audit(alloc, intake, limits, now) {

@@ -1,7 +1,7 @@
 //! A caller of `iim_pack`.
 
 ghost use Rattle.std.specs.Prelude.{ℕ, List, [], map, IfOk};
-ghost use Rattle.iim_dataset.specs.States.Devices.{Wrote};
+ghost use Rattle.iim_dataset.specs.States.Devices.{WroteAllOf};
 ghost use Rattle.iim_pack.specs.Format.Packed.{Packed};
 ghost use Rattle.wire_story.specs.Format.Texts.{LineOctet};
 ghost use Rattle.wire_story.specs.Format.Packing.{lines_of};
@@ -24,7 +24,7 @@ pub fn pack_line<W: Target + Drop>(
 ) -> Result<W, PackCause>
     ensures { IfOk result (λ out. (form : List ℕ)
         × Packed envelope.now head.now (lines_of (map LineOctet line.now)) [] plan form
-        × Wrote (W.state writer) (W.state out) form) }
+        × WroteAllOf (W.state writer) (W.state out) form) }
 {
     let mut packer = match Packer::start(alloc, envelope, head, plan, writer) {
         Ok(packer) => packer,

@@ -2,7 +2,7 @@
 
 ghost use Rattle.std.specs.Prelude.{◌≡◌, IfSome};
 ghost use Rattle.iim_places.specs.Format.Tickets.{Place};
-ghost use Rattle.iim_places.specs.States.Restored.{IsTicketAt};
+ghost use Rattle.iim_places.specs.States.Restored.{EncodesPlace};
 
 use iim_places::laws::place_laws;
 use iim_places::split_ticket;
@@ -10,7 +10,7 @@ use iim_places::split_ticket;
 /// Returns the number of octets of the object that were received before a ticket was saved, or
 /// `None` if the octets are not a ticket.
 pub fn octets_of_object(ticket: &[u8]) -> Option<u64>
-    ensures { IfSome result (λ taken. (place : Place) → IsTicketAt ticket.now place → taken ≡ place.taken) }
+    ensures { IfSome result (λ taken. (place : Place) → EncodesPlace ticket.now place → taken ≡ place.taken) }
 {
     place_laws();
     match split_ticket(ticket) {

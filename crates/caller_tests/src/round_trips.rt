@@ -1,7 +1,7 @@
 //! A caller of `iim_round_trip`.
 
 ghost use Rattle.std.specs.Prelude.{IfSome};
-ghost use Rattle.iim_round_trip.specs.Format.Stories.{ComesBack};
+ghost use Rattle.iim_round_trip.specs.Format.Stories.{ReturnsPackedStory};
 ghost use Rattle.iim_unpack.specs.Format.Pieces.{stream_of};
 
 use iim_fields::Limits;
@@ -11,7 +11,7 @@ use std::alloc::Global;
 /// Returns the envelope that was packed, with its lines and sizes and its length, if the chunks
 /// begin with it.
 pub fn unpacked(alloc: Global, limits: Limits, pieces: &[&[u8]]) -> Option<Story>
-    ensures { IfSome result (ComesBack limits (stream_of pieces.now)) }
+    ensures { IfSome result (ReturnsPackedStory limits (stream_of pieces.now)) }
 {
     match unpack_story(alloc, limits, pieces) {
         Ok(story) => Some(story),

@@ -1,14 +1,14 @@
 //! A caller of `iim_tables`.
 
 ghost use Rattle.std.specs.Prelude.{◌↔◌, IsTrue};
-ghost use Rattle.iim_tables.specs.Format.Rows.{Meets};
+ghost use Rattle.iim_tables.specs.Format.Rows.{OctetsMeetRow};
 
 use iim_tables::{admits, row};
 
 /// Checks whether octets are valid data of the dataset with these numbers: it has a row, and the
 /// octets are as that requires.
 pub fn is_good(rec: u8, set: u8, octets: &[u8]) -> bool
-    ensures { IsTrue result ↔ Meets rec set octets.now }
+    ensures { IsTrue result ↔ OctetsMeetRow rec set octets.now }
 {
     match row(rec, set) {
         Some(row) => admits(&row, octets),

@@ -68,7 +68,7 @@ fn expect_rows(rows: &[AuditRow]) -> Result<(), Trouble> {
     }
 }
 
-fn rows_of_a_report(alloc: Global) -> Result<(), Trouble> {
+fn returns_one_row_for_an_envelope(alloc: Global) -> Result<(), Trouble> {
     match report_of(alloc, FromRead::new(TIMED), noon()?) {
         Ok(report) => expect_rows(report.rows()),
         Err(_) => Err(Trouble::Wrong),
@@ -115,7 +115,7 @@ fn expect_interruptions(alloc: Global, octets: &[u8]) -> Result<(), Trouble> {
     Ok(())
 }
 
-fn failing_readers(alloc: Global) -> Result<(), Trouble> {
+fn audits_report_failed_reads(alloc: Global) -> Result<(), Trouble> {
     let octets = joined(alloc, &[SMALLEST.as_slice(), SMALLEST])?;
     expect_failures(alloc, &octets)?;
     expect_interruptions(alloc, &octets)
@@ -180,7 +180,7 @@ impl Read for Again {
     }
 }
 
-fn one_envelope_too_many(alloc: Global) -> Result<(), Trouble> {
+fn rejects_envelope_1000001(alloc: Global) -> Result<(), Trouble> {
     let reader = FromRead::new(Again::new(1_000_001));
     let answer = rows_of(report_of(alloc, reader, noon()?));
     let fault = AuditFault {
@@ -192,7 +192,19 @@ fn one_envelope_too_many(alloc: Global) -> Result<(), Trouble> {
 
 /// Runs the tests of audits.
 pub(crate) fn tell(rt: &impl Print, told: &mut Told, alloc: Global) -> io::Result<()> {
-    told.trial(rt, "rows_of_a_report", rows_of_a_report(alloc))?;
-    told.trial(rt, "failing_readers", failing_readers(alloc))?;
-    told.trial(rt, "one_envelope_too_many", one_envelope_too_many(alloc))
+    told.trial(
+        rt,
+        "returns_one_row_for_an_envelope",
+        returns_one_row_for_an_envelope(alloc),
+    )?;
+    told.trial(
+        rt,
+        "audits_report_failed_reads",
+        audits_report_failed_reads(alloc),
+    )?;
+    told.trial(
+        rt,
+        "rejects_envelope_1000001",
+        rejects_envelope_1000001(alloc),
+    )
 }

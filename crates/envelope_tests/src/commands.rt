@@ -6,7 +6,7 @@ use crate::told::Told;
 use iim_listing::check::Check;
 use iim_listing::input::Input;
 use iim_listing::list::list;
-use iim_listing::story::narrate;
+use iim_listing::story::write_stories;
 use iim_output::fault::CommandFault;
 use iim_output::status::ACCEPTED;
 use iim_pack_script::packing::{PackRequest, pack_script};
@@ -102,7 +102,7 @@ fn told(
     errors: &mut TrialWriter<256>,
 ) -> Result<u8, CommandFault> {
     let reader = TrialReader::new(STORY, CALM.0, CALM.1);
-    narrate(alloc, &mut Input::new(reader), output, errors)
+    write_stories(alloc, &mut Input::new(reader), output, errors)
 }
 
 /// Checks whether `story` of the envelope has the expected result and output.
@@ -134,12 +134,12 @@ fn reads_past(alloc: Global, trouble: DeviceTrouble, want: Want, octets: usize) 
     is_checked(alloc, input, writer(CALM), want) && packed(alloc, input) == (want.answer, octets, 0)
 }
 
-fn reads_past_interruptions(alloc: Global) -> Result<(), Trouble> {
+fn commands_read_past_interruptions(alloc: Global) -> Result<(), Trouble> {
     right(reads_past(alloc, BORNE, CHECKED, 114))?;
     right(reads_past(alloc, FAULT, UNREAD, 0))
 }
 
-fn tells_past_interruptions(alloc: Global) -> Result<(), Trouble> {
+fn story_stops_after_a_million_interruptions(alloc: Global) -> Result<(), Trouble> {
     for good in [0usize, 1, 7, 11, 12, 21, 22] {
         let (front, _) = TEXT.split_at(TEXT.len().min(good));
         let output = (good as u64, FAULT);
@@ -148,7 +148,7 @@ fn tells_past_interruptions(alloc: Global) -> Result<(), Trouble> {
     Ok(())
 }
 
-fn writes_past_interruptions(alloc: Global) -> Result<(), Trouble> {
+fn check_stops_after_a_million_interruptions(alloc: Global) -> Result<(), Trouble> {
     for good in [0usize, 1, 7, 21] {
         let (front, _) = LINE.split_at(LINE.len().min(good));
         let output = writer((good as u64, FAULT));
@@ -157,26 +157,30 @@ fn writes_past_interruptions(alloc: Global) -> Result<(), Trouble> {
     Ok(())
 }
 
-fn bears_interruptions(alloc: Global) -> Result<(), Trouble> {
+fn commands_write_past_interruptions(alloc: Global) -> Result<(), Trouble> {
     let slow = (4, BORNE);
     right(is_checked(alloc, CALM, writer(slow), CHECKED))?;
     right(is_told(alloc, slow, slow, TOLD))
 }
 
-fn a_full_output_takes_nothing(alloc: Global) -> Result<(), Trouble> {
+fn check_stops_at_a_full_output(alloc: Global) -> Result<(), Trouble> {
     let output: TrialWriter<3> = TrialWriter::new(0, DeviceTrouble::Interruptions(0));
     right(is_checked(alloc, CALM, output, cut(b"1 a")))
 }
 
 /// Runs the tests of commands.
 pub(crate) fn tell(rt: &impl Print, told: &mut Told, alloc: Global) -> io::Result<()> {
-    let read = reads_past_interruptions(alloc);
-    told.trial(rt, "reads_past_interruptions", read)?;
-    let text = tells_past_interruptions(alloc);
-    told.trial(rt, "tells_past_interruptions", text)?;
-    let line = writes_past_interruptions(alloc);
-    told.trial(rt, "writes_past_interruptions", line)?;
-    told.trial(rt, "bears_interruptions", bears_interruptions(alloc))?;
-    let full = a_full_output_takes_nothing(alloc);
-    told.trial(rt, "a_full_output_takes_nothing", full)
+    let read = commands_read_past_interruptions(alloc);
+    told.trial(rt, "commands_read_past_interruptions", read)?;
+    let text = story_stops_after_a_million_interruptions(alloc);
+    told.trial(rt, "story_stops_after_a_million_interruptions", text)?;
+    let line = check_stops_after_a_million_interruptions(alloc);
+    told.trial(rt, "check_stops_after_a_million_interruptions", line)?;
+    told.trial(
+        rt,
+        "commands_write_past_interruptions",
+        commands_write_past_interruptions(alloc),
+    )?;
+    let full = check_stops_at_a_full_output(alloc);
+    told.trial(rt, "check_stops_at_a_full_output", full)
 }

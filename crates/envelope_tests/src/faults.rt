@@ -27,12 +27,12 @@ fn print_cause<E: Error>(
     name: &'static str,
     error: &E,
 ) -> io::Result<()> {
-    println!(rt; "upper_faults_are_printed: {number} {name}: {error}")
+    println!(rt; "prints_errors_of_the_upper_layers: {number} {name}: {error}")
 }
 
 /// Prints an error.
 fn print_error<E: Error>(rt: &impl Print, error: &E) -> io::Result<()> {
-    println!(rt; "upper_faults_are_printed: {error}")
+    println!(rt; "prints_errors_of_the_upper_layers: {error}")
 }
 
 fn print_unpacker_faults(rt: &impl Print) -> io::Result<()> {

@@ -7,8 +7,8 @@ mod great;
 use crate::told::Told;
 use iim_object::{Plan, Size};
 use iim_pack::laws::{
-    packed_octets_are_few, packed_octets_are_one, packed_octets_carry_the_value,
-    packed_subfiles_are_few,
+    packed_form_is_bounded, packed_form_is_unique, packed_octets_encode_the_value,
+    packed_subfiles_are_bounded,
 };
 use std::alloc::{AllocError, Global};
 use std::io;
@@ -60,17 +60,17 @@ fn expected(alloc: Global, plan: Plan) -> Result<Vec<u8>, AllocError> {
     Ok(all)
 }
 
-fn laws_can_be_called() {
-    packed_octets_are_few();
-    packed_octets_are_one();
-    packed_octets_carry_the_value();
-    packed_subfiles_are_few();
+fn lemmas_can_be_called() {
+    packed_form_is_bounded();
+    packed_form_is_unique();
+    packed_octets_encode_the_value();
+    packed_subfiles_are_bounded();
 }
 
 /// Runs the tests of the packer.
 pub(crate) fn tell(rt: &impl Print, told: &mut Told, alloc: Global) -> io::Result<()> {
-    laws_can_be_called();
-    told.trial(rt, "laws_can_be_called of packing", Ok(()))?;
+    lemmas_can_be_called();
+    told.trial(rt, "lemmas_can_be_called of packing", Ok(()))?;
     broken::tell(rt, told, alloc)?;
     failing::tell(rt, told, alloc)?;
     great::tell(rt, told, alloc)

@@ -131,7 +131,7 @@ fn parts_of(head: &MessageHead) -> [&[u8]; 6] {
     ]
 }
 
-fn every_small_plan_comes_back(alloc: Global) -> Result<(), Trouble> {
+fn round_trips_every_small_plan(alloc: Global) -> Result<(), Trouble> {
     for (octets, object) in [(SMALLEST.as_slice(), 14), (STORY.as_slice(), 50)] {
         match Got::of(alloc, &[octets]) {
             Some(got) => got.expect_each_plan(alloc, object)?,
@@ -161,7 +161,7 @@ fn is_truncated(alloc: Global, count: usize) -> bool {
     refusal_of(answer) == Some((Cause::Truncated, count as u64))
 }
 
-fn a_packed_front_alone_is_truncated(alloc: Global) -> Result<(), Trouble> {
+fn truncates_every_proper_prefix(alloc: Global) -> Result<(), Trouble> {
     for count in 0..246 {
         right_at(count, is_truncated(alloc, count))?;
     }
@@ -186,7 +186,7 @@ fn is_worked(story: &Story) -> bool {
         && story.lines.iter().eq([FIRST_LINE, LAST_LINE])
 }
 
-fn a_story_comes_back_before_others(alloc: Global) -> Result<(), Trouble> {
+fn unpacks_a_story_before_others(alloc: Global) -> Result<(), Trouble> {
     let (first, back) = STORY.split_at(200.min(STORY.len()));
     let is_back = match unpack_story(alloc, LIMITS, &[first, b"", back, SMALLEST]) {
         Ok(story) => is_worked(&story),
@@ -196,7 +196,7 @@ fn a_story_comes_back_before_others(alloc: Global) -> Result<(), Trouble> {
 }
 
 /// The last octet of the first input has 49 instead of 50.
-fn a_story_is_refused_at_its_octet(alloc: Global) -> Result<(), Trouble> {
+fn rejects_a_story_at_its_octet(alloc: Global) -> Result<(), Trouble> {
     let wrong = unpack_story(alloc, LIMITS, &[front(245), b"\x31"]);
     right(refusal_of(wrong) == Some((Cause::Size(SizeCause::ConfirmedWrong), 245)))?;
     let short = unpack_story(alloc, LIMITS, &[front(200)]);
@@ -211,7 +211,7 @@ fn extended(alloc: Global) -> Result<Vec<u8>, Trouble> {
 }
 
 /// Checks that the value read from the 118 octets packs to the smallest envelope.
-fn packs_value_of_extended_counts(alloc: Global) -> Result<(), Trouble> {
+fn packs_a_value_read_from_extended_counts(alloc: Global) -> Result<(), Trouble> {
     let octets = extended(alloc)?;
     right(octets.len() == 118)?;
     let Some(got) = Got::of(alloc, &[&octets]) else {
@@ -227,7 +227,7 @@ fn packs_value_of_extended_counts(alloc: Global) -> Result<(), Trouble> {
 /// Packs the smallest envelope with one line of 32,754 octets `a`, and checks how the tags of its
 /// subfiles begin: 32,872 octets with one subfile of 32,768, and 32,873 with one of 32,767 and one
 /// of 1.
-fn packs_one_long_line(alloc: Global) -> Result<(), Trouble> {
+fn packs_one_long_line_in_subfiles(alloc: Global) -> Result<(), Trouble> {
     let Some(mut got) = Got::of(alloc, &[SMALLEST.as_slice()]) else {
         return Err(Trouble::Wrong);
     };
@@ -255,16 +255,16 @@ fn has_at(octets: &[u8], at: usize, others: &[u8]) -> bool {
 
 /// Runs the tests of round trips.
 pub(crate) fn tell(rt: &impl Print, told: &mut Told, alloc: Global) -> io::Result<()> {
-    let plans = every_small_plan_comes_back(alloc);
-    told.trial(rt, "every_small_plan_comes_back", plans)?;
-    let fronts = a_packed_front_alone_is_truncated(alloc);
-    told.trial(rt, "a_packed_front_alone_is_truncated", fronts)?;
-    let before = a_story_comes_back_before_others(alloc);
-    told.trial(rt, "a_story_comes_back_before_others", before)?;
-    let refused = a_story_is_refused_at_its_octet(alloc);
-    told.trial(rt, "a_story_is_refused_at_its_octet", refused)?;
-    let extended = packs_value_of_extended_counts(alloc);
-    told.trial(rt, "packs_value_of_extended_counts", extended)?;
-    let line = packs_one_long_line(alloc);
-    told.trial(rt, "packs_one_long_line", line)
+    let plans = round_trips_every_small_plan(alloc);
+    told.trial(rt, "round_trips_every_small_plan", plans)?;
+    let fronts = truncates_every_proper_prefix(alloc);
+    told.trial(rt, "truncates_every_proper_prefix", fronts)?;
+    let before = unpacks_a_story_before_others(alloc);
+    told.trial(rt, "unpacks_a_story_before_others", before)?;
+    let refused = rejects_a_story_at_its_octet(alloc);
+    told.trial(rt, "rejects_a_story_at_its_octet", refused)?;
+    let extended = packs_a_value_read_from_extended_counts(alloc);
+    told.trial(rt, "packs_a_value_read_from_extended_counts", extended)?;
+    let line = packs_one_long_line_in_subfiles(alloc);
+    told.trial(rt, "packs_one_long_line_in_subfiles", line)
 }

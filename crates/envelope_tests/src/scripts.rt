@@ -74,12 +74,12 @@ fn packs_the_lines_of_a_script(alloc: Global) -> Result<(), Trouble> {
 
 /// Runs the tests of scripts.
 pub(crate) fn tell(rt: &impl Print, told: &mut Told, alloc: Global) -> io::Result<()> {
-    laws_can_be_called();
-    told.trial(rt, "laws_can_be_called of scripts", Ok(()))?;
+    lemmas_can_be_called();
+    told.trial(rt, "lemmas_can_be_called of scripts", Ok(()))?;
     let lines = packs_the_lines_of_a_script(alloc);
     told.trial(rt, "packs_the_lines_of_a_script", lines)
 }
 
-fn laws_can_be_called() {
+fn lemmas_can_be_called() {
     script_laws();
 }

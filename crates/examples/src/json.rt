@@ -3,10 +3,10 @@
 ghost use Rattle.std.specs.Prelude.{◌≡◌, None, IfOk, string_bytes};
 ghost use Rattle.std.specs.Io.KnownBytes.{IsAtEnd};
 ghost use Rattle.iim_dataset.specs.Format.Datasets.{shown};
-ghost use Rattle.iim_unpack.specs.States.Intakes.{in_line};
+ghost use Rattle.iim_unpack.specs.States.Intakes.{input_of};
 
 use anyhow::{Result, bail};
-use iim_dataset::{DatasetName, FromRead, Source, push_shown};
+use iim_dataset::{DatasetName, FromRead, Source, push_with_escapes};
 use iim_fields::{Envelope, Limits};
 use iim_unpack::{Intake, Unpacked, Unpacker};
 use serde_json::{Map, Value, json, put};
@@ -27,7 +27,7 @@ fn print_all<R: Source, W: Write>(
     output: &mut W,
 ) -> Result<()>
     requires { intake.old.failed ≡ None }
-    ensures { IfOk result (λ _. IsAtEnd (in_line R.state intake.new).octets × (intake.new.failed ≡ None)) }
+    ensures { IfOk result (λ _. IsAtEnd (input_of R.state intake.new).octets × (intake.new.failed ≡ None)) }
 {
     'receiving: for number in 1..u64::MAX {
         let unpacker = Unpacker::new(alloc, Limits::WIRE)?;
@@ -123,6 +123,6 @@ fn text_of(alloc: Global, octets: &[u8]) -> Result<String>
     ensures { IfOk result (λ text. string_bytes text ≡ shown octets.now) }
 {
     let mut text = Vec::new(alloc);
-    push_shown(&mut text, octets)?;
+    push_with_escapes(&mut text, octets)?;
     Ok(String::from_utf8(text)?)
 }

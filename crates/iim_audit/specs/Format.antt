@@ -7,11 +7,11 @@ use Rattle.iim_dataset.specs.Format.Datasets.{Dataset, shown, number_or_dash}
 use Rattle.iim_tables.specs.Format.Dates.{nanoseconds_in_second}
 use Rattle.iim_fields.specs.Format.Records.{instant_sent, instant_of_release, instant_of_expiration, Identity, id_eq, first_data}
 use Rattle.wire_story.specs.Format.Texts.{words, capped, StoryEvent, WordsSoFar, CountsWords}
-use Rattle.iim_places.specs.Format.{Admitted.Value, Open.IsOpen, Open.Delivers, Causes.refusal_at, Causes.cause_number, Causes.cause_name}
-use Rattle.iim_places.specs.Format.Streams.{Listed, Divides, IsListing, Whole, RefusedBy, TooMany, values_of, raised, IsEnvelopeWithin, Kills}
+use Rattle.iim_places.specs.Format.{Admitted.Value, Open.IsIncomplete, Open.Delivers, Causes.refusal_at, Causes.cause_number, Causes.cause_name}
+use Rattle.iim_places.specs.Format.Streams.{Listed, SplitsInto, IsListing, Whole, RefusedBy, TooMany, values_of, sum_capped, IsEnvelopeWithin, RefusesOctet}
 use Rattle.iim_places.specs.declared.fault.TokenFault.{TokenFault}
-use Rattle.iim_dataset.specs.States.Devices.{Device, HasGiven, MissedAfter}
-use Rattle.iim_unpack.specs.States.Unpacking.{failed_at, Stands}
+use Rattle.iim_dataset.specs.States.Devices.{Device, ReadsGave, ReadFailedAfter}
+use Rattle.iim_unpack.specs.States.Unpacking.{failed_at, HasRead}
 use Rattle.iim_dataset.specs.Format.Octets.{minus}
 use Rattle.iim_audit.specs.declared.{copy.CopyState.CopyState, pieces.PieceAudit.PieceAudit, pieces.PieceRow.PieceRow}
 use Rattle.iim_audit.specs.declared.copy.CopyState.TheVariants.{Held, Expired, Free}
@@ -65,13 +65,13 @@ abbrev pub counted_words : Value → ℕ
 counted_words v = capped (words v.lines)
 
 -- the number of the first of these ids that is equal to `id`; they are numbered from n
-abbrev pub first_same : ℕ → Identity → List Identity → Option ℕ
-first_same n id [] = None
-first_same n id (other ∷ others) = if id_eq id other then Some n else first_same (n + 1) id others
+abbrev pub first_with_id : ℕ → Identity → List Identity → Option ℕ
+first_with_id n id [] = None
+first_with_id n id (other ∷ others) = if id_eq id other then Some n else first_with_id (n + 1) id others
 
 -- the row of an envelope; `first` is the number of the first one with its id, if that is earlier
-abbrev pub row_with : ℤ → Value → Option ℕ → AuditRow
-row_with now v first = record {
+abbrev pub row_with_first_of : ℤ → Value → Option ℕ → AuditRow
+row_with_first_of now v first = record {
   id = id_of v;
   priority = priority_of v;
   size = v.sizes.total;
@@ -85,23 +85,23 @@ row_with now v first = record {
 
 -- the row of an envelope after these earlier ones, which are searched for its id
 abbrev pub row_of : ℤ → List Value → Value → AuditRow
-row_of now earlier v = row_with now v (first_same 1 (id_of v) (map id_of earlier))
+row_of now earlier v = row_with_first_of now v (first_with_id 1 (id_of v) (map id_of earlier))
 
 -- the rows of envelopes after these earlier ones
-abbrev pub rows_after : ℤ → List Value → List Value → List AuditRow
-rows_after now earlier [] = []
-rows_after now earlier (v ∷ vs) = row_of now earlier v ∷ rows_after now (earlier ++ v ∷ []) vs
+abbrev pub rows_after_earlier : ℤ → List Value → List Value → List AuditRow
+rows_after_earlier now earlier [] = []
+rows_after_earlier now earlier (v ∷ vs) = row_of now earlier v ∷ rows_after_earlier now (earlier ++ v ∷ []) vs
 
 -- the report of envelopes, by their values and the present instant in nanoseconds
 abbrev pub report_of : ℤ → List Value → List AuditRow
-report_of now values = rows_after now [] values
+report_of now values = rows_after_earlier now [] values
 
 -- ---- What an audit returns, by the octets that its intake has not read yet.
 
 -- The input consists of envelopes, not too many, and the rows are their report.
 pub record IsAudited (limits : Limits) (now : ℤ) (old new : Device) (rows : List AuditRow) : Type 0 where
   pub input : List ℕ
-  pub given : HasGiven old new input
+  pub given : ReadsGave old new input
   pub at_end : IsAtEnd new.octets
   pub envelopes : List Listed
   pub listing : IsListing limits input envelopes Whole
@@ -111,7 +111,7 @@ pub record IsAudited (limits : Limits) (now : ℤ) (old new : Device) (rows : Li
 -- the input ends there.
 pub record IsRefusedAt (limits : Limits) (old new : Device) (number : ℕ) (e : Refusal) : Type 0 where
   pub input : List ℕ
-  pub given : HasGiven old new input
+  pub given : ReadsGave old new input
   pub envelopes : List Listed
   pub listing : IsListing limits input envelopes (RefusedBy e)
   pub at_end : listing.ends.0 ≡ length listing.rest → IsAtEnd new.octets
@@ -119,33 +119,33 @@ pub record IsRefusedAt (limits : Limits) (old new : Device) (number : ℕ) (e : 
 
 -- After the envelopes before this number come octets of a viable prefix, and then this error of
 -- the reader.
-pub record IsMissedAt (limits : Limits) (old new : Device) (number : ℕ) (fault : IoFault) : Type 0 where
+pub record ReadFailsAt (limits : Limits) (old new : Device) (number : ℕ) (fault : IoFault) : Type 0 where
   pub input : List ℕ
-  pub missed : MissedAfter old new input fault
+  pub missed : ReadFailedAfter old new input fault
   pub envelopes : List Listed
   pub rest : List ℕ
-  pub divides : Divides limits input envelopes rest
-  pub is_open : IsOpen limits rest
+  pub divides : SplitsInto limits input envelopes rest
+  pub is_open : IsIncomplete limits rest
   pub in_hand : number ≡ length envelopes + 1
 
 -- the intake's count of octets after these envelopes: the length of the last one, or the count
 -- before, if the list is empty
-abbrev pub told_after : ℕ → List Listed → ℕ
-told_after before [] = before
-told_after before (e ∷ es) = told_after (raised 0 (length e.octets)) es
+abbrev pub octets_after : ℕ → List Listed → ℕ
+octets_after before [] = before
+octets_after before (e ∷ es) = octets_after (sum_capped 0 (length e.octets)) es
 
 -- The allocation for the envelope of this number failed: before it was read, or after it.
-pub record IsShortAt (limits : Limits) (old new : Device) (number : ℕ) : Type 0 where
+pub record AllocationFailsAt (limits : Limits) (old new : Device) (number : ℕ) : Type 0 where
   pub input : List ℕ
-  pub given : HasGiven old new input
+  pub given : ReadsGave old new input
   pub envelopes : List Listed
-  pub divides : Divides limits input envelopes []
+  pub divides : SplitsInto limits input envelopes []
   pub in_hand : (number ≡ length envelopes + 1) ⊎ ((number ≡ length envelopes) × (0 < number))
 
 -- One more envelope was read than can be listed, and no further octet. It has this number.
 pub record IsOneTooMany (limits : Limits) (old new : Device) (number : ℕ) : Type 0 where
   pub input : List ℕ
-  pub given : HasGiven old new input
+  pub given : ReadsGave old new input
   pub envelopes : List Listed
   pub listing : IsListing limits input envelopes TooMany
   pub nothing_more : listing.ends.3 ≡ []
@@ -154,74 +154,74 @@ pub record IsOneTooMany (limits : Limits) (old new : Device) (number : ℕ) : Ty
 -- why there is no report, at the envelope of this number
 abbrev pub FailsAt : Limits → Device → Device → ℕ → AuditCause → Type 0
 FailsAt limits old new number (causes.Refused e) = IsRefusedAt limits old new number e
-FailsAt limits old new number causes.Read = IsMissedAt limits old new number io.Failed
-FailsAt limits old new number causes.Interrupted = IsMissedAt limits old new number io.Interrupted
-FailsAt limits old new number causes.OutOfMemory = IsShortAt limits old new number
+FailsAt limits old new number causes.Read = ReadFailsAt limits old new number io.Failed
+FailsAt limits old new number causes.Interrupted = ReadFailsAt limits old new number io.Interrupted
+FailsAt limits old new number causes.OutOfMemory = AllocationFailsAt limits old new number
 FailsAt limits old new number causes.TooManyEnvelopes = IsOneTooMany limits old new number
 
 -- The state in which an audit leaves the intake. After an error of the intake: the octet that it
 -- returns from then on, that of the refusal or the number of octets received of the partial
 -- envelope. Otherwise: the length of its last envelope. (The count before the audit; then what the
 -- intake stores and counts after it.)
-abbrev pub Leaves : (limits : Limits) (old new : Device) (number : ℕ) (cause : AuditCause) → FailsAt limits old new number cause → ℕ → Option ℕ → ℕ → Type 0
-Leaves limits old new number (causes.Refused e) why before kept told = (kept ≡ Some e.octet) × (told ≡ 0)
-Leaves limits old new number causes.Read why before kept told = (kept ≡ Some (raised 0 (length why.rest))) × (told ≡ 0)
-Leaves limits old new number causes.Interrupted why before kept told = (kept ≡ Some (raised 0 (length why.rest))) × (told ≡ 0)
-Leaves limits old new number causes.OutOfMemory why before kept told = (kept ≡ None) × (told ≡ told_after before why.envelopes)
-Leaves limits old new number causes.TooManyEnvelopes why before kept told = (kept ≡ None) × (told ≡ raised 0 (length why.listing.ends.1.octets))
+abbrev pub LeavesIntake : (limits : Limits) (old new : Device) (number : ℕ) (cause : AuditCause) → FailsAt limits old new number cause → ℕ → Option ℕ → ℕ → Type 0
+LeavesIntake limits old new number (causes.Refused e) why before kept told = (kept ≡ Some e.octet) × (told ≡ 0)
+LeavesIntake limits old new number causes.Read why before kept told = (kept ≡ Some (sum_capped 0 (length why.rest))) × (told ≡ 0)
+LeavesIntake limits old new number causes.Interrupted why before kept told = (kept ≡ Some (sum_capped 0 (length why.rest))) × (told ≡ 0)
+LeavesIntake limits old new number causes.OutOfMemory why before kept told = (kept ≡ None) × (told ≡ octets_after before why.envelopes)
+LeavesIntake limits old new number causes.TooManyEnvelopes why before kept told = (kept ≡ None) × (told ≡ sum_capped 0 (length why.listing.ends.1.octets))
 
 -- why there is no report, and the state in which the audit leaves the intake (the unread input and
 -- the count of octets, before and after; after, also the octet that the intake stores)
-abbrev pub FailsLeaving : Limits → Device × ℕ → Device × Option ℕ × ℕ → ℕ → AuditCause → Type 0
-FailsLeaving limits (old, before) (new, kept, told) number cause = (why : FailsAt limits old new number cause) × Leaves limits old new number cause why before kept told
+abbrev pub FailsWithState : Limits → Device × ℕ → Device × Option ℕ × ℕ → ℕ → AuditCause → Type 0
+FailsWithState limits (old, before) (new, kept, told) number cause = (why : FailsAt limits old new number cause) × LeavesIntake limits old new number cause why before kept told
 
 -- The intake had already failed, and the same error is returned with envelope 1; or the allocation
 -- failed, and the intake was not read.
-abbrev pub IsToldAgain : ℕ → ℕ → ℕ → ℕ → AuditCause → Type 0
-IsToldAgain octet before told number cause =
+abbrev pub RepeatsError : ℕ → ℕ → ℕ → ℕ → AuditCause → Type 0
+RepeatsError octet before told number cause =
     (number ≡ 1) × (((cause ≡ causes.Refused (failed_at octet)) × (told ≡ 0)) ⊎ ((cause ≡ causes.OutOfMemory) × (told ≡ before)))
 
 -- a count of zero words, at the beginning of a line
-abbrev pub no_words : WordsSoFar
-no_words = record { words = 0; inside = false }
+abbrev pub no_words_counted : WordsSoFar
+no_words_counted = record { words = 0; inside = false }
 
 -- The words in the text that these octets deliver were counted, starting from zero.
-pub record HaveWords (p : List ℕ) (count : WordsSoFar) : Type 0 where
+pub record WordsAreCounted (p : List ℕ) (count : WordsSoFar) : Type 0 where
   pub more : List StoryEvent
   pub delivers : Delivers [] p more
-  pub counts : CountsWords no_words more count
+  pub counts : CountsWords no_words_counted more count
 
 -- The audit is in the state after these octets of an envelope, with `a` as their count, and has
 -- counted their words.
-pub record StandsOn (audit : PieceAudit) (p : List ℕ) (a : ℕ) : Type 0 where
-  pub unpacker : Stands audit.unpacker p a
-  pub words : HaveWords p audit.count
+pub record AuditHasConsumed (audit : PieceAudit) (p : List ℕ) (a : ℕ) : Type 0 where
+  pub unpacker : HasRead audit.unpacker p a
+  pub words : WordsAreCounted p audit.count
 
 -- The octets are an envelope, and this is its row, with `first` unset, and the instants of its
 -- copy.
 pub record IsRowOf (limits : Limits) (now : ℤ) (octets : List ℕ) (found : PieceRow) : Type 0 where
   pub value : Value
   pub envelope : IsEnvelopeWithin limits octets value
-  pub row : found.row ≡ row_with now value None
+  pub row : found.row ≡ row_with_first_of now value None
   pub release : option_map (λ t. t.nanosecond) found.release ≡ instant_of_release value.fields
   pub expires : option_map (λ t. t.nanosecond) found.expires ≡ instant_of_expiration value.fields
 
 -- The result for a chunk after octets `p` of an envelope, with `a` as their count. Either no
 -- envelope ends in it, and the audit is in the state after all octets; or one ends within the
 -- chunk, and the audit is in the initial state.
-abbrev pub Finds : Limits → ℤ → List ℕ → ℕ → List ℕ → PieceAudit → Option PieceRow → Type 0
-Finds limits now p a piece audit None = StandsOn audit (p ++ piece) (raised a (length piece))
-Finds limits now p a piece audit (Some found) =
-    (found.used ≤ length piece) × (found.octets ≡ raised a found.used) × IsRowOf limits now (p ++ take found.used piece) found × StandsOn audit [] 0
+abbrev pub FindsRow : Limits → ℤ → List ℕ → ℕ → List ℕ → PieceAudit → Option PieceRow → Type 0
+FindsRow limits now p a piece audit None = AuditHasConsumed audit (p ++ piece) (sum_capped a (length piece))
+FindsRow limits now p a piece audit (Some found) =
+    (found.used ≤ length piece) × (found.octets ≡ sum_capped a found.used) × IsRowOf limits now (p ++ take found.used piece) found × AuditHasConsumed audit [] 0
 
 -- Octet k of the chunk is rejected after these octets: with it some layer has no valid
 -- continuation.
-pub record Refuses (limits : Limits) (p : List ℕ) (a : ℕ) (piece : List ℕ) (e : Refusal) : Type 0 where
+pub record RejectsChunk (limits : Limits) (p : List ℕ) (a : ℕ) (piece : List ℕ) (e : Refusal) : Type 0 where
   pub k : ℕ
   pub within : k < length piece
   pub fault : TokenFault
-  pub refusal : e ≡ refusal_at (raised a k) fault
-  pub kills : Kills limits (p ++ take k piece) (slice_index piece k) fault
+  pub refusal : e ≡ refusal_at (sum_capped a k) fault
+  pub kills : RefusesOctet limits (p ++ take k piece) (slice_index piece k) fault
 
 -- ---- The text of a report.
 
@@ -235,12 +235,12 @@ seconds_or_dash None = codes "-"
 seconds_or_dash (Some n) = signed_decimal n
 
 -- the row's number, then service, number and date sent
-abbrev pub known_by : ℕ → AuditRow → List ℕ
-known_by number row = decimal number ++ (codes " " ++ (shown row.id.service ++ (codes " " ++ (row.id.number ++ (codes " " ++ row.id.date_sent)))))
+abbrev pub id_columns : ℕ → AuditRow → List ℕ
+id_columns number row = decimal number ++ (codes " " ++ (shown row.id.service ++ (codes " " ++ (row.id.number ++ (codes " " ++ row.id.date_sent)))))
 
 -- the sizes, and the numbers of words announced and counted
-abbrev pub sizes_of : AuditRow → List ℕ
-sizes_of row = codes " size " ++ (decimal row.size ++ (codes " subfiles " ++ (decimal row.subfiles ++ (codes " words " ++ (decimal row.announced ++ (codes "/" ++ decimal row.counted))))))
+abbrev pub size_columns : AuditRow → List ℕ
+size_columns row = codes " size " ++ (decimal row.size ++ (codes " subfiles " ++ (decimal row.subfiles ++ (codes " words " ++ (decimal row.announced ++ (codes "/" ++ decimal row.counted))))))
 
 abbrev pub copy_word : CopyState → List ℕ
 copy_word Held = codes "held"
@@ -248,13 +248,13 @@ copy_word Expired = codes "expired"
 copy_word Free = codes "free"
 
 -- the age, the first envelope with the same id, and the copy state
-abbrev pub ages_of : AuditRow → List ℕ
-ages_of row =
+abbrev pub age_columns : AuditRow → List ℕ
+age_columns row =
     codes " age " ++ (seconds_or_dash row.age ++ (codes " repeats " ++ (number_or_dash row.first ++ (codes " copy " ++ (copy_word row.copy ++ codes "\n")))))
 
 -- the line of a row
 abbrev pub row_line : ℕ → AuditRow → List ℕ
-row_line number row = known_by number row ++ (codes " priority " ++ (digit_or_dash row.priority ∷ (sizes_of row ++ ages_of row)))
+row_line number row = id_columns number row ++ (codes " priority " ++ (digit_or_dash row.priority ∷ (size_columns row ++ age_columns row)))
 
 -- a line for each row, in their order, numbered from n
 abbrev pub lines_from : ℕ → List AuditRow → List ℕ
@@ -274,12 +274,12 @@ abbrev pub held_rows : List AuditRow → ℕ
 held_rows rows = count_by (λ row. is_held row.copy) rows
 
 -- the last line
-abbrev pub sums_line : List AuditRow → List ℕ
-sums_line rows = decimal (length rows) ++ (codes " envelopes, " ++ (decimal (repeated_rows rows) ++ (codes " repeated, " ++ (decimal (held_rows rows) ++ codes " held\n"))))
+abbrev pub totals_line : List AuditRow → List ℕ
+totals_line rows = decimal (length rows) ++ (codes " envelopes, " ++ (decimal (repeated_rows rows) ++ (codes " repeated, " ++ (decimal (held_rows rows) ++ codes " held\n"))))
 
 -- the text of a report
 abbrev pub printed_report : List AuditRow → List ℕ
-printed_report rows = lines_from 1 rows ++ sums_line rows
+printed_report rows = lines_from 1 rows ++ totals_line rows
 
 -- The number of the cause that stopped an audit: for a refusal, that of its cause.
 abbrev pub audit_number : AuditCause → ℕ

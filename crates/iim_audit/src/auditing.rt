@@ -1,17 +1,17 @@
 //! Audits of all envelopes of an intake.
 
 ghost use Rattle.std.specs.Prelude.{◌≡◌, ℕ, None, Some, IfOk, IfErr, OnOk, IsErrAnd};
-ghost use Rattle.iim_unpack.specs.States.Intakes.{in_line};
+ghost use Rattle.iim_unpack.specs.States.Intakes.{input_of};
 ghost use Rattle.iim_unpack.specs.States.Unpacking.{limits_in};
-ghost use Rattle.iim_audit.specs.Format.{IsAudited, FailsLeaving, IsToldAgain};
-ghost use Rattle.iim_audit.specs.Steps.{TookEnvelope, TookNone};
+ghost use Rattle.iim_audit.specs.Format.{IsAudited, FailsWithState, RepeatsError};
+ghost use Rattle.iim_audit.specs.Steps.{ReadsEnvelopeOrEnd, ReadsNoEnvelope};
 
-use crate::fault::{AuditCause, AuditFault, cause_of, fault_at};
+use crate::fault::{AuditCause, AuditFault, audit_cause_of, error_at};
 use crate::ledger::Ledger;
 use crate::report::Report;
-use crate::row::Taken;
+use crate::row::EnvelopeParts;
 use iim_dataset::Source;
-use iim_dataset::device_laws::gifts_join;
+use iim_dataset::device_laws::reads_join;
 use iim_dataset::laws::dataset_laws;
 use iim_fields::Limits;
 use iim_unpack::{Intake, MAX_ENVELOPES, Unpacker};
@@ -27,19 +27,20 @@ fn take_envelope<R: Source>(
     intake: &mut Intake<R>,
     unpacker: &mut Unpacker,
 ) -> Result<Option<u64>, AuditCause>
-    ensures took { IfOk result (TookEnvelope (limits_in unpacker.old) (in_line R.state intake.old)
-        (in_line R.state intake.new) unpacker.new intake.new.octets) }
+    ensures read_or_end { IfOk result (ReadsEnvelopeOrEnd (limits_in unpacker.old) (input_of R.state intake.old)
+        (input_of R.state intake.new) unpacker.new intake.new.octets) }
     ensures none { intake.old.failed ≡ None
-        → IfErr result (TookNone (limits_in unpacker.old) (in_line R.state intake.old) (in_line R.state intake.new)
+        → IfErr result (ReadsNoEnvelope (limits_in unpacker.old) (input_of R.state intake.old)
+        (input_of R.state intake.new)
         intake.old.octets intake.new.failed intake.new.octets) }
     ensures lives { OnOk result (intake.new.failed ≡ None) }
     ensures again { (octet : ℕ) → intake.old.failed ≡ Some octet
-        → IsErrAnd result (IsToldAgain octet intake.old.octets intake.new.octets 1) }
-    ensures as_it_was { (octet : ℕ) → intake.old.failed ≡ Some octet → intake.new
+        → IsErrAnd result (RepeatsError octet intake.old.octets intake.new.octets 1) }
+    ensures unchanged { (octet : ℕ) → intake.old.failed ≡ Some octet → intake.new
         ≡ record (intake.old) { octets = intake.new.octets } }
     ensures leads { R.leads intake.old.reader intake.new.reader }
 {
-    gifts_join();
+    reads_join();
     dataset_laws();
     message_laws();
     story_laws();
@@ -48,7 +49,7 @@ fn take_envelope<R: Source>(
     match intake.feed_envelope(unpacker, &mut count) {
         Ok(true) => Ok(Some(count.words())),
         Ok(false) => Ok(None),
-        Err(fault) => Err(cause_of(fault)),
+        Err(fault) => Err(audit_cause_of(fault)),
     }
 }
 
@@ -64,10 +65,10 @@ pub fn audit<R: Source>(
     now: Timestamp,
 ) -> Result<Report, AuditFault>
     ensures audited { intake.old.failed ≡ None
-        → IfOk result (IsAudited limits now.nanosecond (in_line R.state intake.old) (in_line R.state intake.new)) }
+        → IfOk result (IsAudited limits now.nanosecond (input_of R.state intake.old) (input_of R.state intake.new)) }
     ensures fails { intake.old.failed ≡ None
-        → IfErr result (λ fault. FailsLeaving limits (in_line R.state intake.old, intake.old.octets)
-        (in_line R.state intake.new, intake.new.failed, intake.new.octets) fault.envelope fault.cause) }
+        → IfErr result (λ fault. FailsWithState limits (input_of R.state intake.old, intake.old.octets)
+        (input_of R.state intake.new, intake.new.failed, intake.new.octets) fault.envelope fault.cause) }
 
     // After a report the intake has not failed, and its count of octets is 0.
     ensures lives { OnOk result (intake.new.failed ≡ None) }
@@ -75,14 +76,14 @@ pub fn audit<R: Source>(
 
     // An intake that had already failed is unchanged, except for its count of octets.
     ensures again { (octet : ℕ) → intake.old.failed ≡ Some octet
-        → IsErrAnd result (λ fault. IsToldAgain octet intake.old.octets intake.new.octets fault.envelope fault.cause) }
-    ensures as_it_was { (octet : ℕ) → intake.old.failed ≡ Some octet → intake.new
+        → IsErrAnd result (λ fault. RepeatsError octet intake.old.octets intake.new.octets fault.envelope fault.cause) }
+    ensures unchanged { (octet : ℕ) → intake.old.failed ≡ Some octet → intake.new
         ≡ record (intake.old) { octets = intake.new.octets } }
     ensures leads { R.leads intake.old.reader intake.new.reader }
 {
-    gifts_join();
+    reads_join();
     let Ok(made) = Unpacker::new(alloc, limits) else {
-        return Err(fault_at(1, AuditCause::OutOfMemory));
+        return Err(error_at(1, AuditCause::OutOfMemory));
     };
     let mut unpacker = made;
     let mut ledger = Ledger::new(alloc);
@@ -91,16 +92,16 @@ pub fn audit<R: Source>(
         let words = match take_envelope(intake, &mut unpacker) {
             Ok(Some(words)) => words,
             Ok(None) => return Ok(ledger.into_report()),
-            Err(cause) => return Err(fault_at(number, cause)),
+            Err(cause) => return Err(error_at(number, cause)),
         };
         if number > MAX_ENVELOPES {
-            return Err(fault_at(number, AuditCause::TooManyEnvelopes));
+            return Err(error_at(number, AuditCause::TooManyEnvelopes));
         }
         let Some(unpacked) = unpacker.unpacked() else {
             unreachable!()
         };
-        let Ok(()) = ledger.enter(&Taken { unpacked, words }, now) else {
-            return Err(fault_at(number, AuditCause::OutOfMemory));
+        let Ok(()) = ledger.add_row(&EnvelopeParts { unpacked, words }, now) else {
+            return Err(error_at(number, AuditCause::OutOfMemory));
         };
     }
 }

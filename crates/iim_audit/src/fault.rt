@@ -68,18 +68,18 @@ pub struct AuditFault {
 }
 
 /// Returns an error at the envelope with this number.
-pub(crate) fn fault_at(envelope: u64, cause: AuditCause) -> AuditFault
+pub(crate) fn error_at(envelope: u64, cause: AuditCause) -> AuditFault
     ensures { result ≡ record { envelope = envelope; cause = cause } }
 {
     AuditFault { envelope, cause }
 }
 
 ghost use Rattle.std.specs.Prelude.{◌≡◌};
-ghost use Rattle.iim_audit.specs.Steps.{cause_of};
+ghost use Rattle.iim_audit.specs.Steps.{audit_cause_of};
 
 /// Returns the cause of an audit's error for an error of its intake.
-pub(crate) fn cause_of(fault: IntakeFault) -> AuditCause
-    ensures { result ≡ cause_of fault }
+pub(crate) fn audit_cause_of(fault: IntakeFault) -> AuditCause
+    ensures { result ≡ audit_cause_of fault }
 {
     match fault {
         IntakeFault::Refused(refusal) => AuditCause::Refused(refusal),

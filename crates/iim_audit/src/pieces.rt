@@ -2,19 +2,19 @@
 
 ghost use Rattle.std.specs.Prelude.{◌≡◌, ◌≤◌, ℕ, List, [], length, None, Some, Err, IfOk, IfErr, IfSome, OnOk};
 ghost use Rattle.iim_unpack.specs.States.Unpacking.{IsDone, IsDoneWith, failed_at, limits_in};
-ghost use Rattle.iim_audit.specs.Format.{Finds, HaveWords, IsRowOf, Refuses, StandsOn};
-ghost use Rattle.iim_audit.specs.Steps.{HasFed, IsRefusedFor, IsShort};
+ghost use Rattle.iim_audit.specs.Format.{FindsRow, WordsAreCounted, IsRowOf, RejectsChunk, AuditHasConsumed};
+ghost use Rattle.iim_audit.specs.Steps.{FeedsAndCounts, ChunkIsRejected, IsShort};
 
-use crate::row::{AuditRow, Taken, row_of};
+use crate::row::{AuditRow, EnvelopeParts, row_of};
 use iim_dataset::laws::dataset_laws;
 use iim_fields::{Limits, instants};
-use iim_unpack::laws::unpackers_stand_somewhere;
+use iim_unpack::laws::unpackers_are_reachable;
 use iim_unpack::{Progress, Refusal, Unpacker};
 use jiff::Timestamp;
 use std::alloc::{AllocError, Global};
 use wire_message::laws::message_laws;
 use wire_story::WordCount;
-use wire_story::laws::{delivery_may_be_cut, story_laws};
+use wire_story::laws::{delivery_of_chunks_joins, story_laws};
 
 /// The row of an envelope that ends in a chunk, with its lengths and instants.
 #[derive(Debug, Drop)]
@@ -45,14 +45,14 @@ fn feed_count(
     piece: &[u8],
     count: &mut WordCount,
 ) -> Result<Progress, Refusal>
-    ensures fed { IfOk result (HasFed unpacker.old count.old piece.now unpacker.new count.new) }
-    ensures refused { IfErr result (IsRefusedFor unpacker.old piece.now) }
+    ensures fed { IfOk result (FeedsAndCounts unpacker.old count.old piece.now unpacker.new count.new) }
+    ensures refused { IfErr result (ChunkIsRejected unpacker.old piece.now) }
     ensures failed { IfErr result (λ e. unpacker.new.refused ≡ Some e.octet) }
     ensures again { (octet : ℕ) → unpacker.old.refused ≡ Some octet → (result ≡ Err (failed_at octet))
         × (unpacker.new ≡ unpacker.old) × (count.new ≡ count.old) }
     ensures limits { unpacker.old.refused ≡ None → OnOk result (limits_in unpacker.new ≡ limits_in unpacker.old) }
 {
-    unpackers_stand_somewhere(unpacker);
+    unpackers_are_reachable(unpacker);
     unpacker.feed(piece, count)
 }
 
@@ -60,7 +60,7 @@ impl PieceAudit {
     /// Creates an audit that has consumed no octets. Allocates the memory that the limits allow;
     /// no later call allocates.
     pub fn new(alloc: Global, limits: Limits) -> Result<PieceAudit, AllocError>
-        ensures stands { IfOk result (λ audit. StandsOn audit [] 0) }
+        ensures stands { IfOk result (λ audit. AuditHasConsumed audit [] 0) }
         ensures limits { IfOk result (λ audit. limits_in audit.unpacker ≡ limits) }
     {
         let unpacker = Unpacker::new(alloc, limits)?;
@@ -96,12 +96,12 @@ impl PieceAudit {
     }
 
     /// Returns the row of the complete envelope, of which `used` octets were in the last chunk.
-    fn row_told(&self, used: usize, now: Timestamp) -> PieceRow
+    fn row_of_complete(&self, used: usize, now: Timestamp) -> PieceRow
         requires { IsDone self.now.unpacker }
         ensures used { result.used ≡ used }
         ensures octets { result.octets ≡ self.now.unpacker.octets }
         ensures short { IsShort result.row.id }
-        ensures row { (p : List ℕ) (a : ℕ) → IsDoneWith self.now.unpacker p a → HaveWords p self.now.count
+        ensures row { (p : List ℕ) (a : ℕ) → IsDoneWith self.now.unpacker p a → WordsAreCounted p self.now.count
             → IsRowOf (limits_in self.now.unpacker) now.nanosecond p result }
     {
         dataset_laws();
@@ -116,7 +116,7 @@ impl PieceAudit {
         PieceRow {
             used,
             octets: self.unpacker.octets(),
-            row: row_of(&Taken { unpacked, words }, now),
+            row: row_of(&EnvelopeParts { unpacked, words }, now),
             release,
             expires,
         }
@@ -124,7 +124,7 @@ impl PieceAudit {
 
     /// Resets the audit for the next envelope.
     fn again(&mut self)
-        ensures stands { StandsOn self.new [] 0 }
+        ensures stands { AuditHasConsumed self.new [] 0 }
         ensures limits { limits_in self.new.unpacker ≡ limits_in self.old.unpacker }
     {
         self.unpacker.again();
@@ -141,10 +141,10 @@ impl PieceAudit {
     pub fn next_row(&mut self, piece: &[u8], now: Timestamp) -> Result<Option<PieceRow>, Refusal>
         // The result depends on all octets of the envelope, not on how they were split into
         // chunks.
-        ensures found { IfOk result (λ found. (p : List ℕ) (a : ℕ) → StandsOn self.old p a
-            → Finds (limits_in self.old.unpacker) now.nanosecond p a piece.now self.new found) }
-        ensures refused { IfErr result (λ e. (p : List ℕ) (a : ℕ) → StandsOn self.old p a
-            → Refuses (limits_in self.old.unpacker) p a piece.now e) }
+        ensures found { IfOk result (λ found. (p : List ℕ) (a : ℕ) → AuditHasConsumed self.old p a
+            → FindsRow (limits_in self.old.unpacker) now.nanosecond p a piece.now self.new found) }
+        ensures refused { IfErr result (λ e. (p : List ℕ) (a : ℕ) → AuditHasConsumed self.old p a
+            → RejectsChunk (limits_in self.old.unpacker) p a piece.now e) }
         ensures failed { IfErr result (λ e. self.new.unpacker.refused ≡ Some e.octet) }
 
         // After a refusal a call changes nothing.
@@ -156,11 +156,11 @@ impl PieceAudit {
         ensures fits { IfOk result (λ found. IfSome found (λ row. (row.used ≤ length piece.now)
             × (length row.row.id.service ≤ 10) × (length row.row.id.number ≤ 8) × (length row.row.id.date_sent ≤ 8))) }
     {
-        delivery_may_be_cut();
+        delivery_of_chunks_joins();
         match feed_count(&mut self.unpacker, piece, &mut self.count) {
             Ok(Progress::More) => Ok(None),
             Ok(Progress::Done { used }) => {
-                let found = self.row_told(used, now);
+                let found = self.row_of_complete(used, now);
                 self.again();
                 Ok(Some(found))
             }

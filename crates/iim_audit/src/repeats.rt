@@ -5,7 +5,7 @@ ghost use Rattle.std.specs.List.{All};
 ghost use Rattle.std.specs.List.Sorted.{IsPermutation, IsSortedBy};
 ghost use Rattle.std.specs.Ordering.{is_lt};
 ghost use Rattle.iim_fields.specs.Format.Records.{id_cmp, id_eq};
-ghost use Rattle.iim_audit.specs.Steps.{AreFilled, AreFresh, IsOrder, IsPlace, by_index, ids_of, index_at, index_cmp, key_at, key_of, place_cmp, place_of, places_of};
+ghost use Rattle.iim_audit.specs.Steps.{HaveFirsts, HaveNoFirst, IsIdOrder, IsSortKey, id_at_index_cmp, ids_of, index_at, id_then_index_cmp, id_key_at, id_key_of, sort_key_cmp, sort_key_of, sort_keys_of};
 ghost use Rattle.iim_audit.specs.declared.row.AuditRow.{AuditRow as Row};
 
 use crate::row::AuditRow;
@@ -18,8 +18,8 @@ const INDICES: u64 = 1 << 32;
 
 /// Returns the key of an id: four bits of each octet of its number. Different numbers have
 /// different keys.
-fn key_of(id: &EnvelopeId) -> u32
-    ensures { result ≡ key_of id.now }
+fn id_key_of(id: &EnvelopeId) -> u32
+    ensures { result ≡ id_key_of id.now }
 {
     let mut key: u32 = 0;
     for octet in id.number() {
@@ -29,16 +29,16 @@ fn key_of(id: &EnvelopeId) -> u32
 }
 
 /// Returns the sort key of the row at `index`, whose id is `id`.
-pub(crate) fn place_of(id: &EnvelopeId, index: u32) -> u64
-    ensures { result ≡ place_of id.now index }
+pub(crate) fn sort_key_of(id: &EnvelopeId, index: u32) -> u64
+    ensures { result ≡ sort_key_of id.now index }
 {
-    u64::from(key_of(id)) * INDICES + u64::from(index)
+    u64::from(id_key_of(id)) * INDICES + u64::from(index)
 }
 
 /// Returns the key of the id in a sort key.
 #[inline(always)]
-fn key_at(place: u64) -> u64
-    ensures { result ≡ key_at place }
+fn id_key_at(place: u64) -> u64
+    ensures { result ≡ id_key_at place }
 {
     place / INDICES
 }
@@ -53,7 +53,7 @@ fn index_at(place: u64) -> usize
 
 /// Compares the ids of the rows at two indices. An index out of range comes first.
 fn compare_ids(rows: &[AuditRow], a: usize, b: usize) -> Ordering
-    ensures { result ≡ by_index id_cmp (ids_of rows.now) a b }
+    ensures { result ≡ id_at_index_cmp id_cmp (ids_of rows.now) a b }
 {
     match (rows.get(a), rows.get(b)) {
         (None, None) => Ordering::Equal,
@@ -66,7 +66,7 @@ fn compare_ids(rows: &[AuditRow], a: usize, b: usize) -> Ordering
 /// Compares two indices by the ids of their rows, and by the indices themselves if the ids are
 /// equal.
 fn compare_indices(rows: &[AuditRow], a: usize, b: usize) -> Ordering
-    ensures { result ≡ index_cmp id_cmp (ids_of rows.now) a b }
+    ensures { result ≡ id_then_index_cmp id_cmp (ids_of rows.now) a b }
 {
     compare_ids(rows, a, b).then(a.cmp(&b))
 }
@@ -74,9 +74,9 @@ fn compare_indices(rows: &[AuditRow], a: usize, b: usize) -> Ordering
 /// Compares two sort keys by the keys of their ids, and by their rows if these are equal.
 #[inline(always)]
 fn compare(rows: &[AuditRow], a: u64, b: u64) -> Ordering
-    ensures { result ≡ place_cmp (ids_of rows.now) a b }
+    ensures { result ≡ sort_key_cmp (ids_of rows.now) a b }
 {
-    match key_at(a).cmp(&key_at(b)) {
+    match id_key_at(a).cmp(&id_key_at(b)) {
         Ordering::Equal => compare_indices(rows, index_at(a), index_at(b)),
         order => order,
     }
@@ -84,9 +84,9 @@ fn compare(rows: &[AuditRow], a: u64, b: u64) -> Ordering
 
 /// Sorts the sort keys of rows: by the keys of their ids, then by the ids, then by the indices.
 /// Allocates nothing.
-fn sort_places(rows: &[AuditRow], places: &mut [u64])
+fn sort_keys(rows: &[AuditRow], places: &mut [u64])
     ensures permutation { IsPermutation places.old places.new }
-    ensures sorted { IsSortedBy (λ a b. is_lt (place_cmp (ids_of rows.now) a b)) places.new }
+    ensures sorted { IsSortedBy (λ a b. is_lt (sort_key_cmp (ids_of rows.now) a b)) places.new }
 {
     places.sort_unstable_by(|a, b| compare(rows, *a, *b));
 }
@@ -96,15 +96,15 @@ fn sort_places(rows: &[AuditRow], places: &mut [u64])
 /// their ids are equal.
 #[inline(always)]
 fn group_of(rows: &[AuditRow], group: u64, place: u64) -> u64
-    requires group { IsPlace (ids_of rows.now) group }
-    requires place { IsPlace (ids_of rows.now) place }
-    ensures within { IsPlace (ids_of rows.now) result }
+    requires group { IsSortKey (ids_of rows.now) group }
+    requires place { IsSortKey (ids_of rows.now) place }
+    ensures within { IsSortKey (ids_of rows.now) result }
     ensures same { (d : Row) → id_eq (slice_index_or rows.now (index_at place) d).id
         (slice_index_or rows.now (index_at group) d).id ≡ true → index_at result ≡ index_at group }
     ensures other { (d : Row) → id_eq (slice_index_or rows.now (index_at place) d).id
         (slice_index_or rows.now (index_at group) d).id ≡ false → index_at result ≡ index_at place }
 {
-    if key_at(place) != key_at(group) {
+    if id_key_at(place) != id_key_at(group) {
         return place;
     }
     if rows[index_at(place)].id == rows[index_at(group)].id {
@@ -116,7 +116,7 @@ fn group_of(rows: &[AuditRow], group: u64, place: u64) -> u64
 
 /// Sets the number of the first row with the same id, `group`, in the row at `at`, if that row is
 /// earlier.
-fn tell_first(row: &mut AuditRow, group: usize, at: usize)
+fn set_first(row: &mut AuditRow, group: usize, at: usize)
     ensures told { group < at → row.new ≡ record (row.old) { first = Some (group + 1) } }
     ensures untold { (group < at → ⊥) → row.new ≡ row.old }
     ensures id { row.new.id ≡ row.old.id }
@@ -128,10 +128,10 @@ fn tell_first(row: &mut AuditRow, group: usize, at: usize)
 
 /// Sets in each row the number of the first row with the same id, if that row is earlier. The sort
 /// keys are sorted by the ids of their rows.
-fn fill_firsts(rows: &mut [AuditRow], places: &[u64])
-    requires { All (IsPlace (ids_of rows.old)) places.now }
-    ensures filled { IsOrder (ids_of rows.old) (map index_at places.now) → AreFresh rows.old
-        → AreFilled rows.old rows.new }
+fn set_all_firsts(rows: &mut [AuditRow], places: &[u64])
+    requires { All (IsSortKey (ids_of rows.old)) places.now }
+    ensures filled { IsIdOrder (ids_of rows.old) (map index_at places.now) → HaveNoFirst rows.old
+        → HaveFirsts rows.old rows.new }
     ensures ids { ids_of rows.new ≡ ids_of rows.old }
 {
     let Some(first) = places.first() else {
@@ -141,18 +141,18 @@ fn fill_firsts(rows: &mut [AuditRow], places: &[u64])
     for place in places {
         group = group_of(rows, group, *place);
         let at = index_at(*place);
-        tell_first(&mut rows[at], index_at(group), at);
+        set_first(&mut rows[at], index_at(group), at);
     }
 }
 
 /// Sets in each row the number of the first row with the same id, if that row is earlier. `places`
 /// has the sort keys of all rows, in any order. Allocates nothing.
-pub(crate) fn tell_repeats(rows: &mut [AuditRow], places: &mut [u64])
+pub(crate) fn set_repeats(rows: &mut [AuditRow], places: &mut [u64])
     requires few { length (ids_of rows.old) ≤ 2 ^ 32 }
-    requires places { places.old ≡ places_of 0 (ids_of rows.old) }
-    ensures filled { AreFresh rows.old → AreFilled rows.old rows.new }
+    requires places { places.old ≡ sort_keys_of 0 (ids_of rows.old) }
+    ensures filled { HaveNoFirst rows.old → HaveFirsts rows.old rows.new }
     ensures ids { ids_of rows.new ≡ ids_of rows.old }
 {
-    sort_places(rows, places);
-    fill_firsts(rows, places);
+    sort_keys(rows, places);
+    set_all_firsts(rows, places);
 }

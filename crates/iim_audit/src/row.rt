@@ -5,8 +5,8 @@ ghost use Rattle.std.specs.Str.Parse.{digits_value};
 ghost use Rattle.wire_message.specs.Format.Messages.{IsField, max_words};
 ghost use Rattle.iim_dataset.specs.Format.Octets.{is_digit};
 ghost use Rattle.iim_places.specs.Format.Admitted.{Value};
-ghost use Rattle.iim_audit.specs.Steps.{IsShort, IsTaken};
-ghost use Rattle.iim_audit.specs.Format.{row_with};
+ghost use Rattle.iim_audit.specs.Steps.{IsShort, ArePartsOf};
+ghost use Rattle.iim_audit.specs.Format.{row_with_first_of};
 
 use crate::age::age_at;
 use crate::copy::{CopyState, copy_at};
@@ -42,7 +42,7 @@ pub struct AuditRow {
 /// What a row is made from: borrowed parts of an unpacked envelope, and the number of words of its
 /// story.
 #[derive(Drop)]
-pub(crate) struct Taken<'u> {
+pub(crate) struct EnvelopeParts<'u> {
     pub(crate) unpacked: UnpackedRef<'u>,
     pub(crate) words: u64,
 }
@@ -61,8 +61,8 @@ fn number_of(digits: &[u8]) -> u64
 }
 
 /// Returns the row of an envelope, with `first` unset.
-pub(crate) fn row_of(got: &Taken<'_>, now: Timestamp) -> AuditRow
-    ensures row { (v : Value) → IsTaken got.now v → result ≡ row_with now.nanosecond v None }
+pub(crate) fn row_of(got: &EnvelopeParts<'_>, now: Timestamp) -> AuditRow
+    ensures row { (v : Value) → ArePartsOf got.now v → result ≡ row_with_first_of now.nanosecond v None }
     ensures short { IsShort result.id }
 {
     let unpacked = &got.unpacked;

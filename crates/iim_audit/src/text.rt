@@ -1,7 +1,7 @@
 //! The text of a report.
 
 ghost use Rattle.std.specs.Prelude.{◌≡◌, ◌+◌, ◌≤◌, [], ◌++◌, length, IfOk};
-ghost use Rattle.iim_audit.specs.Format.{ages_of, held_rows, is_held, known_by, repeated_rows, row_line, seconds_or_dash, sizes_of, sums_line, printed_report};
+ghost use Rattle.iim_audit.specs.Format.{age_columns, held_rows, is_held, id_columns, repeated_rows, row_line, seconds_or_dash, size_columns, totals_line, printed_report};
 ghost use Rattle.iim_dataset.specs.Format.Datasets.{number_or_dash};
 ghost use Rattle.iim_audit.specs.Steps.{IsShort};
 
@@ -40,7 +40,7 @@ fn prepend_number_or_dash(line: &mut ReportLine, number: Option<u64>)
 fn prepend_id(line: &mut ReportLine, number: u64, row: &AuditRow)
     requires short { IsShort row.now.id }
     requires room { length line.old ≤ 190 }
-    ensures { line.new ≡ known_by number row.now ++ line.old }
+    ensures { line.new ≡ id_columns number row.now ++ line.old }
 {
     line.prepend(row.id.date_sent());
     line.prepend(b" ");
@@ -54,7 +54,7 @@ fn prepend_id(line: &mut ReportLine, number: u64, row: &AuditRow)
 /// Inserts the sizes and word counts of a row at the front.
 fn prepend_sizes(line: &mut ReportLine, row: &AuditRow)
     requires { length line.old ≤ 70 }
-    ensures octets { line.new ≡ sizes_of row.now ++ line.old }
+    ensures octets { line.new ≡ size_columns row.now ++ line.old }
     ensures len { length line.new ≤ 175 }
 {
     line.prepend_number(row.counted);
@@ -70,7 +70,7 @@ fn prepend_sizes(line: &mut ReportLine, row: &AuditRow)
 /// Inserts the age of a row, the envelope that it repeats, and its copy state at the front.
 fn prepend_ages(line: &mut ReportLine, row: &AuditRow)
     requires { length line.old ≤ 0 }
-    ensures octets { line.new ≡ ages_of row.now ++ line.old }
+    ensures octets { line.new ≡ age_columns row.now ++ line.old }
     ensures len { length line.new ≤ 70 }
 {
     line.prepend(b"\n");
@@ -97,7 +97,7 @@ fn line_of(number: u64, row: &AuditRow) -> ReportLine
 }
 
 /// Returns the number of rows that repeat an earlier one.
-fn repeated(rows: &[AuditRow]) -> usize
+fn count_repeated(rows: &[AuditRow]) -> usize
     ensures { result ≡ repeated_rows rows.now }
 {
     rows.iter().filter(|row| row.first.is_some()).count()
@@ -111,7 +111,7 @@ fn is_held(row: &AuditRow) -> bool
 }
 
 /// Returns the number of rows whose copy is held.
-fn held(rows: &[AuditRow]) -> usize
+fn count_held(rows: &[AuditRow]) -> usize
     ensures { result ≡ held_rows rows.now }
 {
     rows.iter().filter(|row| is_held(row)).count()
@@ -119,7 +119,7 @@ fn held(rows: &[AuditRow]) -> usize
 
 impl Report {
     ghost use Rattle.std.specs.Prelude.{◌≡◌, ◌+◌, ◌<◌, length, slice_index_or};
-    ghost use Rattle.iim_audit.specs.Format.{row_line, sums_line};
+    ghost use Rattle.iim_audit.specs.Format.{row_line, totals_line};
     ghost use Rattle.iim_audit.specs.declared.row.AuditRow.{AuditRow as Row};
 
     /// Returns the line of the row at an index. The service is escaped: octets from 20 to 7E
@@ -136,14 +136,14 @@ impl Report {
     /// Returns the line after the rows: the number of rows, of rows that repeat an earlier one,
     /// and of rows whose copy is held.
     pub fn last_line(&self) -> ReportLine
-        ensures { result ≡ sums_line self.now }
+        ensures { result ≡ totals_line self.now }
     {
         let rows = self.rows();
         let mut line = ReportLine::new();
         line.prepend(b" held\n");
-        line.prepend_number(held(rows) as u64);
+        line.prepend_number(count_held(rows) as u64);
         line.prepend(b" repeated, ");
-        line.prepend_number(repeated(rows) as u64);
+        line.prepend_number(count_repeated(rows) as u64);
         line.prepend(b" envelopes, ");
         line.prepend_number(rows.len() as u64);
         line

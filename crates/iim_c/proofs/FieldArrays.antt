@@ -1,5 +1,5 @@
 -- Arrays that datasets are written into.
-use Rattle.iim_c.proofs.Words.{◌≡◌, ℕ, ◌+◌, ◌-◌, ◌<◌, ◌≤◌, List, length, get_or, drop, inl, inr, refl, sym, ap, subst, ◌∙◌, arith, cases_eq, drop-drop, Split}
+use Rattle.iim_c.proofs.Words.{◌≡◌, ℕ, ◌+◌, ◌-◌, ◌<◌, ◌≤◌, List, length, get_or, drop, inl, inr, refl, sym, ap, subst, ◌∙◌, arith, cases_eq, drop-drop, Contents}
 use Rattle.std.proofs.Common.{set}
 use Rattle.std.proofs.lemmas.Bool.{cases_lt}
 use Rattle.std.proofs.lemmas.List.{drop-set-lt, get_or-set_same, get_or-set_other}
@@ -7,13 +7,13 @@ use Rattle.iim_c.specs.Format.Tickets.{ArrayHasFields, IsFieldAt, no_dataset}
 use Rattle.iim_c.specs.declared.field.IimDataset.{IimDataset}
 
 -- before the first dataset no entry is written
-pub none_put : (ticket : List ℕ) (s : Split) (from count : ℕ) (array : List IimDataset) → count ≡ 0 → ArrayHasFields ticket s from count array array
-none_put ticket s from count array none = record { each = λ k below room. absurd (omega (arith, none, below)); others = refl }
+pub no_field_yet : (ticket : List ℕ) (s : Contents) (from count : ℕ) (array : List IimDataset) → count ≡ 0 → ArrayHasFields ticket s from count array array
+no_field_yet ticket s from count array none = record { each = λ k below room. absurd (omega (arith, none, below)); others = refl }
 
 -- the dataset after the first n, and those before it
-set_put : (ticket : List ℕ) (s : Split) (from n : ℕ) (old now : List IimDataset) (found : IimDataset) → ArrayHasFields ticket s from n old now
+one_more_field : (ticket : List ℕ) (s : Contents) (from n : ℕ) (old now : List IimDataset) (found : IimDataset) → ArrayHasFields ticket s from n old now
     → length now ≡ length old → IsFieldAt ticket s (from + n) found → ArrayHasFields ticket s from (n + 1) old (set now n found)
-set_put ticket s from n old now found had same is = record {
+one_more_field ticket s from n old now found had same is = record {
   each = λ k below room.
       elim (cases_eq k n) as (λ _. IsFieldAt ticket s (from + k) (get_or (set now n found) k no_dataset)) [
         | inl here ↦
@@ -27,11 +27,11 @@ set_put ticket s from n old now found had same is = record {
 }
 
 -- the dataset with this index is written if it is one of those after the first `from`
-pub one_put : (ticket : List ℕ) (s : Split) (from index : ℕ) (old now new : List IimDataset) (found : IimDataset)
+pub put_if_wanted : (ticket : List ℕ) (s : Contents) (from index : ℕ) (old now new : List IimDataset) (found : IimDataset)
     → ArrayHasFields ticket s from (index - from) old now → length now ≡ length old → IsFieldAt ticket s index found
     → (index < from → new ≡ now) → (from ≤ index → new ≡ set now (index - from) found)
     → ArrayHasFields ticket s from ((index + 1) - from) old new
-one_put ticket s from index old now new found had same is skipped put =
+put_if_wanted ticket s from index old now new found had same is skipped put =
     elim (cases_lt index from) as (λ _. ArrayHasFields ticket s from ((index + 1) - from) old new) [
       | inl before ↦
           (let count : (index + 1) - from ≡ index - from = omega (arith, before) in
@@ -39,5 +39,6 @@ one_put ticket s from index old now new found had same is skipped put =
       | inr past ↦
           (let count : (index + 1) - from ≡ (index - from) + 1 = omega (arith, past) in
           let there : from + (index - from) ≡ index = omega (arith, past) in
-          rw (count, put past) (set_put ticket s from (index - from) old now found had same (subst (λ (m : ℕ). IsFieldAt ticket s m found) (sym there) is)))
+          rw (count, put past) (one_more_field ticket s from (index - from) old now found had same (subst (λ (m : ℕ). IsFieldAt ticket s m found)
+          (sym there) is)))
     ]

@@ -2,14 +2,14 @@
 
 ghost use Rattle.std.specs.Prelude.{◌≡◌, None};
 ghost use Rattle.iim_c.specs.Format.Checking.{limits_for};
-ghost use Rattle.iim_c.specs.Format.Auditing.{IsAudited, IsAuditedAt};
+ghost use Rattle.iim_c.specs.Format.Auditing.{IsAudited, ReturnsAuditedAt};
 ghost use Rattle.iim_c.specs.Format.Answers.{refusal_answer};
 ghost use Rattle.iim_c.specs.Format.Statuses as status;
-ghost use Rattle.iim_c.specs.Steps.{IsKept};
+ghost use Rattle.iim_c.specs.Steps.{SavesAudit};
 
 use crate::answer::{IimAnswer, refusal_answer, status_answer, ticket_answer};
 use crate::begin::begin;
-use crate::feed::saved;
+use crate::feed::save_and_answer;
 use crate::finding::{Ending, Found, find_rows};
 use crate::instant::IimInstant;
 use crate::limits::IimLimits;
@@ -26,7 +26,7 @@ use std::alloc::Global;
 /// Writes the ticket of the audit's state, and returns the answer for the rows that were found.
 /// `told` has the status and the number of octets consumed. Writes `so_far` only if the ticket and
 /// the rows fit. Allocates nothing.
-fn kept(
+fn save_audit(
     audit: &PieceAudit,
     found: Found,
     told: (u8, usize),
@@ -35,10 +35,10 @@ fn kept(
     ticket_out: &mut [u8],
 ) -> IimAnswer
     requires { audit.now.unpacker.refused ≡ None }
-    ensures { IsKept audit.now found told room so_far.old so_far.new ticket_out.new result }
+    ensures { SavesAudit audit.now found told room so_far.old so_far.new ticket_out.new result }
 {
     let unpacker = audit.unpacker();
-    let answer = saved(unpacker, told, found.rows, room, ticket_out);
+    let answer = save_and_answer(unpacker, told, found.rows, room, ticket_out);
     if answer.status == told.0 {
         let (words, inside) = audit.words();
         *so_far = IimSoFar {
@@ -52,7 +52,7 @@ fn kept(
 }
 
 /// Returns the answer for a refusal after the rows that were found.
-fn refused(found: Found, refusal: Refusal) -> IimAnswer
+fn refusal_after_rows(found: Found, refusal: Refusal) -> IimAnswer
     ensures { result ≡ record (refusal_answer status.refused refusal) { used = found.used; written = found.rows } }
 {
     IimAnswer {
@@ -63,7 +63,7 @@ fn refused(found: Found, refusal: Refusal) -> IimAnswer
 }
 
 /// Audits a chunk from the state of a ticket on, and returns the answer.
-fn audited(
+fn audit_chunk(
     alloc: Global,
     limits: Limits,
     ticket: &[u8],
@@ -73,7 +73,7 @@ fn audited(
     rows: &mut [IimAuditRow],
     ticket_out: &mut [u8],
 ) -> IimAnswer
-    ensures { IsAuditedAt limits ticket.now so_far.old piece.now now.nanosecond rows.old rows.new ticket_out.new
+    ensures { ReturnsAuditedAt limits ticket.now so_far.old piece.now now.nanosecond rows.old rows.new ticket_out.new
         so_far.new result }
 {
     place_laws();
@@ -89,11 +89,11 @@ fn audited(
     let room = rows.len();
     let (found, ending) = find_rows(&mut audit, so_far.at, piece, now, rows);
     match ending {
-        Ending::Used => kept(&audit, found, (MORE, piece.len()), room, so_far, ticket_out),
-        Ending::Full => kept(&audit, found, (DONE, found.used), room, so_far, ticket_out),
+        Ending::Used => save_audit(&audit, found, (MORE, piece.len()), room, so_far, ticket_out),
+        Ending::Full => save_audit(&audit, found, (DONE, found.used), room, so_far, ticket_out),
         Ending::Refused(refusal) => {
             *so_far = IimSoFar::begins(found.at);
-            refused(found, refusal)
+            refusal_after_rows(found, refusal)
         }
     }
 }
@@ -119,8 +119,8 @@ pub fn iim_audit(
     ensures { IsAudited (limits_for limits) ticket.now so_far.old piece.now now rows.old rows.new ticket_out.new
         so_far.new answer.new }
 {
-    *answer = match now.told() {
-        Some(now) => audited(
+    *answer = match now.to_library() {
+        Some(now) => audit_chunk(
             alloc,
             limits.limits(),
             ticket,

@@ -2,7 +2,7 @@
 
 ghost use Rattle.std.specs.Prelude.{IfOk, IfErr};
 ghost use Rattle.iim_c.specs.Format.Answers.{ticket_answer};
-ghost use Rattle.iim_c.specs.Format.Feeding.{IsNowhere};
+ghost use Rattle.iim_c.specs.Format.Feeding.{HasNoState};
 ghost use Rattle.iim_c.specs.Steps.{IsBegun};
 
 use iim_fields::Limits;
@@ -18,7 +18,7 @@ pub(crate) fn begin(
     at: u64,
 ) -> Result<Unpacker, TicketFault>
     ensures begun { IfOk result (IsBegun limits ticket.now at) }
-    ensures fault { IfErr result (λ fault. IsNowhere limits ticket.now (ticket_answer fault)) }
+    ensures fault { IfErr result (λ fault. HasNoState limits ticket.now (ticket_answer fault)) }
 {
     if !ticket.is_empty() {
         return Unpacker::restore(alloc, limits, ticket, at);

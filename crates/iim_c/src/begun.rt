@@ -1,10 +1,10 @@
 //! What is in progress in the state of a ticket.
 
 ghost use Rattle.std.specs.Prelude.{◌≡◌, ℕ, ◌+◌, ◌*◌, List, [], length, get_or};
-ghost use Rattle.iim_places.specs.Format.TicketForm.{SplitsTicket};
-ghost use Rattle.iim_places.specs.Format.Tickets.{DataBegun, IsPlaceOf, Place, TagBegun, width};
-ghost use Rattle.iim_places.specs.States.Restored.{IsTicketAt, phase_told, split_told};
-ghost use Rattle.iim_c.specs.Format.Tickets.{IsBegunOf, IsBegunTold, TellsOctets, TellsToken, begun_by};
+ghost use Rattle.iim_places.specs.Format.TicketForm.{HasContents};
+ghost use Rattle.iim_places.specs.Format.Tickets.{PartialData, ReachesPlace, Place, PartialTag, width};
+ghost use Rattle.iim_places.specs.States.Restored.{EncodesPlace, phase_of_ticket, contents_from};
+ghost use Rattle.iim_c.specs.Format.Tickets.{IsProgressOf, ReturnsProgress, HasProgressOf, HasTokenOf, begun_by};
 ghost use Rattle.iim_c.specs.Steps.{span_of};
 
 use crate::answer::{IimAnswer, status_answer, ticket_answer};
@@ -89,7 +89,7 @@ const NO_BEGUN: IimBegun = IimBegun {
 const BEFORE_HELD: usize = 8;
 
 /// Returns the octet of a tag with this index, or 0 if it was not received.
-fn octet_or_0(held: &[u8], index: usize) -> u8
+fn octet_or_zero(held: &[u8], index: usize) -> u8
     ensures { result ≡ get_or held.now index 0 }
 {
     held.get(index).copied().unwrap_or(0)
@@ -97,14 +97,14 @@ fn octet_or_0(held: &[u8], index: usize) -> u8
 
 /// Returns what is in progress after these octets of a tag.
 fn tag_begun(at: u64, held: &[u8]) -> IimBegun
-    ensures { result ≡ begun_by at 0 (TagBegun held.now) (record { offset = 8; count = length held.now }) }
+    ensures { result ≡ begun_by at 0 (PartialTag held.now) (record { offset = 8; count = length held.now }) }
 {
     let came = held.len();
     let first = at.saturating_sub(came as u64);
     IimBegun {
         kind: if held.is_empty() { NOTHING } else { TAG },
-        rec: octet_or_0(held, 1),
-        set: octet_or_0(held, 2),
+        rec: octet_or_zero(held, 1),
+        set: octet_or_zero(held, 2),
         came: came as u64,
         first,
         token: first,
@@ -119,7 +119,7 @@ fn tag_begun(at: u64, held: &[u8]) -> IimBegun
 /// Returns what is in progress in the data of a dataset. `octets` is the slice of the ticket with
 /// the data received.
 fn data_begun(at: u64, section: u8, set: u8, count: u64, left: u64, octets: IimSpan) -> IimBegun
-    ensures { result ≡ begun_by at section (DataBegun set count left []) octets }
+    ensures { result ≡ begun_by at section (PartialData set count left []) octets }
 {
     let came = count.saturating_sub(left);
     let first = at.saturating_sub(came);
@@ -140,7 +140,7 @@ fn data_begun(at: u64, section: u8, set: u8, count: u64, left: u64, octets: IimS
 /// Returns the number of octets of a ticket before the received data: those of [`BEFORE_HELD`],
 /// where the dataset's number takes the place of the number of octets, then its count, and the
 /// number of octets remaining.
-fn taken_offset(version: u8) -> usize
+fn data_offset(version: u8) -> usize
     ensures { result ≡ 8 + 2 * width version }
 {
     BEFORE_HELD + if version == FIRST_VERSION { 8 } else { 16 }
@@ -148,7 +148,7 @@ fn taken_offset(version: u8) -> usize
 
 /// Returns what is in progress, without the parts of the message.
 fn begun_by(at: u64, version: u8, section: u8, phase: &TicketPhase<'_>) -> IimBegun
-    ensures { result ≡ begun_by at section (phase_told phase.now) (span_of version (phase_told phase.now)) }
+    ensures { result ≡ begun_by at section (phase_of_ticket phase.now) (span_of version (phase_of_ticket phase.now)) }
 {
     match phase {
         TicketPhase::Tag(held) => tag_begun(at, held),
@@ -159,7 +159,7 @@ fn begun_by(at: u64, version: u8, section: u8, phase: &TicketPhase<'_>) -> IimBe
             taken,
         } => {
             let octets = IimSpan {
-                offset: taken_offset(version),
+                offset: data_offset(version),
                 count: taken.len(),
             };
             data_begun(at, section, *set, *count, *left, octets)
@@ -175,8 +175,8 @@ fn begun_by(at: u64, version: u8, section: u8, phase: &TicketPhase<'_>) -> IimBe
 
 /// Returns what is in progress in a ticket of these parts.
 fn begun_in(ticket: &[u8], at: u64, parts: &TicketParts<'_>) -> IimBegun
-    requires { SplitsTicket ticket.now (split_told parts.now) }
-    ensures { IsBegunOf ticket.now at (split_told parts.now) result }
+    requires { HasContents ticket.now (contents_from parts.now) }
+    ensures { IsProgressOf ticket.now at (contents_from parts.now) result }
 {
     IimBegun {
         section: parts.section,
@@ -188,12 +188,12 @@ fn begun_in(ticket: &[u8], at: u64, parts: &TicketParts<'_>) -> IimBegun
 }
 
 /// Returns what is in progress in the state of a ticket, and the answer.
-fn place_told(ticket: &[u8], at: u64) -> (IimBegun, IimAnswer)
-    ensures told { IsBegunTold ticket.now at result.0 result.1 }
-    ensures octets { (p : List ℕ) (place : Place) → IsTicketAt ticket.now place → IsPlaceOf p place
-        → TellsOctets p at result.0 }
-    ensures token { (p : List ℕ) (place : Place) → IsTicketAt ticket.now place → IsPlaceOf p place
-        → TellsToken p at result.0 }
+fn place_and_answer(ticket: &[u8], at: u64) -> (IimBegun, IimAnswer)
+    ensures told { ReturnsProgress ticket.now at result.0 result.1 }
+    ensures octets { (p : List ℕ) (place : Place) → EncodesPlace ticket.now place → ReachesPlace p place
+        → HasProgressOf p at result.0 }
+    ensures token { (p : List ℕ) (place : Place) → EncodesPlace ticket.now place → ReachesPlace p place
+        → HasTokenOf p at result.0 }
 {
     dataset_laws();
     record_laws();
@@ -207,15 +207,15 @@ fn place_told(ticket: &[u8], at: u64) -> (IimBegun, IimAnswer)
 /// Returns what is in progress in the state of a ticket, and the part of the message that the
 /// input has reached. `at` is the number of octets of the envelope so far.
 pub fn iim_place(ticket: &[u8], at: u64, begun: &mut IimBegun, answer: &mut IimAnswer)
-    ensures told { IsBegunTold ticket.now at begun.new answer.new }
-    ensures octets { (p : List ℕ) (place : Place) → IsTicketAt ticket.now place → IsPlaceOf p place
-        → TellsOctets p at begun.new }
+    ensures told { ReturnsProgress ticket.now at begun.new answer.new }
+    ensures octets { (p : List ℕ) (place : Place) → EncodesPlace ticket.now place → ReachesPlace p place
+        → HasProgressOf p at begun.new }
     // If the next octet is rejected, the rejected token begins at `token` and ends with that
     // octet.
-    ensures token { (p : List ℕ) (place : Place) → IsTicketAt ticket.now place → IsPlaceOf p place
-        → TellsToken p at begun.new }
+    ensures token { (p : List ℕ) (place : Place) → EncodesPlace ticket.now place → ReachesPlace p place
+        → HasTokenOf p at begun.new }
 {
-    let (found, told) = place_told(ticket, at);
+    let (found, told) = place_and_answer(ticket, at);
     *begun = found;
     *answer = told;
 }

@@ -1,13 +1,13 @@
 //! The names and the meanings of causes, by their numbers.
 
 ghost use Rattle.std.specs.Prelude.{◌≡◌, Some, None, MatchOption};
-ghost use Rattle.iim_c.specs.Format.Tables.{cause_named, cause_text, cause_told, IsNamed, name_or_none};
+ghost use Rattle.iim_c.specs.Format.Tables.{name_for_cause, cause_text, cause_entry, WritesName, name_or_none};
 
 use crate::names::put_name;
 
 /// The name of a cause, and its meaning.
 #[derive(Clone, Copy)]
-struct CauseWords {
+struct CauseText {
     name: &'static str,
     text: &'static str,
 }
@@ -16,7 +16,7 @@ struct CauseWords {
 macro_rules! words_by {
     ($number:expr; $($of:literal $name:literal $text:literal)*) => {
         match $number {
-            $($of => Some(CauseWords { name: $name, text: $text }),)*
+            $($of => Some(CauseText { name: $name, text: $text }),)*
             _ => None,
         }
     };
@@ -80,19 +80,19 @@ macro_rules! cause_in_table {
 }
 
 /// Returns the name and the meaning of a cause, or `None` if no cause has this number.
-#[tactic(auto, unfolding(crate::specs::Format::Tables::cause_told, crate::specs::Format::Tables::causes_told))]
-fn cause_told(number: u8) -> Option<CauseWords>
-    ensures { MatchOption result (cause_told number ≡ None) (λ words.
-        cause_told number ≡ Some (record { number = number; name = words.name.now; text = words.text.now })) }
+#[tactic(auto, unfolding(crate::specs::Format::Tables::cause_entry, crate::specs::Format::Tables::cause_table))]
+fn cause_entry(number: u8) -> Option<CauseText>
+    ensures { MatchOption result (cause_entry number ≡ None) (λ words.
+        cause_entry number ≡ Some (record { number = number; name = words.name.now; text = words.text.now })) }
 {
     cause_in_table!(number)
 }
 
 /// Returns the name of a cause, or `None` if no cause has this number.
-fn cause_named(number: u8) -> Option<&'static str>
-    ensures { MatchOption result (cause_named number ≡ None) (λ name. cause_named number ≡ Some name.now) }
+fn name_for_cause(number: u8) -> Option<&'static str>
+    ensures { MatchOption result (name_for_cause number ≡ None) (λ name. name_for_cause number ≡ Some name.now) }
 {
-    let words = cause_told(number)?;
+    let words = cause_entry(number)?;
     Some(words.name)
 }
 
@@ -100,22 +100,22 @@ fn cause_named(number: u8) -> Option<&'static str>
 fn cause_text(number: u8) -> Option<&'static str>
     ensures { MatchOption result (cause_text number ≡ None) (λ text. cause_text number ≡ Some text.now) }
 {
-    let words = cause_told(number)?;
+    let words = cause_entry(number)?;
     Some(words.text)
 }
 
 /// Writes the name of a cause and a NUL into `out`, if they fit. Returns the number of octets of
 /// the name, or 0 if the cause is unknown.
 pub fn iim_cause_name(cause: u8, out: &mut [u8]) -> usize
-    ensures { IsNamed (name_or_none (cause_named cause)) out.old out.new result }
+    ensures { WritesName (name_or_none (name_for_cause cause)) out.old out.new result }
 {
-    put_name(cause_named(cause), out)
+    put_name(name_for_cause(cause), out)
 }
 
 /// Writes the meaning of a cause and a NUL into `out`, if they fit. Returns the number of octets
 /// of the sentence, or 0 if the cause is unknown.
 pub fn iim_cause_text(cause: u8, out: &mut [u8]) -> usize
-    ensures { IsNamed (name_or_none (cause_text cause)) out.old out.new result }
+    ensures { WritesName (name_or_none (cause_text cause)) out.old out.new result }
 {
     put_name(cause_text(cause), out)
 }

@@ -2,7 +2,7 @@
 
 ghost use Rattle.std.specs.Prelude.{◌≡◌};
 ghost use Rattle.iim_c.specs.Format.Answers.{status_answer};
-ghost use Rattle.iim_c.specs.Format.Checking.{IsChecked, IsOnly, limits_for};
+ghost use Rattle.iim_c.specs.Format.Checking.{ReturnsChecked, IsOnlyAnswer, limits_for};
 ghost use Rattle.iim_c.specs.Format.Statuses as status;
 
 use crate::answer::{IimAnswer, refusal_answer, status_answer};
@@ -15,7 +15,7 @@ use std::alloc::Global;
 use wire_story::Discard;
 
 /// Returns the answer for a complete envelope of `used` octets.
-fn finished(used: usize) -> IimAnswer
+fn complete_answer(used: usize) -> IimAnswer
     ensures { result ≡ record (status_answer status.done) { octet = used; used = used } }
 {
     IimAnswer {
@@ -26,16 +26,16 @@ fn finished(used: usize) -> IimAnswer
 }
 
 /// Checks the envelope at the beginning of `octets`, and returns the answer.
-fn checked(alloc: Global, limits: Limits, octets: &[u8]) -> IimAnswer
-    ensures answer { IsChecked limits octets.now result }
-    ensures only { IsOnly limits octets.now result }
+fn check_octets(alloc: Global, limits: Limits, octets: &[u8]) -> IimAnswer
+    ensures answer { ReturnsChecked limits octets.now result }
+    ensures only { IsOnlyAnswer limits octets.now result }
 {
     place_laws();
     let Ok(mut unpacker) = Unpacker::new(alloc, limits) else {
         return status_answer(NO_MEMORY);
     };
     match unpacker.feed(octets, &mut Discard) {
-        Ok(Progress::Done { used }) => finished(used),
+        Ok(Progress::Done { used }) => complete_answer(used),
         Ok(Progress::More) => match unpacker.end_of_input() {
             Some(refusal) => refusal_answer(TRUNCATED, refusal),
             None => unreachable!(),
@@ -46,8 +46,8 @@ fn checked(alloc: Global, limits: Limits, octets: &[u8]) -> IimAnswer
 
 /// Checks the envelope at the beginning of a buffer.
 pub fn iim_check(alloc: Global, limits: IimLimits, octets: &[u8], answer: &mut IimAnswer)
-    ensures answer { IsChecked (limits_for limits) octets.now answer.new }
-    ensures only { IsOnly (limits_for limits) octets.now answer.new }
+    ensures answer { ReturnsChecked (limits_for limits) octets.now answer.new }
+    ensures only { IsOnlyAnswer (limits_for limits) octets.now answer.new }
 {
-    *answer = checked(alloc, limits.limits(), octets);
+    *answer = check_octets(alloc, limits.limits(), octets);
 }

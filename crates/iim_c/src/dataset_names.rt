@@ -1,7 +1,7 @@
 //! The names of datasets.
 
 ghost use Rattle.std.specs.Prelude.{◌≡◌, Some, None, MatchOption};
-ghost use Rattle.iim_c.specs.Format.Tables.{IsNamed, dataset_named, name_or_none};
+ghost use Rattle.iim_c.specs.Format.Tables.{WritesName, dataset_name_of, name_or_none};
 
 use crate::names::put_name;
 
@@ -80,9 +80,9 @@ macro_rules! name_in_table {
 }
 
 /// Returns the name that the standard gives a dataset, or `None` if the tables do not have it.
-#[tactic(auto, unfolding(crate::specs::Format::Tables::dataset_named, crate::specs::Format::Tables::dataset_names))]
-fn dataset_named(rec: u8, set: u8) -> Option<&'static str>
-    ensures { MatchOption result (dataset_named rec set ≡ None) (λ name. dataset_named rec set ≡ Some name.now) }
+#[tactic(auto, unfolding(crate::specs::Format::Tables::dataset_name_of, crate::specs::Format::Tables::dataset_names))]
+fn dataset_name_of(rec: u8, set: u8) -> Option<&'static str>
+    ensures { MatchOption result (dataset_name_of rec set ≡ None) (λ name. dataset_name_of rec set ≡ Some name.now) }
 {
     name_in_table!((rec, set))
 }
@@ -90,7 +90,7 @@ fn dataset_named(rec: u8, set: u8) -> Option<&'static str>
 /// Writes the name of a dataset of the tables and a NUL into `out`, if they fit. Returns the
 /// number of octets of the name, or 0 if the dataset is unknown.
 pub fn iim_dataset_name(rec: u8, set: u8, out: &mut [u8]) -> usize
-    ensures { IsNamed (name_or_none (dataset_named rec set)) out.old out.new result }
+    ensures { WritesName (name_or_none (dataset_name_of rec set)) out.old out.new result }
 {
-    put_name(dataset_named(rec, set), out)
+    put_name(dataset_name_of(rec, set), out)
 }

@@ -1,7 +1,7 @@
 //! The end of the input in the state of a ticket.
 
 ghost use Rattle.iim_c.specs.Format.Checking.{limits_for};
-ghost use Rattle.iim_c.specs.Format.Feeding.{IsEnd};
+ghost use Rattle.iim_c.specs.Format.Feeding.{ReturnsEnd};
 
 use crate::answer::{IimAnswer, refusal_answer, status_answer, ticket_answer};
 use crate::begin::begin;
@@ -12,8 +12,8 @@ use iim_unpack::laws::place_laws;
 use std::alloc::Global;
 
 /// Checks whether the input may end in the state of a ticket, and returns the answer.
-fn ended(alloc: Global, limits: Limits, ticket: &[u8], at: u64) -> IimAnswer
-    ensures { IsEnd limits ticket.now at result }
+fn check_end(alloc: Global, limits: Limits, ticket: &[u8], at: u64) -> IimAnswer
+    ensures { ReturnsEnd limits ticket.now at result }
 {
     place_laws();
     let unpacker = match begin(alloc, limits, ticket, at) {
@@ -32,7 +32,7 @@ fn ended(alloc: Global, limits: Limits, ticket: &[u8], at: u64) -> IimAnswer
 /// Checks whether the input may end in the state of a ticket: the envelope is complete, or it is
 /// truncated.
 pub fn iim_end(alloc: Global, limits: IimLimits, ticket: &[u8], at: u64, answer: &mut IimAnswer)
-    ensures { IsEnd (limits_for limits) ticket.now at answer.new }
+    ensures { ReturnsEnd (limits_for limits) ticket.now at answer.new }
 {
-    *answer = ended(alloc, limits.limits(), ticket, at);
+    *answer = check_end(alloc, limits.limits(), ticket, at);
 }

@@ -2,12 +2,12 @@
 
 ghost use Rattle.std.specs.Prelude.{◌≡◌, ℕ, None, Some, Ok, Err, IfOk, IfErr, OnOk};
 ghost use Rattle.iim_c.specs.Format.Answers.{refusal_answer, short_answer};
-ghost use Rattle.iim_unpack.specs.States.Unpacking.{IsDone, failed_at, limits_in, room_in};
+ghost use Rattle.iim_unpack.specs.States.Unpacking.{IsDone, failed_at, limits_in, capacity_in};
 ghost use Rattle.iim_c.specs.Format.Checking.{limits_for};
-ghost use Rattle.iim_c.specs.Format.Feeding.{IsFed};
+ghost use Rattle.iim_c.specs.Format.Feeding.{ReturnsFed};
 ghost use Rattle.iim_c.specs.Format.Statuses as status;
-ghost use Rattle.iim_c.specs.Format.Chunks.{HasFedText, HasRefusedText, used_in};
-ghost use Rattle.iim_c.specs.Steps.{IsSaved, TellsRoom};
+ghost use Rattle.iim_c.specs.Format.Chunks.{HasFedText, HasRefusedText, progress_status};
+ghost use Rattle.iim_c.specs.Steps.{IsSaved, FitsOrIsShort};
 
 use crate::answer::{IimAnswer, refusal_answer, status_answer, ticket_answer};
 use crate::begin::begin;
@@ -21,7 +21,7 @@ use iim_unpack::{Progress, Refusal, Unpacker};
 use std::alloc::Global;
 
 /// Ends a mutable borrow. The slice is unchanged.
-fn give_back(lent: &mut [u8])
+fn end_borrow(lent: &mut [u8])
     ensures { lent.new ≡ lent.old }
 {}
 
@@ -41,7 +41,7 @@ fn feed_sink(
     ensures fails { IfErr result (λ e. unpacker.new.refused ≡ Some e.octet) }
     ensures again { (octet : ℕ) → unpacker.old.refused ≡ Some octet → (result ≡ Err (failed_at octet))
         × (unpacker.new ≡ unpacker.old) × (sink.new.count ≡ 0) }
-    ensures memory { room_in unpacker.new ≡ room_in unpacker.old }
+    ensures memory { capacity_in unpacker.new ≡ capacity_in unpacker.old }
 {
     unpacker.feed(piece, sink)
 }
@@ -61,12 +61,12 @@ pub fn feed_text(
     ensures fails { IfErr result.0 (λ e. unpacker.new.refused ≡ Some e.octet) }
     ensures again { (octet : ℕ) → unpacker.old.refused ≡ Some octet → (result.0 ≡ Err (failed_at octet))
         × (unpacker.new ≡ unpacker.old) × (result.1 ≡ 0) }
-    ensures memory { room_in unpacker.new ≡ room_in unpacker.old }
+    ensures memory { capacity_in unpacker.new ≡ capacity_in unpacker.old }
 {
     let mut sink = TextOut { out, count: 0 };
     let answer = feed_sink(unpacker, piece, &mut sink);
     let TextOut { out: same, count } = sink;
-    give_back(same);
+    end_borrow(same);
     (answer, count)
 }
 
@@ -83,8 +83,9 @@ fn short_answer(written: usize, ticket: usize) -> IimAnswer
 
 /// Returns the answer for a refusal, before which the chunk has `written` octets of text. `room`
 /// is the capacity for text.
-fn refused(refusal: Refusal, written: usize, room: usize) -> IimAnswer
-    ensures { TellsRoom written room 0 0 (record (refusal_answer status.refused refusal) { written = written }) result }
+fn refusal_after_text(refusal: Refusal, written: usize, room: usize) -> IimAnswer
+    ensures { FitsOrIsShort written room 0 0 (record (refusal_answer status.refused refusal) { written = written })
+        result }
 {
     if written > room {
         return short_answer(written, 0);
@@ -96,8 +97,8 @@ fn refused(refusal: Refusal, written: usize, room: usize) -> IimAnswer
 }
 
 /// Returns the status for progress, and the number of octets of the chunk that were consumed.
-pub fn used_of(progress: Progress, piece: usize) -> (u8, usize)
-    ensures { result ≡ used_in progress piece }
+pub fn status_and_used(progress: Progress, piece: usize) -> (u8, usize)
+    ensures { result ≡ progress_status progress piece }
 {
     match progress {
         Progress::More => (MORE, piece),
@@ -109,7 +110,7 @@ pub fn used_of(progress: Progress, piece: usize) -> (u8, usize)
 /// the number of octets consumed; `written` is the length of the other output, and `room` its
 /// capacity. If either does not fit, the answer has the lengths that are needed. Allocates
 /// nothing.
-pub(crate) fn saved(
+pub(crate) fn save_and_answer(
     unpacker: &Unpacker,
     told: (u8, usize),
     written: usize,
@@ -145,7 +146,7 @@ fn fed(
     text_out: &mut [u8],
     ticket_out: &mut [u8],
 ) -> IimAnswer
-    ensures { IsFed limits ticket.now at piece.now text_out.new ticket_out.new result }
+    ensures { ReturnsFed limits ticket.now at piece.now text_out.new ticket_out.new result }
 {
     place_laws();
     dataset_laws();
@@ -157,10 +158,10 @@ fn fed(
     let (answer, written) = feed_text(&mut unpacker, piece, text_out);
     match answer {
         Ok(progress) => {
-            let told = used_of(progress, piece.len());
-            saved(&unpacker, told, written, room, ticket_out)
+            let told = status_and_used(progress, piece.len());
+            save_and_answer(&unpacker, told, written, room, ticket_out)
         }
-        Err(refusal) => refused(refusal, written, room),
+        Err(refusal) => refusal_after_text(refusal, written, room),
     }
 }
 
@@ -180,7 +181,7 @@ pub fn iim_feed(
     ticket_out: &mut [u8],
     answer: &mut IimAnswer,
 )
-    ensures { IsFed (limits_for limits) ticket.now at piece.now text_out.new ticket_out.new answer.new }
+    ensures { ReturnsFed (limits_for limits) ticket.now at piece.now text_out.new ticket_out.new answer.new }
 {
     *answer = fed(
         alloc,

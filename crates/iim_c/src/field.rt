@@ -1,10 +1,10 @@
 //! One of the datasets in a ticket.
 
 ghost use Rattle.std.specs.Prelude.{◌≡◌, ◌+◌, ◌^◌, ◌<◌, ◌≤◌, length, IfSome, IfNone};
-ghost use Rattle.iim_places.specs.Format.TicketForm.{SplitsTicket};
+ghost use Rattle.iim_places.specs.Format.TicketForm.{HasContents};
 ghost use Rattle.iim_places.specs.Format.Tickets.{phase_octets};
-ghost use Rattle.iim_places.specs.States.Restored.{phase_told, split_told};
-ghost use Rattle.iim_c.specs.Format.Tickets.{IsField, IsFieldAt};
+ghost use Rattle.iim_places.specs.States.Restored.{phase_of_ticket, contents_from};
+ghost use Rattle.iim_c.specs.Format.Tickets.{ReturnsField, IsFieldAt};
 
 use crate::answer::{IimAnswer, status_answer, ticket_answer};
 use crate::span::{IimSpan, NO_SPAN};
@@ -35,7 +35,7 @@ pub(crate) const HEAD_OCTETS: usize = 6;
 
 /// Returns the number of octets of a ticket that encode what is in progress.
 fn begun_octets(version: u8, phase: &TicketPhase<'_>) -> usize
-    ensures count { result ≡ length (phase_octets version (phase_told phase.now)) }
+    ensures count { result ≡ length (phase_octets version (phase_of_ticket phase.now)) }
     ensures few { result < 2 ^ 63 + 32 }
 {
     let wide = if version == 1 { 4 } else { 8 };
@@ -49,16 +49,16 @@ fn begun_octets(version: u8, phase: &TicketPhase<'_>) -> usize
 /// Returns the number of octets of a ticket before the first dataset: name and version, the
 /// section, what is in progress, and the number of datasets.
 pub(crate) fn fields_start(parts: &TicketParts<'_>) -> usize
-    ensures { result ≡ 10 + length (phase_octets parts.now.version (phase_told parts.now.phase)) }
+    ensures { result ≡ 10 + length (phase_octets parts.now.version (phase_of_ticket parts.now.phase)) }
 {
     5 + 1 + begun_octets(parts.version, &parts.phase) + 4
 }
 
 /// Returns the dataset with the index `n`, or `None` if there are no more than `n`.
 fn field_in(ticket: &[u8], parts: TicketParts<'_>, n: usize) -> Option<IimDataset>
-    requires { SplitsTicket ticket.now (split_told parts) }
-    ensures some { IfSome result (IsFieldAt ticket.now (split_told parts.entry) n) }
-    ensures none { IfNone result (length (split_told parts.entry).fields ≤ n) }
+    requires { HasContents ticket.now (contents_from parts) }
+    ensures some { IfSome result (IsFieldAt ticket.now (contents_from parts.entry) n) }
+    ensures none { IfNone result (length (contents_from parts.entry).fields ≤ n) }
 {
     let mut offset = fields_start(&parts);
     let mut left = n;
@@ -81,7 +81,7 @@ fn field_in(ticket: &[u8], parts: TicketParts<'_>, n: usize) -> Option<IimDatase
 
 /// Returns the dataset with the index `n` of those of records 1 and 2 in a ticket.
 pub fn iim_field(ticket: &[u8], n: usize, dataset: &mut IimDataset, answer: &mut IimAnswer)
-    ensures { IsField ticket.now n dataset.new answer.new }
+    ensures { ReturnsField ticket.now n dataset.new answer.new }
 {
     let (found, told) = match split_ticket(ticket) {
         Ok(parts) => match field_in(ticket, parts, n) {

@@ -1,8 +1,8 @@
 //! All datasets of a ticket, in one pass.
 
 ghost use Rattle.std.specs.Prelude.{◌≡◌, ◌-◌, ◌<◌, ◌≤◌, length, slice_set};
-ghost use Rattle.iim_places.specs.Format.TicketForm.{SplitsTicket};
-ghost use Rattle.iim_places.specs.States.Restored.{split_told};
+ghost use Rattle.iim_places.specs.Format.TicketForm.{HasContents};
+ghost use Rattle.iim_places.specs.States.Restored.{contents_from};
 ghost use Rattle.iim_c.specs.Format.Tickets.{ArrayHasFields, ReturnsFields, fields_answer};
 
 use crate::answer::{IimAnswer, status_answer, ticket_answer};
@@ -34,9 +34,9 @@ fn put_fields(
     from: usize,
     datasets: &mut [IimDataset],
 ) -> usize
-    requires { SplitsTicket ticket.now (split_told parts) }
-    ensures fields { ArrayHasFields ticket.now (split_told parts.entry) from result datasets.old datasets.new }
-    ensures count { result ≡ length (split_told parts.entry).fields - from }
+    requires { HasContents ticket.now (contents_from parts) }
+    ensures fields { ArrayHasFields ticket.now (contents_from parts.entry) from result datasets.old datasets.new }
+    ensures count { result ≡ length (contents_from parts.entry).fields - from }
 {
     let mut offset = fields_start(&parts);
     let mut index = 0;

@@ -1,9 +1,9 @@
 //! The rows of the envelopes that end in a chunk.
 
 ghost use Rattle.std.specs.Prelude.{◌≡◌, ◌≤◌, ◌<◌, ℕ, List, length, drop, None, OnErr};
-ghost use Rattle.iim_audit.specs.Format.{StandsOn};
+ghost use Rattle.iim_audit.specs.Format.{AuditHasConsumed};
 ghost use Rattle.iim_unpack.specs.States.Unpacking.{limits_in};
-ghost use Rattle.iim_c.specs.Steps.{HasFound, IsWithin, StopsBy};
+ghost use Rattle.iim_c.specs.Steps.{HasFound, IsWithinChunk, EndsSearchBy};
 
 use crate::row::{IimAuditRow, row_for};
 use iim_audit::PieceAudit;
@@ -42,11 +42,11 @@ pub(crate) fn find_rows(
     rows: &mut [IimAuditRow],
 ) -> (Found, Ending)
     requires { audit.old.unpacker.refused ≡ None }
-    ensures found { (p : List ℕ) (a : ℕ) → StandsOn audit.old p a
+    ensures found { (p : List ℕ) (a : ℕ) → AuditHasConsumed audit.old p a
         → HasFound (limits_in audit.old.unpacker) now.nanosecond (record { at = at; octets = p; count = a })
         piece.now rows.new audit.new result.0 result.1 }
-    ensures within { IsWithin piece.now rows.old rows.new result.0 }
-    ensures lives { StopsBy audit.old audit.new result.0.rows (length rows.old) result.1 }
+    ensures within { IsWithinChunk piece.now rows.old rows.new result.0 }
+    ensures lives { EndsSearchBy audit.old audit.new result.0.rows (length rows.old) result.1 }
 {
     let mut found = Found {
         rows: 0,

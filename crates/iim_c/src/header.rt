@@ -1,9 +1,9 @@
 //! The header and the trailer of a message in a ticket.
 
 ghost use Rattle.std.specs.Prelude.{◌≡◌, ◌-◌, length};
-ghost use Rattle.iim_places.specs.Format.TicketForm.{SplitsTicket};
-ghost use Rattle.iim_places.specs.States.Restored.{split_told};
-ghost use Rattle.iim_c.specs.Format.Tickets.{IsHeader, IsMessageOf};
+ghost use Rattle.iim_places.specs.Format.TicketForm.{HasContents};
+ghost use Rattle.iim_places.specs.States.Restored.{contents_from};
+ghost use Rattle.iim_c.specs.Format.Tickets.{ReturnsHeader, IsMessageOf};
 
 use crate::answer::{IimAnswer, status_answer, ticket_answer};
 use crate::span::{IimSpan, NO_SPAN};
@@ -66,8 +66,8 @@ fn text_before(next: IimSpan, text: &[u8]) -> IimSpan
 /// Returns the header and the trailer in a ticket of these parts. They are at its end, and before
 /// each text is its length in one octet.
 fn message_in(ticket: &[u8], parts: &TicketParts<'_>) -> IimMessage
-    requires { SplitsTicket ticket.now (split_told parts.now) }
-    ensures { IsMessageOf ticket.now (split_told parts.now) result }
+    requires { HasContents ticket.now (contents_from parts.now) }
+    ensures { IsMessageOf ticket.now (contents_from parts.now) result }
 {
     let [source, number, priority, category, words, info, trailer] = parts.texts;
     let trailer = span_before(ticket.len(), trailer);
@@ -91,7 +91,7 @@ fn message_in(ticket: &[u8], parts: &TicketParts<'_>) -> IimMessage
 
 /// Returns the header and the trailer of the message, as far as they were received.
 pub fn iim_header(ticket: &[u8], message: &mut IimMessage, answer: &mut IimAnswer)
-    ensures { IsHeader ticket.now message.new answer.new }
+    ensures { ReturnsHeader ticket.now message.new answer.new }
 {
     let (found, told) = match split_ticket(ticket) {
         Ok(parts) => (message_in(ticket, &parts), status_answer(DONE)),

@@ -3,7 +3,7 @@
 ghost use Rattle.std.specs.Prelude.{◌≡◌, ◌<◌, IfSome, IfNone};
 ghost use Rattle.std.specs.Option.{option_map};
 ghost use Rattle.iim_tables.specs.Format.Dates.{nanoseconds_in_second};
-ghost use Rattle.iim_c.specs.Format.Tables.{IsInstant, IsToldAs, TellsInstant, nanoseconds_to};
+ghost use Rattle.iim_c.specs.Format.Tables.{IsInstant, IsInstantAt, IsOptionalInstant, nanoseconds_to};
 
 use jiff::Timestamp;
 
@@ -38,8 +38,8 @@ fn instant_of(instant: Timestamp) -> IimInstant
 }
 
 /// Returns whether an instant is present, and the instant for C.
-pub(crate) fn told(instant: Option<Timestamp>) -> (bool, IimInstant)
-    ensures { TellsInstant (option_map (λ t. t.nanosecond) instant) result.0 result.1 }
+pub(crate) fn optional_instant(instant: Option<Timestamp>) -> (bool, IimInstant)
+    ensures { IsOptionalInstant (option_map (λ t. t.nanosecond) instant) result.0 result.1 }
 {
     match instant {
         Some(instant) => (true, instant_of(instant)),
@@ -50,8 +50,8 @@ pub(crate) fn told(instant: Option<Timestamp>) -> (bool, IimInstant)
 impl IimInstant {
     /// Returns the instant, or `None` if it has more nanoseconds than a second, or is earlier than
     /// -009999-01-02T01:59:59Z or later than 9999-12-30T22:00:00.999999999Z.
-    pub(crate) fn told(self) -> Option<Timestamp>
-        ensures some { IfSome result (λ t. IsToldAs self t.nanosecond) }
+    pub(crate) fn to_library(self) -> Option<Timestamp>
+        ensures some { IfSome result (λ t. IsInstantAt self t.nanosecond) }
         ensures none { IfNone result (IsInstant self → ⊥) }
     {
         let nanosecond = i128::from(self.nanosecond);

@@ -2,4 +2,4 @@
 //! change with any release.
 
 pub use crate::answer::{refusal_answer, status_answer, ticket_answer};
-pub use crate::feed::{feed_text, used_of};
+pub use crate::feed::{feed_text, status_and_used};

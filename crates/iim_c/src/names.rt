@@ -2,14 +2,14 @@
 
 ghost use Rattle.std.specs.Prelude.{◌≡◌, ◌+◌, Some, None, MatchOption};
 ghost use Rattle.std.specs.Option.{option_map};
-ghost use Rattle.iim_c.specs.Format.Tables.{IsNamed, layer_named, name_or_none};
+ghost use Rattle.iim_c.specs.Format.Tables.{WritesName, name_of_layer, name_or_none};
 
 use crate::bytes::put_text;
 
 /// Returns the name of a layer, or `None` if no layer has this number.
-#[tactic(auto, unfolding(crate::specs::Format::Tables::layer_named, crate::specs::Format::Tables::layer_names))]
-fn layer_named(number: u8) -> Option<&'static str>
-    ensures { MatchOption result (layer_named number ≡ None) (λ name. layer_named number ≡ Some name.now) }
+#[tactic(auto, unfolding(crate::specs::Format::Tables::name_of_layer, crate::specs::Format::Tables::layer_names))]
+fn name_of_layer(number: u8) -> Option<&'static str>
+    ensures { MatchOption result (name_of_layer number ≡ None) (λ name. name_of_layer number ≡ Some name.now) }
 {
     match number {
         1 => Some("dataset"),
@@ -26,7 +26,7 @@ fn layer_named(number: u8) -> Option<&'static str>
 /// Writes a name and a NUL into `out`, if they fit. Returns the number of octets of the name, or 0
 /// if there is no name.
 pub(crate) fn put_name(name: Option<&str>, out: &mut [u8]) -> usize
-    ensures { IsNamed (name_or_none (option_map (λ n. n.now) name.entry)) out.old out.new result }
+    ensures { WritesName (name_or_none (option_map (λ n. n.now) name.entry)) out.old out.new result }
 {
     let name = name.unwrap_or("").as_bytes();
     if name.len() < out.len() {
@@ -38,7 +38,7 @@ pub(crate) fn put_name(name: Option<&str>, out: &mut [u8]) -> usize
 /// Writes the name of a layer and a NUL into `out`, if they fit. Returns the number of octets of
 /// the name, or 0 if the layer is unknown.
 pub fn iim_layer_name(layer: u8, out: &mut [u8]) -> usize
-    ensures { IsNamed (name_or_none (layer_named layer)) out.old out.new result }
+    ensures { WritesName (name_or_none (name_of_layer layer)) out.old out.new result }
 {
-    put_name(layer_named(layer), out)
+    put_name(name_of_layer(layer), out)
 }

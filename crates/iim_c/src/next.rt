@@ -4,8 +4,8 @@ ghost use Rattle.std.specs.Prelude.{◌≡◌, true, false, if◌then◌else◌,
 ghost use Rattle.iim_c.specs.Format.Answers.{ticket_answer};
 ghost use Rattle.iim_c.specs.Steps.{IsSet};
 ghost use Rattle.iim_c.specs.Format.Checking.{limits_for};
-ghost use Rattle.iim_c.specs.Format.Feeding.{IsNowhere, IsSaid};
-ghost use Rattle.iim_c.specs.Format.Tickets.{GoesOnBy, HasEndedThere, IsNext, TellsNext};
+ghost use Rattle.iim_c.specs.Format.Feeding.{HasNoState, HoldsForTicket};
+ghost use Rattle.iim_c.specs.Format.Tickets.{BitsAreAccepted, TicketIsComplete, ReturnsNext, BitIsAcceptance};
 
 use crate::answer::{IimAnswer, status_answer, ticket_answer};
 use crate::begin::begin;
@@ -47,15 +47,16 @@ fn put_bit(bits: &mut [u8; 32], octet: u8, taken: bool)
 
 /// Checks whether every layer accepts `octet` next in the state of a ticket. Returns `None` if the
 /// envelope is complete in that state.
-fn takes(
+fn accepts_next(
     alloc: Global,
     limits: Limits,
     ticket: &[u8],
     octet: u8,
 ) -> Result<Option<bool>, TicketFault>
-    ensures tried { IfOk result (λ tried. MatchOption tried (HasEndedThere limits ticket.now)
-        (λ taken. IsSaid limits ticket.now 0 (λ p a. TellsNext limits p octet (if taken then 1 else 0)) (λ p a. ⊥))) }
-    ensures fault { IfErr result (λ fault. IsNowhere limits ticket.now (ticket_answer fault)) }
+    ensures tried { IfOk result (λ tried. MatchOption tried (TicketIsComplete limits ticket.now)
+        (λ taken. HoldsForTicket limits ticket.now 0 (λ p a. BitIsAcceptance limits p octet (if taken then 1 else 0))
+        (λ p a. ⊥))) }
+    ensures fault { IfErr result (λ fault. HasNoState limits ticket.now (ticket_answer fault)) }
 {
     place_laws();
     let mut unpacker = begin(alloc, limits, ticket, 0)?;
@@ -71,14 +72,14 @@ fn takes(
 /// Returns the bits of all octets that every layer accepts next, each tried from the state of a
 /// ticket. Returns `None` if the envelope is complete in that state.
 fn try_all(alloc: Global, limits: Limits, ticket: &[u8]) -> Result<Option<[u8; 32]>, TicketFault>
-    ensures tried { IfOk result (λ tried. MatchOption tried (HasEndedThere limits ticket.now)
-        (GoesOnBy limits ticket.now)) }
-    ensures fault { IfErr result (λ fault. IsNowhere limits ticket.now (ticket_answer fault)) }
+    ensures tried { IfOk result (λ tried. MatchOption tried (TicketIsComplete limits ticket.now)
+        (BitsAreAccepted limits ticket.now)) }
+    ensures fault { IfErr result (λ fault. HasNoState limits ticket.now (ticket_answer fault)) }
 {
     let mut bits = NO_OCTETS;
     for next in 0..256u16 {
         let octet = next as u8;
-        let Some(taken) = takes(alloc, limits, ticket, octet)? else {
+        let Some(taken) = accepts_next(alloc, limits, ticket, octet)? else {
             return Ok(None);
         };
         put_bit(&mut bits, octet, taken);
@@ -88,7 +89,7 @@ fn try_all(alloc: Global, limits: Limits, ticket: &[u8]) -> Result<Option<[u8; 3
 
 /// Returns the octets that are accepted next, and the answer.
 fn next_of(alloc: Global, limits: Limits, ticket: &[u8]) -> ([u8; 32], IimAnswer)
-    ensures { IsNext limits ticket.now result.0 result.1 }
+    ensures { ReturnsNext limits ticket.now result.0 result.1 }
 {
     match try_all(alloc, limits, ticket) {
         Ok(Some(bits)) => (bits, status_answer(MORE)),
@@ -107,7 +108,7 @@ pub fn iim_next(
     next: &mut IimOctetSet,
     answer: &mut IimAnswer,
 )
-    ensures { IsNext (limits_for limits) ticket.now next.new.bits answer.new }
+    ensures { ReturnsNext (limits_for limits) ticket.now next.new.bits answer.new }
 {
     let (bits, told) = next_of(alloc, limits.limits(), ticket);
     next.bits = bits;

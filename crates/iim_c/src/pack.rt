@@ -2,7 +2,7 @@
 
 ghost use Rattle.std.specs.Prelude.{◌≡◌, ◌<◌, ◌≤◌, ◌++◌, ◌⊎◌, [], length, drop, IfOk, IfErr};
 ghost use Rattle.iim_c.specs.Format.Answers.{status_answer};
-ghost use Rattle.iim_c.specs.Format.Packing.{IsPacked, IsPackOutcome, IsSized, PackOutcome, Packed, form_of, pack_answer};
+ghost use Rattle.iim_c.specs.Format.Packing.{ReturnsPacked, IsPackOutcome, ReturnsPackedSize, PackOutcome, Packed, form_of, pack_answer};
 ghost use Rattle.iim_c.specs.Format.Statuses as status;
 ghost use Rattle.iim_c.specs.Steps.{outcome_of};
 
@@ -31,7 +31,7 @@ fn fault_answer(fault: PackFault) -> IimAnswer
 
 /// Returns the packed form of the envelope that a script specifies, or the answer that gives the
 /// reason why there is no such envelope.
-fn packed(alloc: Global, packing: IimPacking, script: &[u8]) -> Result<Vec<u8>, IimAnswer>
+fn packed_form(alloc: Global, packing: IimPacking, script: &[u8]) -> Result<Vec<u8>, IimAnswer>
     ensures packed { IfOk result (λ form. IsPackOutcome packing script.now (Packed form.items)) }
     ensures unpacked { IfErr result (λ told. (o : PackOutcome) × IsPackOutcome packing script.now o × (form_of o ≡ [])
         × (told ≡ pack_answer o)) }
@@ -47,7 +47,7 @@ fn packed(alloc: Global, packing: IimPacking, script: &[u8]) -> Result<Vec<u8>, 
 }
 
 /// Returns the answer for a packed form of `written` octets.
-fn sized(status: u8, written: usize) -> IimAnswer
+fn length_answer(status: u8, written: usize) -> IimAnswer
     ensures { result ≡ record (status_answer status) { written = written } }
 {
     IimAnswer {
@@ -64,10 +64,10 @@ fn put_form(form: &[u8], out: &mut [u8]) -> IimAnswer
         × (result ≡ record (status_answer status.short) { written = length form.now })) }
 {
     if form.len() > out.len() {
-        return sized(SHORT, form.len());
+        return length_answer(SHORT, form.len());
     }
     put_front(out, form);
-    sized(DONE, form.len())
+    length_answer(DONE, form.len())
 }
 
 /// Packs the envelope that a script specifies into a buffer, if it fits.
@@ -78,9 +78,9 @@ pub fn iim_pack(
     out: &mut [u8],
     answer: &mut IimAnswer,
 )
-    ensures { IsPacked packing script.now out.old out.new answer.new }
+    ensures { ReturnsPacked packing script.now out.old out.new answer.new }
 {
-    match packed(alloc, packing, script) {
+    match packed_form(alloc, packing, script) {
         Ok(form) => *answer = put_form(form.as_slice(), out),
         Err(told) => *answer = told,
     }
@@ -88,12 +88,12 @@ pub fn iim_pack(
 
 /// Returns the number of octets that [`iim_pack`] would write.
 pub fn iim_pack_size(alloc: Global, packing: IimPacking, script: &[u8], answer: &mut IimAnswer)
-    ensures { IsSized packing script.now answer.new }
+    ensures { ReturnsPackedSize packing script.now answer.new }
 {
-    match packed(alloc, packing, script) {
+    match packed_form(alloc, packing, script) {
         Ok(form) => {
             let form = form.as_slice();
-            *answer = sized(DONE, form.len());
+            *answer = length_answer(DONE, form.len());
         }
         Err(told) => *answer = told,
     }

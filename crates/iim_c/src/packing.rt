@@ -2,7 +2,7 @@
 
 ghost use Rattle.std.specs.Prelude.{◌≡◌, IfSome, IfNone};
 ghost use Rattle.iim_pack_script.specs.Format.{asked};
-ghost use Rattle.iim_c.specs.Format.Packing.{AsksNothing, AsksSomething, asked_for};
+ghost use Rattle.iim_c.specs.Format.Packing.{AreInvalidOptions, AreValidOptions, asked_for};
 
 use iim_object::{Plan, Size};
 use iim_pack_script::packing::PackRequest;
@@ -26,8 +26,8 @@ pub struct IimPacking {
 /// is above the greatest size.
 pub(crate) fn request_for(packing: IimPacking) -> Option<PackRequest>
     ensures request { IfSome result (λ request. (asked request.subfile request.unknown request.max ≡ asked_for packing)
-        × AsksSomething packing) }
-    ensures none { IfNone result (AsksNothing packing) }
+        × AreValidOptions packing) }
+    ensures none { IfNone result (AreInvalidOptions packing) }
 {
     if packing.has_max && !packing.unknown {
         return None;

@@ -3,9 +3,9 @@
 ghost use Rattle.std.specs.Prelude.{◌≡◌, ◌≤◌, length};
 ghost use Rattle.iim_audit.specs.Steps.{IsShort};
 ghost use Rattle.std.specs.Option.{option_map};
-ghost use Rattle.iim_c.specs.Format.Auditing.{TellsRow, copy_number, padded};
+ghost use Rattle.iim_c.specs.Format.Auditing.{IsRowFor, copy_number, padded};
 
-use crate::instant::{IimInstant, told};
+use crate::instant::{IimInstant, optional_instant};
 use iim_audit::{CopyState, PieceRow};
 
 /// The copy may be used.
@@ -83,12 +83,12 @@ fn copy_number(copy: CopyState) -> u8
 /// Returns the row for C of an envelope that begins at the offset `at` of the input.
 pub(crate) fn row_for(at: u64, found: &PieceRow) -> IimAuditRow
     requires { IsShort found.now.row.id }
-    ensures { TellsRow at found.now.octets found.now.row (option_map (λ t. t.nanosecond) found.now.release)
+    ensures { IsRowFor at found.now.octets found.now.row (option_map (λ t. t.nanosecond) found.now.release)
         (option_map (λ t. t.nanosecond) found.now.expires) result }
 {
     let row = &found.row;
-    let (has_release, release) = told(found.release);
-    let (has_expires, expires) = told(found.expires);
+    let (has_release, release) = optional_instant(found.release);
+    let (has_expires, expires) = optional_instant(found.expires);
     IimAuditRow {
         at,
         octets: found.octets,

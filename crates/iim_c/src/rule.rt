@@ -1,7 +1,7 @@
 //! The rows of the tables.
 
 ghost use Rattle.std.specs.Prelude.{◌≡◌, ◌↔◌, IsTrue, is_some};
-ghost use Rattle.iim_tables.specs.Format.Rows.{Meets, row_of};
+ghost use Rattle.iim_tables.specs.Format.Rows.{OctetsMeetRow, row_of};
 ghost use Rattle.iim_c.specs.Format.Tables.{kind_number, duty_number, rule_of, rule_for};
 
 use iim_tables::{Duty, Kind, Row, admits, row};
@@ -96,7 +96,7 @@ pub fn iim_row(rec: u8, set: u8, rule: &mut IimRule) -> bool
 /// Checks whether octets are a valid value of the dataset `rec`:`set`: it has a row, and the
 /// octets are as that requires.
 pub fn iim_admits(rec: u8, set: u8, octets: &[u8]) -> bool
-    ensures { IsTrue result ↔ Meets rec set octets.now }
+    ensures { IsTrue result ↔ OctetsMeetRow rec set octets.now }
 {
     match row(rec, set) {
         Some(row) => admits(&row, octets),

@@ -1,7 +1,7 @@
 //! The sizes of an object in a ticket.
 
-ghost use Rattle.iim_places.specs.States.Restored.{split_told};
-ghost use Rattle.iim_c.specs.Format.Tickets.{IsObjectOf, AreSizes};
+ghost use Rattle.iim_places.specs.States.Restored.{contents_from};
+ghost use Rattle.iim_c.specs.Format.Tickets.{IsObjectOf, ReturnsSizes};
 
 use crate::answer::{IimAnswer, status_answer, ticket_answer};
 use crate::status::DONE;
@@ -49,7 +49,7 @@ const NO_OBJECT: IimObject = IimObject {
 
 /// Returns the sizes in a ticket of these parts.
 fn object_in(parts: &TicketParts<'_>) -> IimObject
-    ensures { IsObjectOf (split_told parts.now) result }
+    ensures { IsObjectOf (contents_from parts.now) result }
 {
     let [mode, subfile, announced, maximum] = parts.numbers;
     IimObject {
@@ -68,7 +68,7 @@ fn object_in(parts: &TicketParts<'_>) -> IimObject
 
 /// Returns the sizes of the object, as far as they were received.
 pub fn iim_sizes(ticket: &[u8], object: &mut IimObject, answer: &mut IimAnswer)
-    ensures { AreSizes ticket.now object.new answer.new }
+    ensures { ReturnsSizes ticket.now object.new answer.new }
 {
     let (found, told) = match split_ticket(ticket) {
         Ok(parts) => (object_in(&parts), status_answer(DONE)),

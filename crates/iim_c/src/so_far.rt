@@ -1,7 +1,7 @@
 //! The state of an audit beside a ticket.
 
 ghost use Rattle.std.specs.Prelude.{◌≡◌};
-ghost use Rattle.iim_c.specs.Format.Tickets.{begins_at, words_so_far};
+ghost use Rattle.iim_c.specs.Format.Tickets.{state_at_start, words_so_far};
 
 /// The state of an audit beside a ticket, for the envelope in progress.
 #[repr(C)]
@@ -20,7 +20,7 @@ pub struct IimSoFar {
 impl IimSoFar {
     /// Returns the state at the beginning of an envelope.
     pub(crate) fn begins(at: u64) -> IimSoFar
-        ensures { result ≡ begins_at at }
+        ensures { result ≡ state_at_start at }
     {
         IimSoFar {
             at,

@@ -8,11 +8,11 @@ use Rattle.iim_fields.specs.Format.Records as builders
 use Rattle.iim_fields.specs.{Format.Causes.is_kept, Format.Causes.kept, Format.Records.AreRecords, Format.Records.AreSections}
 use Rattle.iim_tables.specs.Format.Records.{IsGoodDataset}
 use Rattle.wire_story.specs.Format.Texts.{IsLine, IsText}
-use Rattle.iim_script.specs.Laws.{PrintedValuesAreScripts, ScriptsTellOneThing, ScriptsHaveNoFault}
+use Rattle.iim_script.specs.Laws.{PrintedValuesAreScripts, ScriptsAreUnambiguous, ScriptsHaveNoFault}
 use Rattle.iim_script.specs.Format.Scripts.{value_lines, max_script}
 use Rattle.iim_places.specs.Format.Streams.{Listed, IsListed}
-use Rattle.iim_commands.specs.Laws.{told_of, TellsJust, ShownEnvelopesAreScripts}
-use Rattle.iim_listing.specs.Format.{number_line, sizes_line, shown_of}
+use Rattle.iim_commands.specs.Laws.{script_content_of, SpecifiesOnly, ShownEnvelopesAreScripts}
+use Rattle.iim_listing.specs.Format.{number_line, sizes_line, show_text_of}
 
 -- ---- the datasets that are stored
 
@@ -30,8 +30,8 @@ records_lack (r ∷ rs) ds (run, rest, parts, good, later) h =
     rw (parts, filter-append (λ (d : Dataset). is_kept d.rec) run rest, run_lacks r run good.each h.0) (records_lack rs rest later h.1)
 
 -- valid records 1 and 2 are what is stored of complete sections
-kept_of_sections : (ds : List Dataset) → AreSections ds → builders.IsEnvelope (kept ds)
-kept_of_sections ds (r1, rest1, parts1, good1, (r2, rest2, parts2, good2, later2)) =
+kept-sections : (ds : List Dataset) → AreSections ds → builders.IsEnvelope (kept ds)
+kept-sections ds (r1, rest1, parts1, good1, (r2, rest2, parts2, good2, later2)) =
     let none : kept rest2 ≡ [] = records_lack (7 ∷ 8 ∷ 9 ∷ []) rest2 later2 (refl, (refl, (refl, tt))) in
     let tail : kept rest1 ≡ r2 = rw (parts2, filter-append (λ (d : Dataset). is_kept d.rec) r2 rest2, run_has 2 r2 good2.each refl, none) (append-nil r2) in
     let all : kept ds ≡ r1 ++ r2 = rw (parts1, filter-append (λ (d : Dataset). is_kept d.rec) r1 rest1, run_has 1 r1 good1.each refl, tail) refl in
@@ -49,11 +49,11 @@ text_lines text (line ∷ next ∷ lines) (is, returns, few, rest, parts, later)
 -- the values of an envelope are those of a script, which is printed with this story
 printed : PrintedValuesAreScripts → (e : Listed) → IsListed limits e → (number : ℕ)
     → length (value_lines e.value.fields e.value.head e.value.trailer ++ (codes "text\n" ++ story_of number e)) ≤ max_script
-    → IsScriptOf (value_lines e.value.fields e.value.head e.value.trailer ++ (codes "text\n" ++ story_of number e)) (told_of e.value)
+    → IsScriptOf (value_lines e.value.fields e.value.head e.value.trailer ++ (codes "text\n" ++ story_of number e)) (script_content_of e.value)
 printed law e is number short =
     let a = is.admits in
     let lines = text_lines a.text e.value.lines a.lines in
-    law limits e.value.fields e.value.head e.value.trailer e.value.lines (story_of number e) (rw a.fields at (kept_of_sections a.datasets a.sections))
+    law limits e.value.fields e.value.head e.value.trailer e.value.lines (story_of number e) (rw a.fields at (kept-sections a.datasets a.sections))
     (rw a.fields at is.within.kept) a.message.is_header a.message.is_trailer lines.0 lines.1 (inl refl) short
 
 same_told : (t other : ScriptContent)
@@ -62,7 +62,7 @@ same_told : (t other : ScriptContent)
 same_told t other (fields, head, trailer, lines, number) =
     λ i. record { fields = fields i; head = head i; trailer = trailer i; lines = lines i; text_line = number i }
 
-tells_just : ScriptsTellOneThing → ScriptsHaveNoFault → (script : List ℕ) (t : ScriptContent) → IsScriptOf script t → TellsJust script t
+tells_just : ScriptsAreUnambiguous → ScriptsHaveNoFault → (script : List ℕ) (t : ScriptContent) → IsScriptOf script t → SpecifiesOnly script t
 tells_just once sound script t told = record {
   told = told;
   only = λ other h. same_told other t (once limits script other.fields t.fields other.head t.head other.trailer t.trailer other.lines t.lines other.text_line
@@ -71,12 +71,12 @@ tells_just once sound script t told = record {
 }
 
 shown_parts : (number : ℕ) (e : Listed)
-    → shown_of number e ≡ number_line number ++ (value_lines e.value.fields e.value.head e.value.trailer ++ sizes_line e.value.sizes)
+    → show_text_of number e ≡ number_line number ++ (value_lines e.value.fields e.value.head e.value.trailer ++ sizes_line e.value.sizes)
 shown_parts number e = simp append_assoc
 
-pub shown_as_scripts : PrintedValuesAreScripts → ScriptsTellOneThing → ScriptsHaveNoFault → ShownEnvelopesAreScripts
-shown_as_scripts law once sound number e is = (
+pub show_and_story_make_script : PrintedValuesAreScripts → ScriptsAreUnambiguous → ScriptsHaveNoFault → ShownEnvelopesAreScripts
+show_and_story_make_script law once sound number e is = (
   value_lines e.value.fields e.value.head e.value.trailer,
   shown_parts number e,
-  λ short. tells_just once sound _ (told_of e.value) (printed law e is number short),
+  λ short. tells_just once sound _ (script_content_of e.value) (printed law e is number short),
 )

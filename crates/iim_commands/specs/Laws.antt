@@ -4,17 +4,17 @@ use Rattle.iim_script.specs.Format.{Causes.IsScriptFault, Scripts.max_script}
 use Rattle.iim_script.specs.declared.fault.ScriptCause.{ScriptCause, TheVariants.OutOfMemory}
 use Rattle.iim_places.specs.Format.{Admitted.Value, Streams.Listed, Streams.IsListed}
 use Rattle.iim_output.specs.Format.{limits}
-use Rattle.iim_listing.specs.Format.{story_of, number_line, sizes_line, shown_of}
+use Rattle.iim_listing.specs.Format.{story_of, number_line, sizes_line, show_text_of}
 use Rattle.iim_pack_script.specs.Format.{ScriptContent, IsScriptOf}
 
 -- the content of a script with these values, in which each dataset, the header and the trailer has
 -- one line
-abbrev pub told_of : Value → ScriptContent
-told_of v = record { fields = v.fields; head = v.head; trailer = v.trailer; lines = v.lines; text_line = length v.fields + 3 }
+abbrev pub script_content_of : Value → ScriptContent
+script_content_of v = record { fields = v.fields; head = v.head; trailer = v.trailer; lines = v.lines; text_line = length v.fields + 3 }
 
 -- The octets are a script with this content, and no other. It has no error, except that an
 -- allocation may fail.
-pub record TellsJust (script : List ℕ) (t : ScriptContent) : Type 0 where
+pub record SpecifiesOnly (script : List ℕ) (t : ScriptContent) : Type 0 where
   pub told : IsScriptOf script t
   pub only : (other : ScriptContent) → IsScriptOf script other → other ≡ t
   pub sound : (line : ℕ) (cause : ScriptCause) → IsScriptFault limits script line cause → cause ≡ OutOfMemory
@@ -23,5 +23,5 @@ pub record TellsJust (script : List ℕ) (t : ScriptContent) : Type 0 where
 -- other lines, the line `text`, and what `story` prints of the envelope are a script that
 -- specifies exactly its values, unless they are too long for a script.
 abbrev pub ShownEnvelopesAreScripts : Type 0
-ShownEnvelopesAreScripts = (number : ℕ) (e : Listed) → IsListed limits e → (lines : List ℕ) × (shown_of number e ≡ number_line number ++ (lines ++ sizes_line e.value.sizes))
-    × (length (lines ++ (codes "text\n" ++ story_of number e)) ≤ max_script → TellsJust (lines ++ (codes "text\n" ++ story_of number e)) (told_of e.value))
+ShownEnvelopesAreScripts = (number : ℕ) (e : Listed) → IsListed limits e → (lines : List ℕ) × (show_text_of number e ≡ number_line number ++ (lines ++ sizes_line e.value.sizes))
+    × (length (lines ++ (codes "text\n" ++ story_of number e)) ≤ max_script → SpecifiesOnly (lines ++ (codes "text\n" ++ story_of number e)) (script_content_of e.value))

@@ -2,18 +2,18 @@
 
 ghost use Rattle.std.specs.Prelude.{◌≡◌, None, IfOk, IfErr, OnOk};
 ghost use Rattle.iim_audit.specs.Format.{printed_report};
-ghost use Rattle.iim_unpack.specs.States.Intakes.{in_line};
-ghost use Rattle.iim_commands.specs.Format.{Audited, FailsToAudit, TellsWhy};
-ghost use Rattle.iim_output.specs.States.Holding.{HasPut, HoldsNothing, KeepsWriter, device_of, FailsToAdd};
-ghost use Rattle.iim_commands.specs.Endings.{CannotTell};
+ghost use Rattle.iim_unpack.specs.States.Intakes.{input_of};
+ghost use Rattle.iim_commands.specs.Format.{WritesAudit, AuditFails, IsErrorLine};
+ghost use Rattle.iim_output.specs.States.Holding.{HasBuffered, HasEmptyBuffer, KeepsWriter, device_of, AppendFails};
+ghost use Rattle.iim_commands.specs.Endings.{HasNoErrorLine};
 
 use iim_audit::{AuditCause, AuditFault, Report, audit};
-use iim_dataset::device_laws::{gifts_join, texts_join};
+use iim_dataset::device_laws::{reads_join, writes_join};
 use iim_dataset::{Source, Target};
 use iim_output::block_writer::BlockWriter;
 use iim_output::fault::CommandFault;
 use iim_output::limits::LIMITS;
-use iim_output::lines::{TOO_MANY, add, add_last, push_refused};
+use iim_output::lines::{TOO_MANY, append, append_and_flush, push_refused};
 use iim_output::status::{ACCEPTED, REFUSED};
 use iim_request::instant::Instant;
 use iim_unpack::Intake;
@@ -23,8 +23,8 @@ use std::alloc::Global;
 /// Returns the line for an error of an audit, if it is in the octets of the input; otherwise the
 /// error of the command.
 fn reason(alloc: Global, fault: AuditFault) -> Result<Vec<u8>, CommandFault>
-    ensures told { IfOk result (λ line. TellsWhy fault.envelope fault.cause line.items) }
-    ensures other { IfErr result (CannotTell fault.cause) }
+    ensures told { IfOk result (λ line. IsErrorLine fault.envelope fault.cause line.items) }
+    ensures other { IfErr result (HasNoErrorLine fault.cause) }
 {
     match fault.cause {
         AuditCause::Refused(refusal) => {
@@ -39,19 +39,19 @@ fn reason(alloc: Global, fault: AuditFault) -> Result<Vec<u8>, CommandFault>
 }
 
 /// Writes the lines of a report, and flushes the output. Allocates nothing.
-fn add_report<W: Target>(
+fn write_report<W: Target>(
     output: &mut BlockWriter<'_, W>,
     report: &Report,
 ) -> Result<(), CommandFault>
-    ensures ok { OnOk result (HasPut W.state output.old output.new (printed_report report.now)) }
-    ensures held { OnOk result (HoldsNothing output.new) }
-    ensures err { IfErr result (FailsToAdd W.state output.old output.new (printed_report report.now)) }
+    ensures ok { OnOk result (HasBuffered W.state output.old output.new (printed_report report.now)) }
+    ensures pending { OnOk result (HasEmptyBuffer output.new) }
+    ensures err { IfErr result (AppendFails W.state output.old output.new (printed_report report.now)) }
 {
-    texts_join();
+    writes_join();
     'rows: for index in 0..report.rows().len() {
-        add(output, report.line(index).as_slice())?;
+        append(output, report.line(index).as_slice())?;
     }
-    add_last(output, report.last_line().as_slice())
+    append_and_flush(output, report.last_line().as_slice())
 }
 
 /// Converts an instant for `jiff`.
@@ -73,22 +73,22 @@ fn report_input<R: Source, W: Target>(
     output: &mut BlockWriter<'_, W>,
 ) -> Result<u8, CommandFault>
     requires alive { intake.old.failed ≡ None }
-    requires held { HoldsNothing output.old }
-    ensures ok { IfOk result (Audited now.nanosecond (in_line R.state intake.old) (in_line R.state intake.new)
+    requires pending { HasEmptyBuffer output.old }
+    ensures ok { IfOk result (WritesAudit now.nanosecond (input_of R.state intake.old) (input_of R.state intake.new)
         (device_of W.state output.old) (device_of W.state output.new)) }
-    ensures err { IfErr result (FailsToAudit now.nanosecond (in_line R.state intake.old) (in_line R.state intake.new)
+    ensures err { IfErr result (AuditFails now.nanosecond (input_of R.state intake.old) (input_of R.state intake.new)
         (device_of W.state output.old) (device_of W.state output.new)) }
     ensures same { KeepsWriter output.old output.new }
     ensures leads { R.leads intake.old.reader intake.new.reader }
 {
     match audit(alloc, intake, LIMITS, timestamp_of(now)) {
         Ok(report) => {
-            add_report(output, &report)?;
+            write_report(output, &report)?;
             Ok(ACCEPTED)
         }
         Err(fault) => {
             let line = reason(alloc, fault)?;
-            add_last(output, line.as_slice())?;
+            append_and_flush(output, line.as_slice())?;
             Ok(REFUSED)
         }
     }
@@ -105,14 +105,14 @@ pub fn write_audit<R: Source, W: Target>(
 ) -> Result<u8, CommandFault>
     requires { intake.old.failed ≡ None }
     ensures ok { IfOk result
-        (Audited now.nanosecond (in_line R.state intake.old) (in_line R.state intake.new) (W.state output.old)
+        (WritesAudit now.nanosecond (input_of R.state intake.old) (input_of R.state intake.new) (W.state output.old)
         (W.state output.new)) }
     ensures err { IfErr result
-        (FailsToAudit now.nanosecond (in_line R.state intake.old) (in_line R.state intake.new) (W.state output.old)
+        (AuditFails now.nanosecond (input_of R.state intake.old) (input_of R.state intake.new) (W.state output.old)
         (W.state output.new)) }
     ensures leads { R.leads intake.old.reader intake.new.reader }
 {
-    gifts_join();
+    reads_join();
     match BlockWriter::new(alloc, output) {
         Ok(made) => {
             let mut blocks = made;

@@ -12,7 +12,7 @@ pub mod laws;
 pub mod running;
 
 pub use iim_listing::{check, coming, input, list, show, story};
-pub use iim_output::{block_writer, fault, limits, lines, outlet, silent, status};
+pub use iim_output::{block_writer, fault, flush_sink, limits, lines, null_sink, status};
 pub use iim_pack_script::script::read_script;
 pub use iim_pack_script::{packing, script as scripts};
 pub use iim_request::request::{Files, FilesRequest, Job, Request, UsageFault, parse, parse_files};

@@ -1,11 +1,11 @@
 -- Two streams of datasets of which one continues the other: lemmas for the proofs of every crate.
 use Rattle.std.proofs.Common.{◌≡◌, ℕ, ◌⊎◌, List, [], ◌∷◌, ◌++◌, refl, sym, inl, inr, append_assoc}
-use Rattle.iim_dataset.specs.Format.Datasets.{Dataset, SpellsDataset, SpellsStream, count_octets}
-use Rattle.iim_dataset.specs.Laws.{NoDatasetBeginsAnother}
+use Rattle.iim_dataset.specs.Format.Datasets.{Dataset, EncodesDataset, EncodesStream, count_octets}
+use Rattle.iim_dataset.specs.Laws.{NoDatasetIsAPrefixOfAnother}
 
 -- The first stream is the second and further datasets.
 abbrev pub Longer : List Dataset → List Dataset → List ℕ → List ℕ → Type 0
-Longer whole ds z y = (more : List Dataset) × (r : List ℕ) × (ds ++ more ≡ whole) × SpellsStream count_octets more r × (r ++ z ≡ y)
+Longer whole ds z y = (more : List Dataset) × (r : List ℕ) × (ds ++ more ≡ whole) × EncodesStream count_octets more r × (r ++ z ≡ y)
 
 -- The second stream is the first, a next dataset, and further ones.
 pub record Next (whole ds : List Dataset) (z y : List ℕ) : Type 0 where
@@ -14,12 +14,12 @@ pub record Next (whole ds : List Dataset) (z y : List ℕ) : Type 0 where
   pub p : List ℕ
   pub q : List ℕ
   pub parts : ds ≡ whole ++ dataset ∷ more
-  pub spelled : SpellsDataset count_octets dataset p
-  pub later : SpellsStream count_octets more q
+  pub spelled : EncodesDataset count_octets dataset p
+  pub later : EncodesStream count_octets more q
   pub agree : z ≡ p ++ (q ++ y)
 
-pub compare : NoDatasetBeginsAnother → (whole ds : List Dataset) (front f z y : List ℕ) → SpellsStream count_octets whole front
-    → SpellsStream count_octets ds f → front ++ z ≡ f ++ y
+pub compare : NoDatasetIsAPrefixOfAnother → (whole ds : List Dataset) (front f z y : List ℕ) → EncodesStream count_octets whole front
+    → EncodesStream count_octets ds f → front ++ z ≡ f ++ y
     → Longer whole ds z y ⊎ Next whole ds z y
 compare one [] [] front f z y sw sf e = inl ([], [], refl, refl, rw (sw, sf) at e)
 compare one [] (d ∷ ds) front f z y sw (p, q, first, later, joined) e =

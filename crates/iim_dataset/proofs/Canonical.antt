@@ -6,28 +6,28 @@ use Rattle.std.proofs.lemmas.Bool.{lt-ltb, le-ltb, leb-true, le-leb, cases_lt}
 use Rattle.byteorder.specs.Numbers.{big_number-reads_back}
 use Rattle.iim_dataset.proofs.WrittenNumbers.{some_octets, few_octets, number_octets, number_back}
 use Rattle.iim_dataset.proofs.Spelled.{one_tag, no_longer}
-use Rattle.iim_dataset.specs.{Format.Octets.IsOctet, Laws.CanonicalTagsReadBack, Laws.CanonicalStreamsAreSpelled, Laws.HasSpellings}
-use Rattle.iim_dataset.specs.Format.Datasets.{Dataset, SpellsCount, SpellsTag, SpellsDataset, canonical_count, canonical_tag, canonical_dataset, canonical_stream, count_octets, head_of, Head, HasNoTag, HeadFault}
-use Rattle.iim_dataset.specs.States.Reading.{IsPlace, Inside}
+use Rattle.iim_dataset.specs.{Format.Octets.IsOctet, Laws.CanonicalTagsReadBack, Laws.CanonicalStreamsAreEncodings, Laws.IsEncodable}
+use Rattle.iim_dataset.specs.Format.Datasets.{Dataset, EncodesCount, EncodesTag, EncodesDataset, canonical_count, canonical_tag, canonical_dataset, canonical_stream, count_octets, head_of, Head, HasNoTag, HeadFault}
+use Rattle.iim_dataset.specs.States.Reading.{IsDatasetState, Inside}
 use Rattle.std.specs.Prelude.{◌↔◌, IsTrue, nat_le}
 
-pub count_spells : (n : ℕ) → n < 256 ^ count_octets → SpellsCount count_octets n (canonical_count n)
+pub count_spells : (n : ℕ) → n < 256 ^ count_octets → EncodesCount count_octets n (canonical_count n)
 count_spells n h = elim (cases_lt n 32768) [
   | inl lt ↦ rw (lt-ltb n 32768 lt) (inl (omega arith, omega arith, refl, big_number-reads_back 2 n [] (omega arith)))
   | inr ge ↦ rw (le-ltb n 32768 ge) (inr (refl, refl, some_octets n, few_octets n, number_octets n, number_back n h))
 ]
 
-pub tag_spells : (h : Head) → IsOctet h.rec → IsOctet h.set → h.count < 256 ^ count_octets → SpellsTag count_octets h (canonical_tag h)
+pub tag_spells : (h : Head) → IsOctet h.rec → IsOctet h.set → h.count < 256 ^ count_octets → EncodesTag count_octets h (canonical_tag h)
 tag_spells h r s c = record { rec = r; set = s; count = canonical_count h.count; is_count = count_spells h.count c; parts = refl }
 
 -- Some octets reach the data of a head exactly if at least one octet remains and no more than the
 -- tag counts.
 pub inside : (h : Head) (left : ℕ) → IsOctet h.rec → IsOctet h.set → h.count < 256 ^ count_octets → 0 < left
-    → (IsTrue (nat_le left h.count) ↔ IsPlace (Inside h left))
+    → (IsTrue (nat_le left h.count) ↔ IsDatasetState (Inside h left))
 inside h left r s c some = ((λ is. (some, leb-true left h.count is, canonical_tag h, tag_spells h r s c)), (λ is. le-leb left h.count is.1))
 
 -- A fault is neither within a complete tag nor after it.
-no_fault : (fault : HeadFault) (h : Head) (tag more : List ℕ) → SpellsTag count_octets h tag → HasNoTag (tag ++ more) fault → ⊥
+no_fault : (fault : HeadFault) (h : Head) (tag more : List ℕ) → EncodesTag count_octets h tag → HasNoTag (tag ++ more) fault → ⊥
 no_fault fault h tag more s found = elim (cases_lt fault.taken (length tag)) [
   | inl lt ↦
       let n = fault.taken + 1 in
@@ -57,9 +57,9 @@ canonical_reads head more r s c =
 
 -- ---- streams
 
-dataset_spells : (d : Dataset) → HasSpellings d → SpellsDataset count_octets d (canonical_dataset d)
+dataset_spells : (d : Dataset) → IsEncodable d → EncodesDataset count_octets d (canonical_dataset d)
 dataset_spells d h = record { tag = canonical_tag (head_of d); is_tag = tag_spells (head_of d) h.rec h.set h.few; data_octets = h.octets; parts = refl }
 
-pub stream_spells : CanonicalStreamsAreSpelled
+pub stream_spells : CanonicalStreamsAreEncodings
 stream_spells [] h = refl
 stream_spells (d ∷ ds) h = (canonical_dataset d, canonical_stream ds, dataset_spells d h.0, stream_spells ds h.1, refl)

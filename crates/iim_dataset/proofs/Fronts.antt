@@ -5,12 +5,12 @@ use Rattle.std.proofs.Math.Seq.{take-append-add}
 use Rattle.byteorder.specs.{Endian.big_number, Numbers.big_from-take}
 use Rattle.std.proofs.lemmas.Bool.{cases_lt}
 use Rattle.iim_dataset.specs.Format.Octets.{Octets, number}
-use Rattle.iim_dataset.specs.Format.Datasets.{SpellsCount, count_octets, BeginsTag, BeginsNoTag, HasTag, HasNoTag, HeadFault}
+use Rattle.iim_dataset.specs.Format.Datasets.{EncodesCount, count_octets, BeginsTag, BeginsNoTag, HasTag, HasNoTag, HeadFault}
 use Rattle.iim_dataset.specs.declared.head.HeadCause.TheVariants.{Marker, CountForm}
 use Rattle.iim_dataset.proofs.OctetLists.{zeros_are, octets_append, Fit, are_octets, front_are}
 
 -- A tag begins with octets that some more octets complete to one.
-leads_on : {octets : List ℕ} (more count : List ℕ) (rec set n : ℕ) → 0 < length more → rec < 256 → set < 256 → SpellsCount count_octets n count
+leads_on : {octets : List ℕ} (more count : List ℕ) (rec set n : ℕ) → 0 < length more → rec < 256 → set < 256 → EncodesCount count_octets n count
     → octets ++ more ≡ 28 ∷ rec ∷ set ∷ count → BeginsTag count_octets octets
 leads_on more count rec set n long r s is e = record {
   head = record { rec = rec; set = set; count = n };
@@ -94,7 +94,7 @@ dead_first (a ∷ o) long other h more tag = let parts = tag.parts in let same :
 pub no_marker : (o : List ℕ) (f : HeadFault) → f ≡ record { cause = Marker; taken = 0 } → 0 < length o → get_or o 0 0 ≢ 28 → HasNoTag o f
 no_marker o f e long other = rw e (record { within = long; begun = begun_none; dead = dead_first o long other; cause = refl })
 
-count_high : (count high : ℕ) (more : List ℕ) → SpellsCount count_octets count (high ∷ more) → high ≤ 128
+count_high : (count high : ℕ) (more : List ℕ) → EncodesCount count_octets count (high ∷ more) → high ≤ 128
 count_high count high [] h = absurd h
 count_high count high (low ∷ more) (inl h) = omega (arith, h.0)
 count_high count high (low ∷ more) (inr h) = omega (arith, h.0)
@@ -110,7 +110,7 @@ no_form o f e fits long marker high = rw e (record { within = long; begun = begu
         let is : tag.count ≡ get_or o 3 0 ∷ more = cc in
         omega (arith, high, count_high h.count (get_or o 3 0) more (rw is at tag.is_count))
 
-count_length : (count n : ℕ) (more : List ℕ) → SpellsCount count_octets count (128 ∷ n ∷ more) → (1 ≤ n) × (n ≤ count_octets)
+count_length : (count n : ℕ) (more : List ℕ) → EncodesCount count_octets count (128 ∷ n ∷ more) → (1 ≤ n) × (n ≤ count_octets)
 count_length count n more (inl h) = absurd (omega (arith, h.0))
 count_length count n more (inr h) = (h.2, h.3)
 

@@ -3,7 +3,7 @@ use Rattle.std.proofs.Common.{◌≡◌, ℕ, ◌+◌, ◌-◌, ◌<◌, ◌≤�
 use Rattle.std.proofs.lemmas.Bool.{cases_lt}
 use Rattle.std.proofs.lemmas.List.{take_all, take_min, take-take, take-append-drop, take-append-le, length-take, length-take-le}
 use Rattle.std.proofs.Math.Seq.{take-append-add, take-suc}
-use Rattle.iim_dataset.specs.Format.Datasets.{SpellsTag, count_octets, tag_octets, Head, BeginsTag, BeginsNoTag, HasTag, HasNoTag, HeadFault}
+use Rattle.iim_dataset.specs.Format.Datasets.{EncodesTag, count_octets, tag_octets, Head, BeginsTag, BeginsNoTag, HasTag, HasNoTag, HeadFault}
 use Rattle.iim_dataset.proofs.Spelled.{no_longer, tag_length}
 
 -- ---- The length of a tag.
@@ -69,7 +69,7 @@ pub record Ends (held rest : List ℕ) (h : Head) (n used : ℕ) : Type 0 where
   pub all : n ≡ length held + used
   pub some : 0 < used
   pub within : used ≤ length rest
-  pub tag : SpellsTag count_octets h (held ++ take used rest)
+  pub tag : EncodesTag count_octets h (held ++ take used rest)
 
 -- A complete tag is longer than the buffered octets.
 pub ends : (held rest : List ℕ) {h : Head} {n : ℕ} → BeginsTag count_octets held → HasTag (held ++ rest) h n → Ends held rest h n (n - length held)
@@ -83,7 +83,7 @@ ends held rest {h} {n} b t = elim (cases_lt (length held) n) [
 ]
 
 -- A tag without its last octet is partial.
-pub unfinished : (held rest : List ℕ) (h : Head) (k : ℕ) → k < length rest → SpellsTag count_octets h (held ++ take (k + 1) rest)
+pub unfinished : (held rest : List ℕ) (h : Head) (k : ℕ) → k < length rest → EncodesTag count_octets h (held ++ take (k + 1) rest)
     → BeginsTag count_octets (held ++ take k rest)
 unfinished held rest h k lt s = record { head = h; more = slice_index rest k ∷ []; some_more = omega arith; whole = rw (one_more held rest k lt) at s }
 

@@ -4,8 +4,8 @@ use Rattle.std.proofs.lemmas.Bool.{cases_lt}
 use Rattle.std.proofs.lemmas.List.{append_cancel_left}
 use Rattle.arrayvec.specs.ArrayVec.{ArrayVec}
 use Rattle.iim_dataset.specs.{Format.Octets.Octets, Laws.CompletesNow, Laws.WhatAnOctetCompletes}
-use Rattle.iim_dataset.specs.Format.Datasets.{SpellsTag, count_octets, Head, Begun, InTag, InData, BeginsTag}
-use Rattle.iim_dataset.specs.States.Reading.{DatasetEvent, HeadRead, DataOctet, DatasetEnd, events_of, HandsOn, LeadsTo, Tag, Inside}
+use Rattle.iim_dataset.specs.Format.Datasets.{EncodesTag, count_octets, Head, PartialDataset, InTag, InData, BeginsTag}
+use Rattle.iim_dataset.specs.States.Reading.{DatasetEvent, HeadRead, DataOctet, DatasetEnd, events_of_dataset, EmitsEvents, ReachesDatasetState, Tag, Inside}
 use Rattle.iim_dataset.proofs.{OneHanding.one_handing, Deaths.tag_goes_on, Deaths.data_go_on}
 use Rattle.iim_dataset.proofs.Places.{handed_data, tag_on, head_on, empty_on, data_on, data_end}
 
@@ -23,33 +23,34 @@ two_of (x ∷ since) later event a b e = let rest = one_of since later event b (
 -- ---- one octet
 
 -- The events since earlier ones are those that the octets add.
-brought : {octets : List ℕ} (before since later es : List DatasetEvent) (event : DatasetEvent) {b c : Begun}
-    → HandsOn count_octets octets ((before ++ since) ++ event ∷ later) b → HandsOn count_octets octets (before ++ es) c → since ++ event ∷ later ≡ es
+brought : {octets : List ℕ} (before since later es : List DatasetEvent) (event : DatasetEvent) {b c : PartialDataset}
+    → EmitsEvents count_octets octets ((before ++ since) ++ event ∷ later) b → EmitsEvents count_octets octets (before ++ es) c → since ++ event ∷ later ≡ es
 brought {octets} before since later es event {b} {c} h k =
     append_cancel_left before _ es
     (sym (append_assoc before since (event ∷ later)) ∙ (one_handing octets ((before ++ since) ++ event ∷ later) (before ++ es) b c h k).0)
 
-completed : (begun : Begun) {octets : List ℕ} (next : ℕ) {before : List DatasetEvent} (since later : List DatasetEvent) (event : DatasetEvent) {c : Begun}
-    → HandsOn count_octets octets before begun
-    → HandsOn count_octets (octets ++ next ∷ []) ((before ++ since) ++ event ∷ later) c → CompletesNow octets next (before ++ since) event
+completed : (begun : PartialDataset) {octets : List ℕ} (next : ℕ) {before : List DatasetEvent} (since later : List DatasetEvent)
+    (event : DatasetEvent) {c : PartialDataset}
+    → EmitsEvents count_octets octets before begun
+    → EmitsEvents count_octets (octets ++ next ∷ []) ((before ++ since) ++ event ∷ later) c → CompletesNow octets next (before ++ since) event
 completed (InTag held) {octets} next {before} since later event a n = by on.0 on.1 on.2
   where
-    since_is : (es : List DatasetEvent) {b : Begun} → HandsOn count_octets (octets ++ next ∷ []) (before ++ es) b → since ++ event ∷ later ≡ es
+    since_is : (es : List DatasetEvent) {b : PartialDataset} → EmitsEvents count_octets (octets ++ next ∷ []) (before ++ es) b → since ++ event ∷ later ≡ es
     since_is es k = brought before since later es event n k
 
-    on : (h : Head) × (m : List ℕ) × SpellsTag count_octets h (held ++ next ∷ m)
+    on : (h : Head) × (m : List ℕ) × EncodesTag count_octets h (held ++ next ∷ m)
     on = tag_goes_on [] next a.reads n.reads
 
     at : ArrayVec ℕ
     at = record { items = held }
 
-    leads : LeadsTo count_octets octets before (Tag at)
+    leads : ReachesDatasetState count_octets octets before (Tag at)
     leads = record { begun = InTag held; hands = a; keeps = refl }
 
-    first : (h : Head) → SpellsTag count_octets h (held ++ next ∷ []) → (since ≡ []) × (event ≡ HeadRead h) → CompletesNow octets next (before ++ since) event
+    first : (h : Head) → EncodesTag count_octets h (held ++ next ∷ []) → (since ≡ []) × (event ≡ HeadRead h) → CompletesNow octets next (before ++ since) event
     first h s is = rw (is.0, is.1) (record { whole = a.whole; held = held; reads = a.reads; tag = s; told = append-nil before ∙ a.handed })
 
-    by : (h : Head) (m : List ℕ) → SpellsTag count_octets h (held ++ next ∷ m) → CompletesNow octets next (before ++ since) event
+    by : (h : Head) (m : List ℕ) → EncodesTag count_octets h (held ++ next ∷ m) → CompletesNow octets next (before ++ since) event
     by h (x ∷ m) s =
         let begins : BeginsTag count_octets (held ++ next ∷ []) = record { head = h; more = x ∷ m; some_more = omega arith; whole = rw append_assoc s } in
         let none = since_is _ (tag_on at (record { items = held ++ next ∷ [] }) (next ∷ []) begins refl octets before leads).hands in
@@ -63,13 +64,13 @@ completed (InTag held) {octets} next {before} since later event a n = by on.0 on
           head = h;
           given = [];
           completes = inr (held, a.reads, s, omega arith, refl);
-          told = ap (λ (es : List DatasetEvent). es ++ HeadRead h ∷ []) (a.handed ∙ append-nil (flat_map events_of a.whole));
+          told = ap (λ (es : List DatasetEvent). es ++ HeadRead h ∷ []) (a.handed ∙ append-nil (flat_map events_of_dataset a.whole));
         })
       ]
     ]
 completed (InData h taken) {octets} next {before} since later event a n = by (cases_lt 1 left)
   where
-    since_is : (es : List DatasetEvent) {b : Begun} → HandsOn count_octets (octets ++ next ∷ []) (before ++ es) b → since ++ event ∷ later ≡ es
+    since_is : (es : List DatasetEvent) {b : PartialDataset} → EmitsEvents count_octets (octets ++ next ∷ []) (before ++ es) b → since ++ event ∷ later ≡ es
     since_is es k = brought before since later es event n k
 
     left : ℕ
@@ -78,7 +79,7 @@ completed (InData h taken) {octets} next {before} since later event a n = by (ca
     octet : Octets (next ∷ [])
     octet = (data_go_on [] next a.reads n.reads, tt)
 
-    leads : LeadsTo count_octets octets before (Inside h left)
+    leads : ReachesDatasetState count_octets octets before (Inside h left)
     leads = record { begun = InData h taken; hands = a; keeps = (refl, omega (arith, a.reads.is_rest.2)) }
 
     first : (since ≡ []) × (event ≡ DataOctet next) → CompletesNow octets next (before ++ since) event

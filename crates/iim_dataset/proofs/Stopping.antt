@@ -5,9 +5,9 @@ use Rattle.std.proofs.lemmas.Bool.Decides.{nat_tests}
 use Rattle.std.proofs.Common.{◌≡◌, ℕ, ◌⊎◌, inl, inr, ◌==◌, Bool, true, false, if◌then◌else◌, suc, ◌+◌, ◌-◌, ◌<◌, ◌≤◌, List, [], ◌∷◌, ◌++◌, length, take, slice_index, refl, ap, sym, ◌∙◌, arith, append_assoc, append-nil, map, zero, Option, Some, None, get_or-drop, ◌*◌, drop, get_or, length-drop, length-append}
 use Rattle.std.proofs.Math.Seq.{take-add, take-append-add}
 use Rattle.arrayvec.specs.ArrayVec.{ArrayVec}
-use Rattle.iim_dataset.specs.{Format.Octets.Octets, Format.Octets.IsOctet, Format.Datasets.SpellsTag, Format.Datasets.count_octets, Format.Datasets.Head}
-use Rattle.iim_dataset.specs.States.Reading.{DatasetEvent, DataOctet, DatasetEnd, HeadRead, between, IsPlace, Brings, TellsSink, DatasetPlace, Tag, Inside, AfterStep, Stops, RefusesFor, RefusesOne}
-use Rattle.iim_dataset.specs.Steps.{TakesOnward, WholeFront, head_events}
+use Rattle.iim_dataset.specs.{Format.Octets.Octets, Format.Octets.IsOctet, Format.Datasets.EncodesTag, Format.Datasets.count_octets, Format.Datasets.Head}
+use Rattle.iim_dataset.specs.States.Reading.{DatasetEvent, DataOctet, DatasetEnd, HeadRead, between, IsDatasetState, AddsEvents, PassesToSink, DatasetPlace, Tag, Inside, SinkIsAfterStep, DatasetSinkStopsAt, RejectsDatasetsFor, DatasetReaderRejects}
+use Rattle.iim_dataset.specs.Steps.{SinkGoesOn, HasWholeDataset, head_events}
 use Rattle.iim_dataset.specs.declared.head.HeadCause.{HeadCause}
 use Rattle.iim_dataset.specs.declared.fault.Fault.{Fault}
 use Rattle.iim_dataset.specs.declared.fault.FaultCause.TheVariants.{Stopped}
@@ -27,7 +27,7 @@ octet_at (x ∷ xs) (suc k) o lt = octet_at xs k o.1 (omega (arith, lt))
 module _ {D : Type 0} {stops : D → List DatasetEvent → DatasetEvent → D → Type 0} where
   -- The sink stops at an octet of data.
   pub data_stops : {h : Head} {left t : ℕ} {rest : List ℕ} {a b : D} → Octets rest → t < length rest → t < left
-      → stops a (map DataOctet (take t rest)) (DataOctet (slice_index rest t)) b → Stops stops (Inside h left) rest t a b
+      → stops a (map DataOctet (take t rest)) (DataOctet (slice_index rest t)) b → DatasetSinkStopsAt stops (Inside h left) rest t a b
   data_stops {h} {left} {t} {rest} o lt more s =
       let x = slice_index rest t in
       let next = octet_on h (left - t) x (octet_at rest t o lt) (omega (arith, more)) in
@@ -37,7 +37,7 @@ module _ {D : Type 0} {stops : D → List DatasetEvent → DatasetEvent → D �
 
   -- The sink stops at the end of a dataset, which its last octet completes.
   pub end_stops : {h : Head} {left : ℕ} {rest : List ℕ} {a b : D} → Octets rest → 0 < left → left ≤ length rest
-      → stops a (map DataOctet (take left rest) ++ []) DatasetEnd b → Stops stops (Inside h left) rest (left - 1) a b
+      → stops a (map DataOctet (take left rest) ++ []) DatasetEnd b → DatasetSinkStopsAt stops (Inside h left) rest (left - 1) a b
   end_stops {h} {left} {rest} o some within s =
       let k = left - 1 in
       let x = slice_index rest k in
@@ -50,8 +50,8 @@ module _ {D : Type 0} {stops : D → List DatasetEvent → DatasetEvent → D �
 
   -- The sink stops at what the last octet of a tag completes.
   pub tag_stops : (held : ArrayVec ℕ) {rest : List ℕ} {h : Head} {k : ℕ} {a b : D} → k < length rest
-      → SpellsTag count_octets h (held.items ++ take (k + 1) rest)
-      → stops a [] (HeadRead h) b ⊎ ((h.count ≡ 0) × stops a (HeadRead h ∷ []) DatasetEnd b) → Stops stops (Tag held) rest k a b
+      → EncodesTag count_octets h (held.items ++ take (k + 1) rest)
+      → stops a [] (HeadRead h) b ⊎ ((h.count ≡ 0) × stops a (HeadRead h ∷ []) DatasetEnd b) → DatasetSinkStopsAt stops (Tag held) rest k a b
   tag_stops held {rest} {h} {k} lt s refused =
       let before : ArrayVec ℕ = record { items = held.items ++ take k rest } in
       let on = tag_on held before (take k rest) (unfinished held.items rest h k lt s) refl in
@@ -63,9 +63,9 @@ module _ {D : Type 0} {stops : D → List DatasetEvent → DatasetEvent → D �
 
   -- After a stop of the sink the state is between datasets, and the fault is a stop.
   pub stopped_at : {goes : D → List DatasetEvent → D → Type 0} {stands : D → Option ℕ → Type 0} {old : DatasetPlace} {octets : List ℕ} {k : ℕ}
-      (given : DatasetPlace × Fault) {a b : D} → IsPlace given.0 → given.0 ≡ between → given.1 ≡ record { cause = Stopped; used = k } → k < length octets
-      → Stops stops old octets k a b
-      → RefusesOne goes stops stands (old, a) octets given.1 (given.0, b)
+      (given : DatasetPlace × Fault) {a b : D} → IsDatasetState given.0 → given.0 ≡ between → given.1 ≡ record { cause = Stopped; used = k } → k < length octets
+      → DatasetSinkStopsAt stops old octets k a b
+      → DatasetReaderRejects goes stops stands (old, a) octets given.1 (given.0, b)
   stopped_at given is_place none is lt s = record { is_place = is_place; before = rw is lt; refused = rw is (s, none); onward = rw is tt }
 
 -- ---- After a prefix.
@@ -76,8 +76,8 @@ module _ {D : Type 0} {goes : D → List DatasetEvent → D → Type 0}
   abbrev rest : List ℕ
   rest = slice_range piece i (length piece)
 
-  pub tells_front : {p q r : DatasetPlace} {a b c : D} → TellsSink goes p (take i piece) q a b → TellsSink goes q (take k rest) r b c
-      → TellsSink goes p (take (i + k) piece) r a c
+  pub tells_front : {p q r : DatasetPlace} {a b c : D} → PassesToSink goes p (take i piece) q a b → PassesToSink goes q (take k rest) r b c
+      → PassesToSink goes p (take (i + k) piece) r a c
   tells_front {p} {q} {r} {a} {b} {c} t u = record {
     more = t.more ++ u.more;
     told = joined a b c t.more u.more t.told u.told;
@@ -89,8 +89,8 @@ module _ {D : Type 0} {goes : D → List DatasetEvent → D → Type 0}
 
   pub refuses_front : {stops : D → List DatasetEvent → DatasetEvent → D → Type 0}
       → ((a b c : D) (xs ys : List DatasetEvent) (event : DatasetEvent) → goes a xs b → stops b ys event c → stops a (xs ++ ys) event c)
-      → (why : Option HeadCause) {p q : DatasetPlace} (r : DatasetPlace) {a b : D} (c : D) → TellsSink goes p (take i piece) q a b
-      → RefusesFor goes stops why q rest k r b c → RefusesFor goes stops why p piece (i + k) r a c
+      → (why : Option HeadCause) {p q : DatasetPlace} (r : DatasetPlace) {a b : D} (c : D) → PassesToSink goes p (take i piece) q a b
+      → RejectsDatasetsFor goes stops why q rest k r b c → RejectsDatasetsFor goes stops why p piece (i + k) r a c
   refuses_front joined_stop None r {a} {b} c t (s, place) = (
     record {
       more = t.more ++ s.more;
@@ -105,16 +105,16 @@ module _ {D : Type 0} {goes : D → List DatasetEvent → D → Type 0}
   refuses_front joined_stop (Some cause) r c t s = (tells_front t s.0, rw (← octet_is) s.1)
 
 -- After a tag the reader is between datasets or inside one.
-pub after_tag : (h : Head) (tag : List ℕ) → SpellsTag count_octets h tag → IsPlace (place_after_head h)
+pub after_tag : (h : Head) (tag : List ℕ) → EncodesTag count_octets h tag → IsDatasetState (place_after_head h)
 after_tag h tag s = by_count (h.count == 0) refl
   where
-    by_count : (b : Bool) → (h.count == 0) ≡ b → IsPlace (if b then between else Inside h h.count)
+    by_count : (b : Bool) → (h.count == 0) ≡ b → IsDatasetState (if b then between else Inside h h.count)
     by_count true e = begun_none
     by_count false e = (grind (arith, nat_tests, e), omega arith, tag, s)
 
 -- What a sink returns at the end of a dataset determines whether it can continue.
 pub after_end : {D : Type 0} (stands : D → Option ℕ → Type 0) (ends : D → Type 0) (step : Step) (place : DatasetPlace) (a : D) → place ≡ between
-    → AfterStep stands ends a step → TakesOnward stands ends step place a
+    → SinkIsAfterStep stands ends a step → SinkGoesOn stands ends step place a
 after_end stands ends More place a none s = rw none s
 after_end stands ends Last place a none s = (s, none)
 
@@ -122,7 +122,7 @@ after_end stands ends Last place a none s = (s, none)
 pub standard_front : (rest : List ℕ) (high low : ℕ) (xs : List ℕ) → Fit rest → 5 + (high * 256 + low) ≤ length rest → get_or rest 0 0 ≡ 28
     → get_or rest 3 0 < 128
     → high ≡ get_or rest 3 0 → low ≡ get_or rest 4 0 → xs ≡ take (high * 256 + low) (take (length rest - 5) (drop 5 rest))
-    → WholeFront rest (record { rec = get_or rest 1 0; set = get_or rest 2 0; count = high * 256 + low }) xs (5 + (high * 256 + low))
+    → HasWholeDataset rest (record { rec = get_or rest 1 0; set = get_or rest 2 0; count = high * 256 + low }) xs (5 + (high * 256 + low))
 standard_front rest high low xs fits within marker form is_high is_low are =
     let n = high * 256 + low in
     let five : xs ≡ take n (drop 5 rest) = rw (take_rest rest 5) at are in
@@ -138,16 +138,16 @@ standard_front rest high low xs fits within marker form is_high is_low are =
     }
 
 -- The sink received a complete dataset.
-pub tells_whole : {D : Type 0} {goes : D → List DatasetEvent → D → Type 0} {rest xs : List ℕ} {h : Head} {used : ℕ} {a b : D} → WholeFront rest h xs used
-    → goes a (HeadRead h ∷ (map DataOctet xs ++ DatasetEnd ∷ [])) b → TellsSink goes between (take used rest) between a b
+pub tells_whole : {D : Type 0} {goes : D → List DatasetEvent → D → Type 0} {rest xs : List ℕ} {h : Head} {used : ℕ} {a b : D} → HasWholeDataset rest h xs used
+    → goes a (HeadRead h ∷ (map DataOctet xs ++ DatasetEnd ∷ [])) b → PassesToSink goes between (take used rest) between a b
 tells_whole {xs = xs} {h = h} f told =
     record { more = HeadRead h ∷ (map DataOctet xs ++ DatasetEnd ∷ []); told = told; brings = rw f.parts (whole_on f.tag xs h f.spells f.octets f.count) }
 
 -- ---- Where the sink stops in a complete dataset.
 
 -- The head, and a prefix of the data.
-front_on : (tag xs : List ℕ) (h : Head) (t : ℕ) → SpellsTag count_octets h tag → Octets xs → h.count ≡ length xs → t < length xs
-    → Brings between (tag ++ take t xs) (HeadRead h ∷ map DataOctet (take t xs)) (Inside h (length xs - t))
+front_on : (tag xs : List ℕ) (h : Head) (t : ℕ) → EncodesTag count_octets h tag → Octets xs → h.count ≡ length xs → t < length xs
+    → AddsEvents between (tag ++ take t xs) (HeadRead h ∷ map DataOctet (take t xs)) (Inside h (length xs - t))
 front_on tag xs h t s o all lt =
     let few = length-take-le t xs (omega (arith, lt)) in
     brings_on between (Inside h h.count) (Inside h (length xs - t)) tag (take t xs) (HeadRead h ∷ []) (map DataOctet (take t xs))
@@ -155,18 +155,18 @@ front_on tag xs h t s o all lt =
     (data_on h h.count (length xs - t) (take t xs) (front_are t xs o) (omega (arith, lt)) (omega (arith, lt, all, few)))
 
 -- The tag and the data together have `used` octets.
-tag_length : {rest xs : List ℕ} {h : Head} {used : ℕ} (f : WholeFront rest h xs used) → used ≡ length f.tag + length xs
+tag_length : {rest xs : List ℕ} {h : Head} {used : ℕ} (f : HasWholeDataset rest h xs used) → used ≡ length f.tag + length xs
 tag_length {rest} {xs} {used = used} f = sym (length-take-le used rest f.within) ∙ ap length f.parts ∙ length-append f.tag xs
 
-pub data_within : {rest xs : List ℕ} {h : Head} {used : ℕ} → WholeFront rest h xs used → length xs ≤ used
+pub data_within : {rest xs : List ℕ} {h : Head} {used : ℕ} → HasWholeDataset rest h xs used → length xs ≤ used
 data_within f = omega (arith, tag_length f)
 
-pub in_front : {rest xs : List ℕ} {h : Head} {used t : ℕ} → WholeFront rest h xs used → t < length xs → used - length xs + t < length rest
+pub in_front : {rest xs : List ℕ} {h : Head} {used t : ℕ} → HasWholeDataset rest h xs used → t < length xs → used - length xs + t < length rest
 in_front f lt = omega (arith, tag_length f, f.within, lt)
 
 pub whole_stops : {D : Type 0} {stops : D → List DatasetEvent → DatasetEvent → D → Type 0} {rest xs : List ℕ} {h : Head} {used : ℕ} (t : ℕ) {a b : D}
-    → WholeFront rest h xs used → t < length xs
-    → stops a (HeadRead h ∷ map DataOctet (take t xs)) (DataOctet (slice_index xs t)) b → Stops stops between rest (used - length xs + t) a b
+    → HasWholeDataset rest h xs used → t < length xs
+    → stops a (HeadRead h ∷ map DataOctet (take t xs)) (DataOctet (slice_index xs t)) b → DatasetSinkStopsAt stops between rest (used - length xs + t) a b
 whole_stops {rest = rest} {xs} {h} {used} t f lt s =
     let k = used - length xs + t in
     let x = slice_index xs t in

@@ -2,7 +2,7 @@
 
 ghost use Rattle.std.specs.Prelude.{◌≡◌, ◌≢◌, ◌↔◌, None, Some};
 ghost use Rattle.std.specs.IoError.{error_kind};
-ghost use Rattle.iim_dataset.specs.States.Devices.{CountedFailure, Faulted, faulty};
+ghost use Rattle.iim_dataset.specs.States.Devices.{CountedFailure, CountedFault, faulty};
 ghost use Rattle.iim_dataset.specs.Format.Datasets.{text_of_fault};
 
 use std::fmt::{Display, Formatter};
@@ -83,7 +83,7 @@ impl Faults {
     /// Counts an error of `std` and returns what it is: kind `Interrupted` is an interruption, any
     /// other kind a failure.
     pub(crate) fn count(&mut self, error: Error) -> IoFault
-        ensures counted { Faulted (faulty None self.old) (faulty None self.new) result }
+        ensures counted { CountedFault (faulty None self.old) (faulty None self.new) result }
         ensures interrupted { (result ≡ IoFault.Interrupted) ↔ (error_kind error ≡ ErrorKind.Interrupted) }
         ensures failed { (result ≡ IoFault.Failed) ↔ (error_kind error ≢ ErrorKind.Interrupted) }
     {

@@ -2,7 +2,7 @@
 
 ghost use Rattle.std.specs.Prelude.{◌≡◌, Some};
 ghost use Rattle.iim_dataset.specs.States.Reading.{tag_cause_of};
-ghost use Rattle.iim_dataset.specs.Format.Faults.{cause_number, cause_name, cause_text, fault_text};
+ghost use Rattle.iim_dataset.specs.Format.Faults.{number_of_dataset_cause, name_of_dataset_cause, text_of_dataset_cause, text_of_dataset_fault};
 
 use crate::head::HeadCause;
 use std::error::Error;
@@ -23,7 +23,7 @@ pub enum FaultCause {
 impl FaultCause {
     /// Returns the number of the cause, as it is printed. A stop of the sink is 60.
     pub fn number(self) -> u8
-        ensures { result ≡ cause_number self }
+        ensures { result ≡ number_of_dataset_cause self }
     {
         match self {
             FaultCause::Marker => 1,
@@ -34,7 +34,7 @@ impl FaultCause {
 
     /// Returns the name of the cause, as it is printed. A stop of the sink is `Sink`.
     pub fn name(self) -> &'static str
-        ensures { result.now ≡ cause_name self }
+        ensures { result.now ≡ name_of_dataset_cause self }
     {
         match self {
             FaultCause::Marker => "Marker",
@@ -46,7 +46,7 @@ impl FaultCause {
 
 /// Writes the number and the name, as `1 Marker`.
 impl Display for FaultCause {
-    ghost output = { λ cause. Some (cause_text cause) };
+    ghost output = { λ cause. Some (text_of_dataset_cause cause) };
 
     fn fmt<W: fmt::Write>(&self, f: &mut Formatter<W>) -> fmt::Result {
         let number = self.number();
@@ -69,7 +69,7 @@ pub struct Fault {
 /// Writes the number of octets before the rejected one, and the cause, as `refused after 5 octets,
 /// cause 1 Marker`.
 impl Display for Fault {
-    ghost output = { λ fault. Some (fault_text fault) };
+    ghost output = { λ fault. Some (text_of_dataset_fault fault) };
 
     fn fmt<W: fmt::Write>(&self, f: &mut Formatter<W>) -> fmt::Result {
         let used = self.used;

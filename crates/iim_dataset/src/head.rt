@@ -1,7 +1,7 @@
 //! The tag of a dataset: a marker, two numbers and a count.
 
 ghost use Rattle.std.specs.Prelude.{◌≡◌, IfOk, IfErr, MatchOption};
-ghost use Rattle.iim_dataset.specs.Format.Datasets.{SpellsTag, canonical_tag, count_octets, BeginsTag, HasTag, HasNoTag};
+ghost use Rattle.iim_dataset.specs.Format.Datasets.{EncodesTag, canonical_tag, count_octets, BeginsTag, HasTag, HasNoTag};
 
 use crate::number::number_bytes;
 use crate::place::lengthen;
@@ -113,7 +113,7 @@ fn fault(cause: HeadCause, taken: usize) -> HeadFault
 /// octets up to 4,294,967,295, and one of eight octets above that.
 pub fn head_bytes(head: Head) -> ArrayVec<u8, TAG_OCTETS>
     ensures canonical { result.items ≡ canonical_tag head }
-    ensures spells { SpellsTag count_octets head result.items }
+    ensures spells { EncodesTag count_octets head result.items }
 {
     let mut tag = ArrayVec::new();
     tag.push(TAG_MARKER);

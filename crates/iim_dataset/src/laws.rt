@@ -1,6 +1,6 @@
 //! Lemmas on all encodings of datasets, with either form of a count.
 
-ghost use Rattle.iim_dataset.specs.Laws.{PlacesAreReached, DatasetLaws};
+ghost use Rattle.iim_dataset.specs.Laws.{DatasetStatesAreReached, DatasetLaws};
 
 /// Proves the lemmas on encodings of datasets and on readers of datasets; the record has a field
 /// for each.
@@ -10,7 +10,7 @@ pub fn dataset_laws()
 
 /// Proves that some octets reach each state that satisfies the invariant of [`crate::HeadReader`],
 /// and that octets reach no other state.
-#[tactic(auto, using(crate::proofs::Places::places_are_reached))]
-pub fn places_are_reached()
-    ensures { PlacesAreReached }
+#[tactic(auto, using(crate::proofs::Places::dataset_states_are_reached))]
+pub fn dataset_states_are_reached()
+    ensures { DatasetStatesAreReached }
 {}

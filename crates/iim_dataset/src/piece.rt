@@ -5,12 +5,12 @@
 
 ghost use Rattle.std.specs.Prelude.{◌≡◌, ◌==◌, if◌then◌else◌, ◌<◌, ◌⊎◌, [], ◌∷◌, length, Some, None, IfSome, IfOk, IfErr, OnOk, OnErr};
 ghost use Rattle.iim_dataset.specs.Format.Datasets.{count_octets, BeginsTag};
-ghost use Rattle.iim_dataset.specs.States.Reading.{IsPlace, between, to_come, TakesPiece, RefusesOne, Stops, HeadRead, DatasetEnd};
-ghost use Rattle.iim_dataset.specs.Steps.{TakesOnward, TakesFront, WholeFront, head_events};
+ghost use Rattle.iim_dataset.specs.States.Reading.{IsDatasetState, between, to_come, DatasetReaderConsumes, DatasetReaderRejects, DatasetSinkStopsAt, HeadRead, DatasetEnd};
+ghost use Rattle.iim_dataset.specs.Steps.{SinkGoesOn, ConsumesDatasetPrefix, HasWholeDataset, head_events};
 
 use crate::fault::{Fault, FaultCause, tag_fault};
 use crate::head::{EXTENDED, Head, TAG_LENGTH, TAG_MARKER};
-use crate::place::{DatasetPlace, HELD_OCTETS, lengthen, read_tag};
+use crate::place::{DatasetPlace, PARTIAL_TAG_OCTETS, lengthen, read_tag};
 use crate::sink::{DatasetSink, Step};
 use crate::stop::Stop;
 use arrayvec::ArrayVec;
@@ -27,7 +27,7 @@ pub(crate) struct Front {
 /// Returns the state between datasets.
 pub(crate) fn start() -> DatasetPlace
     ensures place { result ≡ between }
-    ensures is_place { IsPlace result }
+    ensures is_place { IsDatasetState result }
 {
     DatasetPlace::Tag(ArrayVec::new())
 }
@@ -35,7 +35,7 @@ pub(crate) fn start() -> DatasetPlace
 /// Returns the state and the fault after a stop of the sink at octet `used`.
 fn stopped(used: usize) -> (DatasetPlace, Fault)
     ensures place { result.0 ≡ between }
-    ensures is_place { IsPlace result.0 }
+    ensures is_place { IsDatasetState result.0 }
     ensures fault { result.1 ≡ record { cause = FaultCause.Stopped; used = used } }
 {
     let cause = FaultCause::Stopped;
@@ -49,7 +49,7 @@ fn begin<D: DatasetSink>(head: Head, sink: &mut D) -> Result<(DatasetPlace, Step
     ensures place { IfOk result (λ next. next.0
         ≡ (if head.count == 0 then between else DatasetPlace.Inside head head.count)) }
     ensures told { OnOk result (D.goes sink.old (head_events head) sink.new) }
-    ensures onward { IfOk result (λ next. TakesOnward D.stands D.ends next.1 next.0 sink.new) }
+    ensures onward { IfOk result (λ next. SinkGoesOn D.stands D.ends next.1 next.0 sink.new) }
     ensures stopped { OnErr result (D.stops sink.old [] (HeadRead head) sink.new
         ⊎ ((head.count ≡ 0) × D.stops sink.old (HeadRead head ∷ []) DatasetEnd sink.new)) }
 {
@@ -64,8 +64,8 @@ fn begin<D: DatasetSink>(head: Head, sink: &mut D) -> Result<(DatasetPlace, Step
 
 /// Consumes octets of a tag of which the octets in `held` are buffered: up to the end of the tag,
 /// or all of them.
-fn take_tag<D: DatasetSink>(
-    held: ArrayVec<u8, HELD_OCTETS>,
+fn consume_tag<D: DatasetSink>(
+    held: ArrayVec<u8, PARTIAL_TAG_OCTETS>,
     rest: &[u8],
     sink: &mut D,
 ) -> Result<Front, (DatasetPlace, Fault)>
@@ -73,9 +73,10 @@ fn take_tag<D: DatasetSink>(
     requires stands { D.stands sink.old None }
     requires some { 0 < length rest.now }
     ensures front { IfOk result (λ front.
-        TakesFront D.goes D.stands D.ends (DatasetPlace.Tag held, sink.old) rest.now front sink.new) }
+        ConsumesDatasetPrefix D.goes D.stands D.ends (DatasetPlace.Tag held, sink.old) rest.now front sink.new) }
     ensures refused { IfErr result (λ given.
-        RefusesOne D.goes D.stops D.stands (DatasetPlace.Tag held, sink.old) rest.now given.1 (given.0, sink.new)) }
+        DatasetReaderRejects D.goes D.stops D.stands (DatasetPlace.Tag held, sink.old) rest.now given.1
+        (given.0, sink.new)) }
 {
     let mut held = held;
     match read_tag(held.as_slice(), rest) {
@@ -104,19 +105,20 @@ fn take_tag<D: DatasetSink>(
 }
 
 /// Consumes octets of data of which `left` remain: up to the end of the data, or all of them.
-fn take_data<D: DatasetSink>(
+fn consume_data<D: DatasetSink>(
     head: Head,
     left: u64,
     rest: &[u8],
     sink: &mut D,
 ) -> Result<Front, (DatasetPlace, Fault)>
-    requires place { IsPlace (DatasetPlace.Inside head left) }
+    requires place { IsDatasetState (DatasetPlace.Inside head left) }
     requires stands { D.stands sink.old (Some left) }
     requires some { 0 < length rest.now }
     ensures front { IfOk result (λ front.
-        TakesFront D.goes D.stands D.ends (DatasetPlace.Inside head left, sink.old) rest.now front sink.new) }
+        ConsumesDatasetPrefix D.goes D.stands D.ends (DatasetPlace.Inside head left, sink.old) rest.now front
+        sink.new) }
     ensures refused { IfErr result (λ given.
-        RefusesOne D.goes D.stops D.stands (DatasetPlace.Inside head left, sink.old) rest.now given.1
+        DatasetReaderRejects D.goes D.stops D.stands (DatasetPlace.Inside head left, sink.old) rest.now given.1
         (given.0, sink.new)) }
 {
     if (rest.len() as u64) < left {
@@ -149,7 +151,7 @@ fn take_data<D: DatasetSink>(
 /// as a head, data and an end instead.
 #[inline(always)]
 fn whole_dataset(rest: &[u8]) -> Option<(Head, &[u8], usize)>
-    ensures { IfSome result (λ front. WholeFront rest.now front.0 front.1.now front.2) }
+    ensures { IfSome result (λ front. HasWholeDataset rest.now front.0 front.1.now front.2) }
 {
     match rest {
         [marker, rec, set, high, low, after @ ..] if *marker == TAG_MARKER && *high < EXTENDED => {
@@ -175,13 +177,14 @@ fn whole_dataset(rest: &[u8]) -> Option<(Head, &[u8], usize)>
 ///
 /// **Errors:** the number of octets before the one that the sink rejects.
 #[inline(always)]
-fn take_wholes<D: DatasetSink>(rest: &[u8], sink: &mut D) -> Result<(Step, usize), usize>
+fn consume_whole_datasets<D: DatasetSink>(rest: &[u8], sink: &mut D) -> Result<(Step, usize), usize>
     requires stands { D.stands sink.old None }
-    ensures wholes { IfOk result (λ front. 0 < front.1 → TakesFront D.goes D.stands D.ends (between, sink.old)
+    ensures wholes { IfOk result (λ front. 0 < front.1 → ConsumesDatasetPrefix D.goes D.stands D.ends
+        (between, sink.old)
         rest.now record { place = between; step = front.0; used = front.1 } sink.new) }
     ensures none { IfOk result (λ front. front.1 ≡ 0 → sink.new ≡ sink.old) }
     ensures before { IfErr result (λ used. used < length rest.now) }
-    ensures stopped { IfErr result (λ used. Stops D.stops between rest.now used sink.old sink.new) }
+    ensures stopped { IfErr result (λ used. DatasetSinkStopsAt D.stops between rest.now used sink.old sink.new) }
 {
     let mut at = 0;
     while let Some((head, data, used)) = whole_dataset(&rest[at..]) {
@@ -197,43 +200,44 @@ fn take_wholes<D: DatasetSink>(rest: &[u8], sink: &mut D) -> Result<(Step, usize
 
 /// Consumes complete datasets if no tag is partial, as long as the sink accepts each in one call.
 #[inline(always)]
-fn take_wholes_after<D: DatasetSink>(
-    held: &ArrayVec<u8, HELD_OCTETS>,
+fn consume_whole_datasets_between<D: DatasetSink>(
+    held: &ArrayVec<u8, PARTIAL_TAG_OCTETS>,
     rest: &[u8],
     sink: &mut D,
 ) -> Result<(Step, usize), usize>
     requires stands { D.stands sink.old None }
-    ensures wholes { IfOk result (λ front. 0 < front.1 → TakesFront D.goes D.stands D.ends (between, sink.old)
+    ensures wholes { IfOk result (λ front. 0 < front.1 → ConsumesDatasetPrefix D.goes D.stands D.ends
+        (between, sink.old)
         rest.now record { place = between; step = front.0; used = front.1 } sink.new) }
     ensures none { IfOk result (λ front. front.1 ≡ 0 → sink.new ≡ sink.old) }
     ensures between { IfOk result (λ front. 0 < front.1 → held.now.items ≡ []) }
     ensures before { IfErr result (λ used. used < length rest.now) }
     ensures stopped { IfErr result (λ used. (held.now.items ≡ [])
-        × Stops D.stops between rest.now used sink.old sink.new) }
+        × DatasetSinkStopsAt D.stops between rest.now used sink.old sink.new) }
 {
-    if !held.is_empty() || !sink.wants_whole() {
+    if !held.is_empty() || !sink.prefers_whole_datasets() {
         return Ok((Step::More, 0));
     }
-    take_wholes(rest, sink)
+    consume_whole_datasets(rest, sink)
 }
 
 /// Consumes a prefix of the remaining octets: complete datasets, or else the longest prefix that
 /// lies in one tag or in the data of one dataset.
-fn take_front<D: DatasetSink>(
+fn consume_prefix<D: DatasetSink>(
     place: DatasetPlace,
     rest: &[u8],
     sink: &mut D,
 ) -> Result<Front, (DatasetPlace, Fault)>
-    requires place { IsPlace place }
+    requires place { IsDatasetState place }
     requires stands { D.stands sink.old (to_come place) }
     requires some { 0 < length rest.now }
     ensures front { IfOk result (λ front.
-        TakesFront D.goes D.stands D.ends (place, sink.old) rest.now front sink.new) }
+        ConsumesDatasetPrefix D.goes D.stands D.ends (place, sink.old) rest.now front sink.new) }
     ensures refused { IfErr result (λ given.
-        RefusesOne D.goes D.stops D.stands (place, sink.old) rest.now given.1 (given.0, sink.new)) }
+        DatasetReaderRejects D.goes D.stops D.stands (place, sink.old) rest.now given.1 (given.0, sink.new)) }
 {
     match place {
-        DatasetPlace::Tag(held) => match take_wholes_after(&held, rest, sink) {
+        DatasetPlace::Tag(held) => match consume_whole_datasets_between(&held, rest, sink) {
             Ok((step, used)) => {
                 if used > 0 {
                     return Ok(Front {
@@ -242,32 +246,32 @@ fn take_front<D: DatasetSink>(
                         used,
                     });
                 }
-                take_tag(held, rest, sink)
+                consume_tag(held, rest, sink)
             }
             Err(used) => Err(stopped(used)),
         },
-        DatasetPlace::Inside { head, left } => take_data(head, left, rest, sink),
+        DatasetPlace::Inside { head, left } => consume_data(head, left, rest, sink),
     }
 }
 
 /// Consumes octets from a state on: all of them, or up to the end of the dataset that the sink
 /// called the last. Returns the new state and the number of octets consumed.
-pub(crate) fn take_piece<D: DatasetSink>(
+pub(crate) fn consume_chunk<D: DatasetSink>(
     place: DatasetPlace,
     octets: &[u8],
     sink: &mut D,
 ) -> Result<(DatasetPlace, usize), (DatasetPlace, Fault)>
-    requires place { IsPlace place }
+    requires place { IsDatasetState place }
     requires stands { D.stands sink.old (to_come place) }
     ensures piece { IfOk result (λ front.
-        TakesPiece D.goes D.stands D.ends (place, sink.old) octets.now (front.0, sink.new) front.1) }
+        DatasetReaderConsumes D.goes D.stands D.ends (place, sink.old) octets.now (front.0, sink.new) front.1) }
     ensures refused { IfErr result (λ given.
-        RefusesOne D.goes D.stops D.stands (place, sink.old) octets.now given.1 (given.0, sink.new)) }
+        DatasetReaderRejects D.goes D.stops D.stands (place, sink.old) octets.now given.1 (given.0, sink.new)) }
 {
     let mut now = place;
     let mut at = 0;
     while at < octets.len() {
-        match take_front(now, &octets[at..], sink) {
+        match consume_prefix(now, &octets[at..], sink) {
             Ok(front) => {
                 now = front.place;
                 at += front.used;

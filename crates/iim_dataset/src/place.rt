@@ -2,21 +2,21 @@
 
 ghost use Rattle.std.specs.Prelude.{◌≡◌, ◌↔◌, ◌+◌, ◌≤◌, ◌++◌, ℕ, List, length, take, IsTrue, IfOk, IfErr, MatchOption};
 ghost use Rattle.arrayvec.specs.ArrayVec.{array_vec_len};
-ghost use Rattle.iim_dataset.specs.Format.Datasets.{SpellsTag, count_octets, BeginsTag, HasTag, HasNoTag};
-ghost use Rattle.iim_dataset.specs.States.Reading.{IsPlace};
+ghost use Rattle.iim_dataset.specs.Format.Datasets.{EncodesTag, count_octets, BeginsTag, HasTag, HasNoTag};
+ghost use Rattle.iim_dataset.specs.States.Reading.{IsDatasetState};
 
 use crate::head::{Head, HeadFault, TAG_OCTETS, read_head};
 use crate::laws::dataset_laws;
 use arrayvec::ArrayVec;
 
 /// The greatest number of octets of a partial tag.
-pub const HELD_OCTETS: usize = TAG_OCTETS - 1;
+pub const PARTIAL_TAG_OCTETS: usize = TAG_OCTETS - 1;
 
 /// The state of a reader of datasets: where in a dataset the next octet is.
 #[derive(Debug, Drop)]
 pub enum DatasetPlace {
     /// In a tag of which these octets were received; empty between datasets.
-    Tag(ArrayVec<u8, HELD_OCTETS>),
+    Tag(ArrayVec<u8, PARTIAL_TAG_OCTETS>),
     /// In the data of a dataset.
     Inside {
         /// The decoded tag of the dataset.
@@ -35,8 +35,8 @@ pub(crate) fn lengthen<const ROOM: usize>(held: &mut ArrayVec<u8, ROOM>, octets:
 }
 
 /// Concatenates two slices, up to the greatest length of a tag.
-fn tag_room(held: &[u8], next: &[u8]) -> ArrayVec<u8, TAG_OCTETS>
-    requires { length held.now ≤ HELD_OCTETS }
+fn joined_tag(held: &[u8], next: &[u8]) -> ArrayVec<u8, TAG_OCTETS>
+    requires { length held.now ≤ PARTIAL_TAG_OCTETS }
     ensures { result.items ≡ take TAG_OCTETS (held.now ++ next.now) }
 {
     let mut tag = ArrayVec::new();
@@ -49,7 +49,7 @@ fn tag_room(held: &[u8], next: &[u8]) -> ArrayVec<u8, TAG_OCTETS>
 /// Parses the tag that begins with the buffered octets and continues with the next ones, as
 /// [`read_head`] does.
 pub(crate) fn read_tag(held: &[u8], next: &[u8]) -> Result<Option<(Head, usize)>, HeadFault>
-    requires { length held.now ≤ HELD_OCTETS }
+    requires { length held.now ≤ PARTIAL_TAG_OCTETS }
     ensures found { IfOk result (λ found.
         MatchOption found (BeginsTag count_octets (held.now ++ next.now))
         (λ f. HasTag (held.now ++ next.now) f.0 f.1)) }
@@ -58,7 +58,7 @@ pub(crate) fn read_tag(held: &[u8], next: &[u8]) -> Result<Option<(Head, usize)>
     if held.is_empty() {
         return read_head(next);
     }
-    read_head(tag_room(held, next).as_slice())
+    read_head(joined_tag(held, next).as_slice())
 }
 
 /// Checks whether the octets are a proper prefix of a tag.
@@ -71,18 +71,18 @@ fn begins_tag(octets: &[u8]) -> bool
 
 /// Checks whether at least one octet of data remains and no more than the tag counts. Any tag can
 /// encode a count of 64 bits.
-fn is_inside(head: Head, left: u64) -> bool
-    ensures { IsTrue result ↔ IsPlace (DatasetPlace.Inside head left) }
+fn has_data_remaining(head: Head, left: u64) -> bool
+    ensures { IsTrue result ↔ IsDatasetState (DatasetPlace.Inside head left) }
 {
     0 < left && left <= head.count
 }
 
 /// Checks whether some octets reach the state.
 pub(crate) fn is_place(place: &DatasetPlace) -> bool
-    ensures { IsTrue result ↔ IsPlace place.now }
+    ensures { IsTrue result ↔ IsDatasetState place.now }
 {
     match place {
         DatasetPlace::Tag(held) => begins_tag(held.as_slice()),
-        DatasetPlace::Inside { head, left } => is_inside(*head, *left),
+        DatasetPlace::Inside { head, left } => has_data_remaining(*head, *left),
     }
 }

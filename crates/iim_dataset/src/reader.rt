@@ -5,8 +5,8 @@ ghost use Rattle.iim_dataset.specs.Format.Datasets.{count_octets};
 ghost use Rattle.iim_dataset.specs.States.Reading.{DatasetEvent};
 
 use crate::fault::Fault;
-use crate::laws::places_are_reached;
-use crate::piece::{start, take_piece};
+use crate::laws::dataset_states_are_reached;
+use crate::piece::{consume_chunk, start};
 use crate::place::{DatasetPlace, is_place};
 use crate::sink::DatasetSink;
 use std::marker::Model;
@@ -21,23 +21,23 @@ pub struct HeadReader {
 }
 
 impl Model for HeadReader {
-    ghost use Rattle.iim_dataset.specs.States.Reading.{IsPlace, Reader};
+    ghost use Rattle.iim_dataset.specs.States.Reading.{IsDatasetState, Reader};
 
     ghost Value = { Reader };
 
     ghost view = { λ reader. record { place = reader.place; failed = reader.failed } };
 
-    ghost invariant = { λ reader. IsPlace reader.place };
+    ghost invariant = { λ reader. IsDatasetState reader.place };
 }
 
-ghost use Rattle.iim_dataset.specs.States.Reading.{LeadsTo, between, named_by, to_come, StandsAt, TakesCalls, IsFailed, TakesPiece, RefusesOne};
+ghost use Rattle.iim_dataset.specs.States.Reading.{ReachesDatasetState, between, current_name, to_come, DatasetReaderHasRead, DatasetReaderAccepts, DatasetReaderFailed, DatasetReaderConsumes, DatasetReaderRejects};
 
 impl HeadReader {
     /// Creates a reader at the start of a stream.
     pub fn new() -> HeadReader
-        ensures takes_calls { TakesCalls result }
+        ensures takes_calls { DatasetReaderAccepts result }
         ensures between { result.place ≡ between }
-        ensures stands { StandsAt result [] [] }
+        ensures stands { DatasetReaderHasRead result [] [] }
     {
         HeadReader {
             place: start(),
@@ -47,14 +47,15 @@ impl HeadReader {
 
     /// Checks whether a call returned an error.
     pub fn is_failed(&self) -> bool
-        ensures { IsTrue result ↔ IsFailed self.now }
+        ensures { IsTrue result ↔ DatasetReaderFailed self.now }
     {
         self.failed
     }
 
     /// Returns the state of the reader, or `None` after an error.
     pub fn place(&self) -> Option<&DatasetPlace>
-        ensures { MatchOption result (IsFailed self.now) (λ place. TakesCalls self.now × (place.now ≡ self.now.place)) }
+        ensures { MatchOption result (DatasetReaderFailed self.now) (λ place. DatasetReaderAccepts self.now × (place.now
+            ≡ self.now.place)) }
     {
         if self.failed {
             return None;
@@ -66,11 +67,11 @@ impl HeadReader {
     /// buffered octets must be a proper prefix of a tag, and the remaining data must be non-empty
     /// and no more than its tag counts.
     pub fn at(place: DatasetPlace) -> Option<HeadReader>
-        ensures place { IfSome result (λ reader. (reader.place ≡ place) × TakesCalls reader) }
+        ensures place { IfSome result (λ reader. (reader.place ≡ place) × DatasetReaderAccepts reader) }
         ensures exactly { IsSome result ↔ ((octets : List ℕ) × (events : List DatasetEvent)
-            × LeadsTo count_octets octets events place) }
+            × ReachesDatasetState count_octets octets events place) }
     {
-        places_are_reached();
+        dataset_states_are_reached();
         if !is_place(&place) {
             return None;
         }
@@ -82,7 +83,7 @@ impl HeadReader {
     /// read, and both are 0 between datasets. After a rejected tag octet they are those of the tag
     /// before that octet. After a stop of the sink both are 0.
     pub fn named(&self) -> (u8, u8)
-        ensures { result ≡ named_by self.now.place }
+        ensures { result ≡ current_name self.now.place }
     {
         match &self.place {
             DatasetPlace::Tag(held) => (
@@ -102,22 +103,24 @@ impl HeadReader {
     /// the sink rejected. The reader has then failed ([`HeadReader::is_failed`]), and accepts no
     /// further call.
     pub fn feed<D: DatasetSink>(&mut self, octets: &[u8], sink: &mut D) -> Result<usize, Fault>
-        requires takes_calls { TakesCalls self.old }
+        requires takes_calls { DatasetReaderAccepts self.old }
         requires stands { D.stands sink.old (to_come self.old.place) }
 
         // The consumed octets reach the new state, and the sink received what they complete. The
         // sink accepts what comes next, or has ended.
-        ensures takes_calls { OnOk result (TakesCalls self.new) }
+        ensures takes_calls { OnOk result (DatasetReaderAccepts self.new) }
         ensures taken { IfOk result (λ used.
-            TakesPiece D.goes D.stands D.ends (self.old.place, sink.old) octets.now (self.new.place, sink.new) used) }
+            DatasetReaderConsumes D.goes D.stands D.ends (self.old.place, sink.old) octets.now
+            (self.new.place, sink.new) used) }
 
         // No tag can continue with the rejected octet, or the sink stopped at what it completes.
-        ensures failed { OnErr result (IsFailed self.new) }
+        ensures failed { OnErr result (DatasetReaderFailed self.new) }
         ensures refused { IfErr result (λ fault.
-            RefusesOne D.goes D.stops D.stands (self.old.place, sink.old) octets.now fault (self.new.place, sink.new)) }
+            DatasetReaderRejects D.goes D.stops D.stands (self.old.place, sink.old) octets.now fault
+            (self.new.place, sink.new)) }
     {
         let place = mem::replace(&mut self.place, start());
-        match take_piece(place, octets, sink) {
+        match consume_chunk(place, octets, sink) {
             Ok((place, used)) => {
                 self.place = place;
                 Ok(used)

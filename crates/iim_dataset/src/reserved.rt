@@ -19,9 +19,9 @@ pub struct ReservedOctets {
 
 impl Model for ReservedOctets {
     ghost use Rattle.std.specs.Prelude.{◌≤◌, take, vec_len, vec_capacity};
-    ghost use Rattle.iim_dataset.specs.States.Devices.{Reserved};
+    ghost use Rattle.iim_dataset.specs.States.Devices.{ReservedView};
 
-    ghost Value = { Reserved };
+    ghost Value = { ReservedView };
 
     ghost view = { λ b. record { items = take b.used b.places.items; room = vec_capacity b.places } };
 

@@ -56,7 +56,7 @@ fn are_plain_16(octets: &[u8]) -> bool
 
 /// Counts octets that are shown as themselves, sixteen at a time, up to the first sixteen of which
 /// one is not.
-fn plain_blocks(octets: &[u8]) -> usize
+fn plain_blocks_len(octets: &[u8]) -> usize
     ensures within { result ≤ length octets.now }
     ensures plain { list_all is_plain (take result octets.now) ≡ true }
 {
@@ -68,12 +68,12 @@ fn plain_blocks(octets: &[u8]) -> usize
 }
 
 /// Counts the octets before the first one that is not shown as itself.
-fn plain_run(octets: &[u8]) -> usize
+fn plain_prefix_len(octets: &[u8]) -> usize
     ensures within { result ≤ length octets.now }
     ensures plain { list_all is_plain (take result octets.now) ≡ true }
     ensures end { result < length octets.now → is_plain (slice_index octets.now result) ≡ false }
 {
-    let mut at = plain_blocks(octets);
+    let mut at = plain_blocks_len(octets);
     while at < octets.len() && is_plain(octets[at]) {
         at += 1;
     }
@@ -84,12 +84,12 @@ fn plain_run(octets: &[u8]) -> usize
 /// are, all others as `\x` and two digits.
 ///
 /// **Errors:** the allocation fails.
-pub fn push_shown(text: &mut Vec<u8>, octets: &[u8]) -> Result<(), AllocError>
+pub fn push_with_escapes(text: &mut Vec<u8>, octets: &[u8]) -> Result<(), AllocError>
     ensures { OnOk result (text.new.items ≡ text.old.items ++ shown octets.now) }
 {
     let mut rest = octets;
     'showing: loop {
-        let (plain, others) = rest.split_at(plain_run(rest));
+        let (plain, others) = rest.split_at(plain_prefix_len(rest));
         text.extend_from_slice(plain)?;
         let Some((octet, after)) = others.split_first() else {
             return Ok(());

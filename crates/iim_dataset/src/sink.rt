@@ -1,7 +1,7 @@
 //! The sink that datasets go to.
 
 ghost use Rattle.std.specs.Prelude.{◌≡◌, ◌-◌, ◌<◌, ◌≤◌, ◌++◌, [], ◌∷◌, List, ℕ, length, map, take, slice_index, Option, Some, None, MatchOption, IfSome, IfOk, IfErr, OnOk, OnErr};
-ghost use Rattle.iim_dataset.specs.States.Reading.{DatasetEvent, HeadRead, DataOctet, DatasetEnd, AfterStep};
+ghost use Rattle.iim_dataset.specs.States.Reading.{DatasetEvent, HeadRead, DataOctet, DatasetEnd, SinkIsAfterStep};
 
 use crate::head::Head;
 use crate::stop::Stop;
@@ -41,7 +41,7 @@ pub trait DatasetSink {
         ensures stopped { OnErr result (stops self.old [] (HeadRead head) self.new) };
 
     /// Returns whether the sink may accept the next dataset in one call: a hint.
-    fn wants_whole(&self) -> bool {
+    fn prefers_whole_datasets(&self) -> bool {
         false
     }
 
@@ -53,7 +53,7 @@ pub trait DatasetSink {
         requires count { head.count ≡ length octets.now }
         ensures taken { IfOk result (λ step. MatchOption step (self.new ≡ self.old) (λ _.
             goes self.old (HeadRead head ∷ (map DataOctet octets.now ++ DatasetEnd ∷ [])) self.new)) }
-        ensures stands { IfOk result (λ step. IfSome step (AfterStep stands ends self.new)) }
+        ensures stands { IfOk result (λ step. IfSome step (SinkIsAfterStep stands ends self.new)) }
         ensures refused { IfErr result (λ stop. stop.taken < length octets.now) }
         ensures stopped { IfErr result (λ stop.
             stops self.old (HeadRead head ∷ map DataOctet (take stop.taken octets.now))
@@ -80,7 +80,7 @@ pub trait DatasetSink {
     fn close(&mut self) -> Result<Step, Stop>
         requires { stands self.old (Some 0) }
         ensures ok { OnOk result (goes self.old (DatasetEnd ∷ []) self.new) }
-        ensures stands { IfOk result (AfterStep stands ends self.new) }
+        ensures stands { IfOk result (SinkIsAfterStep stands ends self.new) }
         ensures refused { IfErr result (λ stop. stop.taken ≡ 0) }
         ensures stopped { OnErr result (stops self.old [] DatasetEnd self.new) };
 

@@ -1,7 +1,7 @@
 //! The source that octets come from.
 
 ghost use Rattle.std.specs.Prelude.{◌≡◌, ◌<◌, IfOk, IfErr, OnOk};
-ghost use Rattle.iim_dataset.specs.States.Devices.{Device, Gave, Calm, Faulted, Took, Missed, WithinInterruptionLimit, LaterThan, unbroken, reader_device};
+ghost use Rattle.iim_dataset.specs.States.Devices.{Device, ReadGave, CountedNoFault, CountedFault, ReadTook, ReadFailed, WithinInterruptionLimit, IsAfterReads, unbroken, reader_device};
 
 use crate::device::{Faults, IoFault, MAX_INTERRUPTIONS};
 use std::io::Read;
@@ -22,9 +22,9 @@ pub trait Source {
     ///
     /// **Errors:** the source failed or was interrupted; no octet was read.
     fn read(&mut self, buffer: &mut [u8]) -> Result<usize, IoFault>
-        ensures ok { IfOk result (Gave (state self.old) (state self.new) buffer.new) }
-        ensures calm { OnOk result (Calm (state self.old) (state self.new)) }
-        ensures err { IfErr result (Faulted (state self.old) (state self.new)) }
+        ensures ok { IfOk result (ReadGave (state self.old) (state self.new) buffer.new) }
+        ensures no_failure { OnOk result (CountedNoFault (state self.old) (state self.new)) }
+        ensures err { IfErr result (CountedFault (state self.old) (state self.new)) }
         ensures leads { leads self.old self.new };
 
     /// A source reaches itself, without a read.
@@ -39,9 +39,9 @@ pub trait Source {
 ///
 /// **Errors:** the source failed, or was interrupted a million times in a row; no octet was read.
 pub fn take<R: Source>(reader: &mut R, buffer: &mut [u8]) -> Result<usize, IoFault>
-    ensures ok { IfOk result (Took (R.state reader.old) (R.state reader.new) buffer.new) }
-    ensures err { IfErr result (Missed (R.state reader.old) (R.state reader.new)) }
-    ensures patience { WithinInterruptionLimit 1 (R.state reader.old) (R.state reader.new) }
+    ensures ok { IfOk result (ReadTook (R.state reader.old) (R.state reader.new) buffer.new) }
+    ensures err { IfErr result (ReadFailed (R.state reader.old) (R.state reader.new)) }
+    ensures retry_limit { WithinInterruptionLimit 1 (R.state reader.old) (R.state reader.new) }
     ensures leads { R.leads reader.old reader.new }
 {
     for _ in 0..MAX_INTERRUPTIONS {
@@ -75,14 +75,15 @@ impl<R: Read> FromRead<R> {
 impl<R: Read> Source for FromRead<R> {
     ghost state = { reader_device R.remaining };
 
-    ghost leads = { λ old new. LaterThan (reader_device R.remaining old) (reader_device R.remaining new) };
+    ghost leads = { λ old new. IsAfterReads (reader_device R.remaining old) (reader_device R.remaining new) };
 
-    ghost use Rattle.iim_dataset.specs.Steps.{later_stays, later_leads_on};
+    ghost use Rattle.iim_dataset.specs.Steps.{is_after_reads-refl, is_after_reads-trans};
 
-    ghost stays = { λ a. later_stays (reader_device R.remaining a) };
+    ghost stays = { λ a. is_after_reads-refl (reader_device R.remaining a) };
 
     ghost leads_on = { λ a b c.
-        later_leads_on (reader_device R.remaining a) (reader_device R.remaining b) (reader_device R.remaining c) };
+        is_after_reads-trans (reader_device R.remaining a) (reader_device R.remaining b)
+        (reader_device R.remaining c) };
 
     fn read(&mut self, buffer: &mut [u8]) -> Result<usize, IoFault> {
         match self.reader.read(buffer) {

@@ -1,7 +1,7 @@
 //! The stop of a sink.
 
 ghost use Rattle.std.specs.Prelude.{Some};
-ghost use Rattle.iim_dataset.specs.Format.Faults.{stop_text};
+ghost use Rattle.iim_dataset.specs.Format.Faults.{text_of_stop};
 
 use std::error::Error;
 use std::fmt;
@@ -16,7 +16,7 @@ pub struct Stop {
 
 /// Writes the number of octets that the sink accepted, as `stopped after 5 octets`.
 impl Display for Stop {
-    ghost output = { λ stop. Some (stop_text stop) };
+    ghost output = { λ stop. Some (text_of_stop stop) };
 
     fn fmt<W: fmt::Write>(&self, f: &mut Formatter<W>) -> fmt::Result {
         let taken = self.taken;

@@ -2,10 +2,10 @@
 
 ghost use Rattle.std.specs.Prelude.{◌≡◌, ◌+◌, ◌<◌, ◌≤◌, length, take, IfOk, IfErr, OnOk, OnErr};
 ghost use Rattle.iim_dataset.specs.Format.Datasets.{canonical_dataset};
-ghost use Rattle.iim_dataset.specs.States.Devices.{Device, Accepted, Faulted, Wrote, Stopped, WithinInterruptionLimit, unbroken, writer_device};
+ghost use Rattle.iim_dataset.specs.States.Devices.{Device, WriteAccepted, CountedFault, WroteAllOf, WroteOnlyPrefixOf, WithinInterruptionLimit, unbroken, writer_device};
 
 use crate::device::{Faults, IoFault, MAX_INTERRUPTIONS};
-use crate::device_laws::texts_join;
+use crate::device_laws::writes_join;
 use crate::head::{Head, head_bytes};
 use std::io::Write;
 
@@ -19,18 +19,18 @@ pub trait Target {
     ///
     /// **Errors:** the target failed or was interrupted; no octet was written.
     fn write(&mut self, piece: &[u8]) -> Result<usize, IoFault>
-        ensures ok { IfOk result (Accepted (state self.old) (state self.new) piece.now) }
-        ensures err { IfErr result (Faulted (state self.old) (state self.new)) };
+        ensures ok { IfOk result (WriteAccepted (state self.old) (state self.new) piece.now) }
+        ensures err { IfErr result (CountedFault (state self.old) (state self.new)) };
 }
 
 /// Writes once, and retries after an interruption. The millionth interruption in a row is an error.
 fn send<W: Target>(writer: &mut W, piece: &[u8]) -> Result<usize, IoFault>
     requires { 0 < length piece.now }
     ensures within { IfOk result (λ n. n ≤ length piece.now) }
-    ensures ok { IfOk result (λ n. 0 < n → Wrote (W.state writer.old) (W.state writer.new) (take n piece.now)) }
-    ensures none { IfOk result (λ n. n ≡ 0 → Stopped (W.state writer.old) (W.state writer.new) piece.now 0) }
-    ensures err { OnErr result (Stopped (W.state writer.old) (W.state writer.new) piece.now 0) }
-    ensures patience { WithinInterruptionLimit 1 (W.state writer.old) (W.state writer.new) }
+    ensures ok { IfOk result (λ n. 0 < n → WroteAllOf (W.state writer.old) (W.state writer.new) (take n piece.now)) }
+    ensures none { IfOk result (λ n. n ≡ 0 → WroteOnlyPrefixOf (W.state writer.old) (W.state writer.new) piece.now 0) }
+    ensures err { OnErr result (WroteOnlyPrefixOf (W.state writer.old) (W.state writer.new) piece.now 0) }
+    ensures retry_limit { WithinInterruptionLimit 1 (W.state writer.old) (W.state writer.new) }
 {
     for _ in 0..MAX_INTERRUPTIONS {
         match writer.write(piece) {
@@ -46,9 +46,9 @@ fn send<W: Target>(writer: &mut W, piece: &[u8]) -> Result<usize, IoFault>
 /// **Errors:** the target failed, a write accepted nothing, or it was interrupted a million times
 /// in a row. The error is the number of octets that were written.
 pub fn put<W: Target>(writer: &mut W, piece: &[u8]) -> Result<(), usize>
-    ensures ok { OnOk result (Wrote (W.state writer.old) (W.state writer.new) piece.now) }
-    ensures err { IfErr result (Stopped (W.state writer.old) (W.state writer.new) piece.now) }
-    ensures patience { WithinInterruptionLimit (length piece.now) (W.state writer.old) (W.state writer.new) }
+    ensures ok { OnOk result (WroteAllOf (W.state writer.old) (W.state writer.new) piece.now) }
+    ensures err { IfErr result (WroteOnlyPrefixOf (W.state writer.old) (W.state writer.new) piece.now) }
+    ensures retry_limit { WithinInterruptionLimit (length piece.now) (W.state writer.old) (W.state writer.new) }
     // One million more than those before the octets that were written.
     ensures given_up { IfErr result (λ out.
         WithinInterruptionLimit (out + 1) (W.state writer.old) (W.state writer.new)) }
@@ -68,19 +68,19 @@ pub fn put<W: Target>(writer: &mut W, piece: &[u8]) -> Result<(), usize>
 ///
 /// **Errors:** as those of [`put`], with the number of octets that were written.
 pub fn put_dataset<W: Target>(writer: &mut W, rec: u8, set: u8, octets: &[u8]) -> Result<u64, u64>
-    ensures ok { OnOk result (Wrote (W.state writer.old) (W.state writer.new)
+    ensures ok { OnOk result (WroteAllOf (W.state writer.old) (W.state writer.new)
         (canonical_dataset record { rec = rec; set = set; octets = octets.now })) }
     ensures all { IfOk result (λ out. out
         ≡ length (canonical_dataset record { rec = rec; set = set; octets = octets.now })) }
-    ensures err { IfErr result (Stopped (W.state writer.old) (W.state writer.new)
+    ensures err { IfErr result (WroteOnlyPrefixOf (W.state writer.old) (W.state writer.new)
         (canonical_dataset record { rec = rec; set = set; octets = octets.now })) }
-    ensures patience { WithinInterruptionLimit
+    ensures retry_limit { WithinInterruptionLimit
         (length (canonical_dataset record { rec = rec; set = set; octets = octets.now })) (W.state writer.old)
         (W.state writer.new) }
     ensures given_up { IfErr result (λ out.
         WithinInterruptionLimit (out + 1) (W.state writer.old) (W.state writer.new)) }
 {
-    texts_join();
+    writes_join();
     let count = octets.len() as u64;
     let tag = head_bytes(Head { rec, set, count });
     let front = tag.as_slice();

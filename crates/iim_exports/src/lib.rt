@@ -6,16 +6,16 @@
 #![tactic(auto)]
 
 ghost use Rattle.std.specs.Prelude.{◌≡◌, ◌↔◌, ℕ, List, IsTrue, is_some, None};
-ghost use Rattle.iim_places.specs.Format.Tickets.{IsPlaceOf, Place};
-ghost use Rattle.iim_places.specs.States.Restored.{IsTicketAt};
-ghost use Rattle.iim_tables.specs.Format.Rows.{Meets, row_of};
+ghost use Rattle.iim_places.specs.Format.Tickets.{ReachesPlace, Place};
+ghost use Rattle.iim_places.specs.States.Restored.{EncodesPlace};
+ghost use Rattle.iim_tables.specs.Format.Rows.{OctetsMeetRow, row_of};
 ghost use Rattle.iim_c.specs.Format.Auditing.{IsAudited};
-ghost use Rattle.iim_c.specs.Format.Tickets.{IsBegunTold, TellsOctets, TellsToken, IsNext, AreSizes, IsField, IsHeader, ReturnsFields};
-ghost use Rattle.iim_c.specs.Format.Checking.{IsChecked, IsOnly, limits_for};
-ghost use Rattle.iim_c.specs.Format.Feeding.{IsEnd, IsFed};
-ghost use Rattle.iim_c.specs.Format.Tables.{IsNamed, dataset_named, layer_named, name_or_none, rule_for, cause_named, cause_text};
-ghost use Rattle.iim_c.specs.Format.Packing.{IsPacked, IsSized};
-ghost use Rattle.iim_handle.specs.Format.{IsEnd as EndsIn, IsFed as IsFedIn, IsOpened, IsReset, IsRestoredTo, IsSaved};
+ghost use Rattle.iim_c.specs.Format.Tickets.{ReturnsProgress, HasProgressOf, HasTokenOf, ReturnsNext, ReturnsSizes, ReturnsField, ReturnsHeader, ReturnsFields};
+ghost use Rattle.iim_c.specs.Format.Checking.{ReturnsChecked, IsOnlyAnswer, limits_for};
+ghost use Rattle.iim_c.specs.Format.Feeding.{ReturnsEnd, ReturnsFed};
+ghost use Rattle.iim_c.specs.Format.Tables.{WritesName, dataset_name_of, name_of_layer, name_or_none, rule_for, name_for_cause, cause_text};
+ghost use Rattle.iim_c.specs.Format.Packing.{ReturnsPacked, ReturnsPackedSize};
+ghost use Rattle.iim_handle.specs.Format.{HandleHasEnd, HandleIsFed, HandleIsOpened, HandleIsReset, HandleIsRestored, HandleIsSaved};
 
 use iim_c::{
     IimAnswer, IimAuditRow, IimBegun, IimDataset, IimInstant, IimLimits, IimMessage, IimObject,
@@ -27,8 +27,8 @@ use std::alloc::Global;
 /// Checks the envelope at the beginning of a buffer.
 #[unsafe(no_mangle)]
 pub extern "C" fn iim_check(alloc: Global, limits: IimLimits, octets: &[u8], answer: &mut IimAnswer)
-    ensures answer { IsChecked (limits_for limits) octets.now answer.new }
-    ensures only { IsOnly (limits_for limits) octets.now answer.new }
+    ensures answer { ReturnsChecked (limits_for limits) octets.now answer.new }
+    ensures only { IsOnlyAnswer (limits_for limits) octets.now answer.new }
 {
     iim_c::iim_check(alloc, limits, octets, answer);
 }
@@ -50,7 +50,7 @@ pub extern "C" fn iim_feed(
     ticket_out: &mut [u8],
     answer: &mut IimAnswer,
 )
-    ensures { IsFed (limits_for limits) ticket.now at piece.now text_out.new ticket_out.new answer.new }
+    ensures { ReturnsFed (limits_for limits) ticket.now at piece.now text_out.new ticket_out.new answer.new }
 {
     iim_c::iim_feed(
         alloc, limits, ticket, at, piece, text_out, ticket_out, answer,
@@ -67,7 +67,7 @@ pub extern "C" fn iim_end(
     at: u64,
     answer: &mut IimAnswer,
 )
-    ensures { IsEnd (limits_for limits) ticket.now at answer.new }
+    ensures { ReturnsEnd (limits_for limits) ticket.now at answer.new }
 {
     iim_c::iim_end(alloc, limits, ticket, at, answer);
 }
@@ -80,7 +80,7 @@ pub extern "C" fn iim_field(
     dataset: &mut IimDataset,
     answer: &mut IimAnswer,
 )
-    ensures { IsField ticket.now n dataset.new answer.new }
+    ensures { ReturnsField ticket.now n dataset.new answer.new }
 {
     iim_c::iim_field(ticket, n, dataset, answer);
 }
@@ -102,7 +102,7 @@ pub extern "C" fn iim_fields(
 /// Returns the header and the trailer of the message, as far as they were received.
 #[unsafe(no_mangle)]
 pub extern "C" fn iim_header(ticket: &[u8], message: &mut IimMessage, answer: &mut IimAnswer)
-    ensures { IsHeader ticket.now message.new answer.new }
+    ensures { ReturnsHeader ticket.now message.new answer.new }
 {
     iim_c::iim_header(ticket, message, answer);
 }
@@ -110,7 +110,7 @@ pub extern "C" fn iim_header(ticket: &[u8], message: &mut IimMessage, answer: &m
 /// Returns the sizes of the object, as far as they were received.
 #[unsafe(no_mangle)]
 pub extern "C" fn iim_sizes(ticket: &[u8], object: &mut IimObject, answer: &mut IimAnswer)
-    ensures { AreSizes ticket.now object.new answer.new }
+    ensures { ReturnsSizes ticket.now object.new answer.new }
 {
     iim_c::iim_sizes(ticket, object, answer);
 }
@@ -125,7 +125,7 @@ pub extern "C" fn iim_next(
     next: &mut IimOctetSet,
     answer: &mut IimAnswer,
 )
-    ensures { IsNext (limits_for limits) ticket.now next.new.bits answer.new }
+    ensures { ReturnsNext (limits_for limits) ticket.now next.new.bits answer.new }
 {
     iim_c::iim_next(alloc, limits, ticket, next, answer);
 }
@@ -134,11 +134,11 @@ pub extern "C" fn iim_next(
 /// input has reached. `at` is the number of octets of the envelope so far.
 #[unsafe(no_mangle)]
 pub extern "C" fn iim_place(ticket: &[u8], at: u64, begun: &mut IimBegun, answer: &mut IimAnswer)
-    ensures told { IsBegunTold ticket.now at begun.new answer.new }
-    ensures octets { (p : List ℕ) (place : Place) → IsTicketAt ticket.now place → IsPlaceOf p place
-        → TellsOctets p at begun.new }
-    ensures token { (p : List ℕ) (place : Place) → IsTicketAt ticket.now place → IsPlaceOf p place
-        → TellsToken p at begun.new }
+    ensures told { ReturnsProgress ticket.now at begun.new answer.new }
+    ensures octets { (p : List ℕ) (place : Place) → EncodesPlace ticket.now place → ReachesPlace p place
+        → HasProgressOf p at begun.new }
+    ensures token { (p : List ℕ) (place : Place) → EncodesPlace ticket.now place → ReachesPlace p place
+        → HasTokenOf p at begun.new }
 {
     iim_c::iim_place(ticket, at, begun, answer);
 }
@@ -179,7 +179,7 @@ pub extern "C" fn iim_pack(
     out: &mut [u8],
     answer: &mut IimAnswer,
 )
-    ensures { IsPacked packing script.now out.old out.new answer.new }
+    ensures { ReturnsPacked packing script.now out.old out.new answer.new }
 {
     iim_c::iim_pack(alloc, packing, script, out, answer);
 }
@@ -192,7 +192,7 @@ pub extern "C" fn iim_pack_size(
     script: &[u8],
     answer: &mut IimAnswer,
 )
-    ensures { IsSized packing script.now answer.new }
+    ensures { ReturnsPackedSize packing script.now answer.new }
 {
     iim_c::iim_pack_size(alloc, packing, script, answer);
 }
@@ -210,7 +210,7 @@ pub extern "C" fn iim_row(rec: u8, set: u8, rule: &mut IimRule) -> bool
 /// octets are as that requires.
 #[unsafe(no_mangle)]
 pub extern "C" fn iim_admits(rec: u8, set: u8, octets: &[u8]) -> bool
-    ensures { IsTrue result ↔ Meets rec set octets.now }
+    ensures { IsTrue result ↔ OctetsMeetRow rec set octets.now }
 {
     iim_c::iim_admits(rec, set, octets)
 }
@@ -219,7 +219,7 @@ pub extern "C" fn iim_admits(rec: u8, set: u8, octets: &[u8]) -> bool
 /// the name, or 0 if the cause is unknown.
 #[unsafe(no_mangle)]
 pub extern "C" fn iim_cause_name(cause: u8, out: &mut [u8]) -> usize
-    ensures { IsNamed (name_or_none (cause_named cause)) out.old out.new result }
+    ensures { WritesName (name_or_none (name_for_cause cause)) out.old out.new result }
 {
     iim_c::iim_cause_name(cause, out)
 }
@@ -228,7 +228,7 @@ pub extern "C" fn iim_cause_name(cause: u8, out: &mut [u8]) -> usize
 /// of the sentence, or 0 if the cause is unknown.
 #[unsafe(no_mangle)]
 pub extern "C" fn iim_cause_text(cause: u8, out: &mut [u8]) -> usize
-    ensures { IsNamed (name_or_none (cause_text cause)) out.old out.new result }
+    ensures { WritesName (name_or_none (cause_text cause)) out.old out.new result }
 {
     iim_c::iim_cause_text(cause, out)
 }
@@ -237,7 +237,7 @@ pub extern "C" fn iim_cause_text(cause: u8, out: &mut [u8]) -> usize
 /// the name, or 0 if the layer is unknown.
 #[unsafe(no_mangle)]
 pub extern "C" fn iim_layer_name(layer: u8, out: &mut [u8]) -> usize
-    ensures { IsNamed (name_or_none (layer_named layer)) out.old out.new result }
+    ensures { WritesName (name_or_none (name_of_layer layer)) out.old out.new result }
 {
     iim_c::iim_layer_name(layer, out)
 }
@@ -246,7 +246,7 @@ pub extern "C" fn iim_layer_name(layer: u8, out: &mut [u8]) -> usize
 /// number of octets of the name, or 0 if the dataset is unknown.
 #[unsafe(no_mangle)]
 pub extern "C" fn iim_dataset_name(rec: u8, set: u8, out: &mut [u8]) -> usize
-    ensures { IsNamed (name_or_none (dataset_named rec set)) out.old out.new result }
+    ensures { WritesName (name_or_none (dataset_name_of rec set)) out.old out.new result }
 {
     iim_c::iim_dataset_name(rec, set, out)
 }
@@ -266,7 +266,7 @@ pub extern "C" fn iim_unpacker_open(
     limits: IimLimits,
     handle: &mut IimUnpacker,
 ) -> u8
-    ensures { IsOpened (limits_for limits) handle.old.owner.home handle.new.owner.home result }
+    ensures { HandleIsOpened (limits_for limits) handle.old.owner.home handle.new.owner.home result }
 {
     iim_handle::iim_unpacker_open(alloc, limits, handle)
 }
@@ -274,7 +274,7 @@ pub extern "C" fn iim_unpacker_open(
 /// Begins a new envelope, whatever was fed before, with the same limits and memory.
 #[unsafe(no_mangle)]
 pub extern "C" fn iim_unpacker_reset(alloc: Global, handle: &mut IimUnpacker) -> u8
-    ensures { IsReset handle.old.owner.home handle.new.owner.home result }
+    ensures { HandleIsReset handle.old.owner.home handle.new.owner.home result }
 {
     iim_handle::iim_unpacker_reset(alloc, handle)
 }
@@ -289,7 +289,7 @@ pub extern "C" fn iim_unpacker_feed(
     text_out: &mut [u8],
     answer: &mut IimAnswer,
 )
-    ensures { IsFedIn handle.old.owner.home piece.now text_out.old text_out.new handle.new.owner.home answer.new }
+    ensures { HandleIsFed handle.old.owner.home piece.now text_out.old text_out.new handle.new.owner.home answer.new }
 {
     iim_handle::iim_unpacker_feed(alloc, handle, piece, text_out, answer);
 }
@@ -297,7 +297,7 @@ pub extern "C" fn iim_unpacker_feed(
 /// Returns what it means that the input ends here.
 #[unsafe(no_mangle)]
 pub extern "C" fn iim_unpacker_end(alloc: Global, handle: &mut IimUnpacker, answer: &mut IimAnswer)
-    ensures { EndsIn handle.old.owner.home handle.new.owner.home answer.new }
+    ensures { HandleHasEnd handle.old.owner.home handle.new.owner.home answer.new }
 {
     iim_handle::iim_unpacker_end(alloc, handle, answer);
 }
@@ -310,7 +310,7 @@ pub extern "C" fn iim_unpacker_save(
     ticket_out: &mut [u8],
     answer: &mut IimAnswer,
 )
-    ensures { IsSaved handle.old.owner.home handle.new.owner.home ticket_out.old ticket_out.new answer.new }
+    ensures { HandleIsSaved handle.old.owner.home handle.new.owner.home ticket_out.old ticket_out.new answer.new }
 {
     iim_handle::iim_unpacker_save(alloc, handle, ticket_out, answer);
 }
@@ -325,7 +325,8 @@ pub extern "C" fn iim_unpacker_restore(
     at: u64,
     answer: &mut IimAnswer,
 )
-    ensures { IsRestoredTo (limits_for limits) ticket.now at handle.old.owner.home handle.new.owner.home answer.new }
+    ensures { HandleIsRestored (limits_for limits) ticket.now at handle.old.owner.home handle.new.owner.home
+        answer.new }
 {
     iim_handle::iim_unpacker_restore(alloc, limits, handle, ticket, at, answer);
 }

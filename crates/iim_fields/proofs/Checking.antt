@@ -1,7 +1,7 @@
 -- The state of a check of records, token by token.
 use Rattle.std.proofs.Common.{set, ◌≡◌, ◌≢◌, ℕ, zero, suc, ◌<◌, ◌≤◌, Bool, true, false, ◌||◌, nat_eq, List, [], ◌∷◌, ◌++◌, length, replicate, get_or, refl, ap, sym, ◌∙◌, inl, inr, arith, subst, length-set, Option, Some, None}
 use Rattle.iim_tables.specs.declared.shape.Kind.{Kind}
-use Rattle.iim_fields.proofs.Words.{nat_tests, option_or, list_any-append, and_from, eqb_tells, same_Some, Octets, within, Dataset, head_of, of_record, Head, are_octets, row_of, is_admitted, Row, has_kind, records, occurs, SectionsLiveAt, head_fault, record_fault, value_fault, limits_fault, section_after, section_run, has_seen, IsOrderOf, AddsHead, data_of, number_told, AwaitsHead, TakesHead, AwaitsNone, IsIn, HasChecked, IsChecking, HasTaken, IsRecordFault, IsValueFault, IsRecordPlace, Order, Begun, RecordPlace, FieldFault, good_elsewhere, meets_as, DatasetsLeadToOnePlace}
+use Rattle.iim_fields.proofs.Words.{nat_tests, option_or, list_any-append, and_from, eqb_tells, same_Some, Octets, within, Dataset, head_of, of_record, Head, are_octets, row_of, is_admitted, Row, has_kind, records, occurs, AreViableSectionsWithHead, head_fault, record_fault, value_fault, limits_fault, section_after, current_datasets, has_seen, IsOrderOf, OrderAddsHead, data_of, encoded_number, IsBetweenHeads, AcceptsHead, ExpectsNoValue, IsInDataset, HasChecked, IsChecking, HasAcceptedHead, IsRecordFault, IsValueFault, IsRecordPlace, Order, Begun, RecordPlace, FieldFault, good_elsewhere, meets_as, DatasetsDetermineTheCheck}
 use Rattle.iim_fields.proofs.{NumberSets.seen_more, Table.EachRowHasValues, Table.not_after_itself, Table.object_kind, Runs.records_to_come, Sections.some_data}
 use Rattle.iim_fields.proofs.Follows.{Follows, alive_follows, fresh_next, present_more, run_more}
 use Rattle.iim_fields.proofs.Telling.{head_fault_told, values_tell}
@@ -37,7 +37,8 @@ tells_by new ds d before fits long rec seen told = record {
     or_last a b = grind arith
 
 pub tells_more : (o new : Order) (ds : List Dataset) (d : Dataset) → Follows ds → d.set < 256
-    → HasNoFault (section_after ds) (λ n. occurs n (section_run ds)) (head_of d) → AddsHead o (head_of d) new → IsOrderOf o ds → IsOrderOf new (ds ++ d ∷ [])
+    → HasNoFault (section_after ds) (λ n. occurs n (current_datasets ds)) (head_of d) → OrderAddsHead o (head_of d) new → IsOrderOf o ds → IsOrderOf new
+    (ds ++ d ∷ [])
 tells_more o new ds d follows fits f takes tells = elim (in_order_cases (section_after ds) d.rec f.order) [
   | inl same ↦ tells_by new ds d o.seen fits tells.places takes.rec (takes.same (same ∙ sym tells.present))
       (λ n. tells.seen n ∙ ap (λ (r : ℕ). occurs n (of_record r ds)) (sym same))
@@ -61,9 +62,9 @@ count_fits present has h row none known =
 -- ---- Octets.
 
 -- Subfiles have no fault.
-subfile_value : (ds : List Dataset) (d : Dataset) → SectionsLiveAt ds (head_of d) → d.rec ≡ 8 → Octets d.octets → value_fault d ≡ None
+subfile_value : (ds : List Dataset) (d : Dataset) → AreViableSectionsWithHead ds (head_of d) → d.rec ≡ 8 → Octets d.octets → value_fault d ≡ None
 subfile_value ds d at eight octets =
-    let f = no_fault_parts (section_after ds) (λ n. occurs n (section_run ds)) (head_of d) (head_no_fault ds (head_of d) at) in
+    let f = no_fault_parts (section_after ds) (λ n. occurs n (current_datasets ds)) (head_of d) (head_no_fault ds (head_of d) at) in
     let kind = object_kind d.set f.row (subst (λ (r : ℕ). row_of r d.set ≡ Some f.row) eight f.known) in
     let any : is_admitted f.row d.octets ≡ true =
     and_from (within f.row.min f.row.max (length d.octets)) (has_kind f.row.kind d.octets) f.fits (ap (λ (k : Kind). has_kind k d.octets) kind) in
@@ -103,13 +104,13 @@ same_order check o p a b e f = ap (λ (p : RecordPlace). p.order) (same_Some {A 
 }) (record { order = p; begun = b }) (sym e ∙ f))
 
 -- Between datasets none is in progress.
-pub none_begun : (place : RecordPlace) → AwaitsHead (Some place) → place.begun ≡ None
+pub none_begun : (place : RecordPlace) → IsBetweenHeads (Some place) → place.begun ≡ None
 none_begun place b = ap (λ (p : RecordPlace). p.begun) (same_Some place (record { order = b.order; begun = None }) b.between)
 
 -- A check that expects no value has no dataset in progress that needs one.
-pub not_both : (check : Option RecordPlace) (o p : Order) (a : Option Begun) (begun : Begun) → check ≡ Some (record { order = o; begun = a }) → AwaitsNone a
+pub not_both : (check : Option RecordPlace) (o p : Order) (a : Option Begun) (begun : Begun) → check ≡ Some (record { order = o; begun = a }) → ExpectsNoValue a
     → check ≡ Some (record { order = p; begun = Some begun }) → begun.head.rec ≢ 8 → ⊥
-not_both check o p a begun e none f other = other (subst AwaitsNone (one_begun check o p a (Some begun) e f) none)
+not_both check o p a begun e none f other = other (subst ExpectsNoValue (one_begun check o p a (Some begun) e f) none)
 
 -- ---- A head.
 
@@ -119,20 +120,20 @@ clear_after : (old : RecordPlace) (h : Head) → head_fault old.order.rec (has_s
 clear_after old h none ds s = sym (record_fault_is old.order ds h (told_at old ds s)) ∙ none
 
 -- The new order is that of the datasets, and of one more with the head that was added.
-tells_headed : (old new : RecordPlace) (h : Head) → h.set < 256 → AddsHead old.order h new.order → (ds : List Dataset) → HasChecked (Some old) ds
+tells_headed : (old new : RecordPlace) (h : Head) → h.set < 256 → OrderAddsHead old.order h new.order → (ds : List Dataset) → HasChecked (Some old) ds
     → record_fault ds h ≡ None → (d : Dataset) → head_of d ≡ h → IsOrderOf new.order (ds ++ d ∷ [])
 tells_headed old new h small adds ds s clear d is =
-    subst (λ (k : Head). k.set < 256 → AddsHead old.order k new.order → record_fault ds k ≡ None → IsOrderOf new.order (ds ++ d ∷ [])) is
+    subst (λ (k : Head). k.set < 256 → OrderAddsHead old.order k new.order → record_fault ds k ≡ None → IsOrderOf new.order (ds ++ d ∷ [])) is
     (λ fits takes none. tells_more old.order new.order ds d (alive_follows ds s.alive) fits
-    (no_fault_parts (section_after ds) (λ n. occurs n (section_run ds)) (head_of d) none) takes (told_at old ds s)) small adds clear
+    (no_fault_parts (section_after ds) (λ n. occurs n (current_datasets ds)) (head_of d) none) takes (told_at old ds s)) small adds clear
 
 -- A complete dataset was accepted, and no value is expected.
-pub checked_more : EachRowHasValues → (old new : RecordPlace) (h : Head) (begun : Option Begun) → new.begun ≡ begun → AwaitsNone begun → h.set < 256
-    → AddsHead old.order h new.order → head_fault old.order.rec (has_seen old.order) h ≡ None → (ds : List Dataset) → HasChecked (Some old) ds
+pub checked_more : EachRowHasValues → (old new : RecordPlace) (h : Head) (begun : Option Begun) → new.begun ≡ begun → ExpectsNoValue begun → h.set < 256
+    → OrderAddsHead old.order h new.order → head_fault old.order.rec (has_seen old.order) h ≡ None → (ds : List Dataset) → HasChecked (Some old) ds
     → (d : Dataset) → head_of d ≡ h → Octets d.octets → (h.rec ≢ 8 → value_fault d ≡ None) → HasChecked (Some new) (ds ++ d ∷ [])
 checked_more values old new h begun begun_is no_value small adds none ds s d is octets fine =
     let clear = clear_after old h none ds s in
-    let at : SectionsLiveAt ds (head_of d) = subst (SectionsLiveAt ds) (sym is) (head_alive values ds h s.alive small clear) in
+    let at : AreViableSectionsWithHead ds (head_of d) = subst (AreViableSectionsWithHead ds) (sym is) (head_alive values ds h s.alive small clear) in
     let fine_too : value_fault d ≡ None = elim (eqb_tells h.rec 8) [
       | inl eight ↦ subfile_value ds d at (ap (λ (k : Head). k.rec) is ∙ eight.1) octets
       | inr other ↦ fine other.1
@@ -147,9 +148,9 @@ checked_more values old new h begun begun_is no_value small adds none ds s d is 
     }
 
 -- The head was accepted.
-pub taken_by : EachRowHasValues → (old new : RecordPlace) (h : Head) (row : Row) → h.set < 256 → AddsHead old.order h new.order
+pub taken_by : EachRowHasValues → (old new : RecordPlace) (h : Head) (row : Row) → h.set < 256 → OrderAddsHead old.order h new.order
     → new.begun ≡ Some (record { head = h; row = row }) → row_of h.rec h.set ≡ Some row → head_fault old.order.rec (has_seen old.order) h ≡ None
-    → (ds : List Dataset) → HasChecked (Some old) ds → HasTaken (Some new) ds h
+    → (ds : List Dataset) → HasChecked (Some old) ds → HasAcceptedHead (Some new) ds h
 taken_by values old new h row small adds begun known none ds s =
     let clear = clear_after old h none ds s in
     record {
@@ -178,8 +179,8 @@ record_fault_by old h fault some ds s =
     }
 
 -- If some datasets reach the state, some datasets with the head reach the next state.
-pub place_headed : (old new : RecordPlace) (h : Head) → TakesHead (Some old) → IsRecordPlace old
-    → ((ds : List Dataset) → HasChecked (Some old) ds → HasTaken (Some new) ds h) → IsRecordPlace new
+pub place_headed : (old new : RecordPlace) (h : Head) → AcceptsHead (Some old) → IsRecordPlace old
+    → ((ds : List Dataset) → HasChecked (Some old) ds → HasAcceptedHead (Some new) ds h) → IsRecordPlace new
 place_headed old new h takes (inl (ds, s)) on = elim (eqb_tells h.rec 8) [
   | inl eight ↦ let (d, is, octets) = some_data h in inl (ds ++ d ∷ [], (on ds s).subfile eight.1 d is octets)
   | inr other ↦ inr (ds, h, (on ds s).checking other.1)
@@ -191,7 +192,7 @@ place_headed old new h takes (inr (ds, g, s)) on = absurd (not_both (Some old) t
 
 -- If some datasets reach the state, some datasets with a complete one more reach the next state, or
 -- the state is the same.
-pub place_led : (old new : RecordPlace) (taken : Bool) (d : Dataset) → AwaitsHead (Some old) → IsRecordPlace old
+pub place_led : (old new : RecordPlace) (taken : Bool) (d : Dataset) → IsBetweenHeads (Some old) → IsRecordPlace old
     → (taken ≡ true → (ds : List Dataset) → HasChecked (Some old) ds → HasChecked (Some new) (ds ++ d ∷ [])) → (taken ≡ false → new ≡ old)
     → IsRecordPlace new
 place_led old new true d between (inl (ds, s)) took left = inl (ds ++ d ∷ [], took refl ds s)
@@ -201,7 +202,7 @@ place_led old new false d between is took left = subst IsRecordPlace (sym (left 
 
 -- The state with another dataset in progress, after the same datasets.
 pub checked_as : {old new : Option RecordPlace} (order : Order) (before after : Option Begun) → old ≡ Some (record { order = order; begun = before })
-    → new ≡ Some (record { order = order; begun = after }) → AwaitsNone after → (ds : List Dataset) → HasChecked old ds → HasChecked new ds
+    → new ≡ Some (record { order = order; begun = after }) → ExpectsNoValue after → (ds : List Dataset) → HasChecked old ds → HasChecked new ds
 checked_as {old} order before after old_is new_is none ds s = record {
   order = order;
   begun = after;
@@ -222,8 +223,9 @@ one_awaited place begun is o h row e =
 
 pub checked_value : EachRowHasValues → (old new : RecordPlace) (begun : Begun) (xs : List ℕ) (number : Option ℕ) → old.begun ≡ Some begun
     → new.order ≡ old.order → new.begun ≡ None
-    → begun.head.count ≡ length xs → ((i : ℕ) → get_or xs i 0 < 256) → value_fault (data_of begun.head xs) ≡ None → number ≡ number_told (data_of begun.head xs)
-    → (ds : List Dataset) (h : Head) → IsChecking (Some old) ds h → HasChecked (Some new) (ds ++ data_of h xs ∷ []) × (number ≡ number_told (data_of h xs))
+    → begun.head.count ≡ length xs → ((i : ℕ) → get_or xs i 0 < 256) → value_fault (data_of begun.head xs) ≡ None → number ≡ encoded_number
+    (data_of begun.head xs)
+    → (ds : List Dataset) (h : Head) → IsChecking (Some old) ds h → HasChecked (Some new) (ds ++ data_of h xs ∷ []) × (number ≡ encoded_number (data_of h xs))
 checked_value values old new begun xs number is order none count small fine told ds h s =
     let one = one_awaited old begun is s.order h s.row s.inside in
     let head : begun.head ≡ h = ap (λ (b : Begun). b.head) one.1 in
@@ -234,11 +236,11 @@ checked_value values old new begun xs number is order none count small fine told
         begun = None;
         at = λ i. Some (record { order = (order ∙ one.0) i; begun = none i });
         none = tt;
-        alive = value_alive values ds (data_of h xs) (subst (SectionsLiveAt ds) (sym at) s.alive) (are_octets xs small)
+        alive = value_alive values ds (data_of h xs) (subst (AreViableSectionsWithHead ds) (sym at) s.alive) (are_octets xs small)
             (subst (λ (k : Head). value_fault (data_of k xs) ≡ None) head fine);
         tells = s.tells (data_of h xs) at;
       },
-      told ∙ ap (λ (k : Head). number_told (data_of k xs)) head,
+      told ∙ ap (λ (k : Head). encoded_number (data_of k xs)) head,
     )
 
 pub value_fault_by : (old : RecordPlace) (begun : Begun) (xs : List ℕ) (fault : FieldFault) → old.begun ≡ Some begun
@@ -255,7 +257,7 @@ value_fault_by old begun xs fault is some ds h s =
     }
 
 -- The head whose value is expected is that of the dataset in progress.
-pub awaited_count : (place : RecordPlace) (begun : Begun) → place.begun ≡ Some begun → (h : Head) → IsIn (Some place) h → begun.head.count ≡ h.count
+pub awaited_count : (place : RecordPlace) (begun : Begun) → place.begun ≡ Some begun → (h : Head) → IsInDataset (Some place) h → begun.head.count ≡ h.count
 awaited_count place begun is h s = ap (λ (b : Begun). b.head.count) (one_awaited place begun is s.order h s.row s.inside).1
 
 -- ---- Datasets determine the state.
@@ -267,7 +269,7 @@ one_order o p ds s t =
     let rec_is : o.rec ≡ p.rec = s.present ∙ sym t.present in
     λ i. record { rec = rec_is i; seen = seen i }
 
-between_one : (a b : Option RecordPlace) (ds : List Dataset) → AwaitsHead a → AwaitsHead b → HasChecked a ds → HasChecked b ds → a ≡ b
+between_one : (a b : Option RecordPlace) (ds : List Dataset) → IsBetweenHeads a → IsBetweenHeads b → HasChecked a ds → HasChecked b ds → a ≡ b
 between_one a b ds i j s t =
     let same : i.order ≡ j.order = same_order a i.order s.order None s.begun i.between s.at
     ∙ (one_order s.order t.order ds s.tells t.tells ∙ sym (same_order b j.order t.order None t.begun j.between t.at)) in
@@ -282,5 +284,5 @@ checking_one a b ds h s t =
     let row : s.row ≡ t.row = cc both in
     s.inside ∙ ((λ k. Some (record { order = same k; begun = Some (record { head = h; row = row k }) })) ∙ sym t.inside)
 
-pub one_place : DatasetsLeadToOnePlace
+pub one_place : DatasetsDetermineTheCheck
 one_place = (between_one, checking_one)

@@ -1,7 +1,7 @@
 -- A builder accepts the datasets of an envelope that is within its limits.
 use Rattle.std.proofs.Common.{◌≡◌, ℕ, ◌+◌, Bool, true, cond, List, [], ◌∷◌, ◌++◌, append_assoc, length, length-append, refl, ap, sym, ◌∙◌, subst, arith, Some, None, Result, Ok, Err, IfErr, IsOk}
 use Rattle.std.proofs.lemmas.List.Concat.{flat_map-append}
-use Rattle.iim_fields.proofs.Words.{AllByRecursion, option_or, nat_tests, Octets, Dataset, head_of, IsGoodDataset, SectionsLive, IsEnvelope, add_fault, passed_by, joined, kept, kept_octets, is_kept, limits_fault, fault_on, HeadsDieWithTheirFault, ValuesDieWithTheirFault, DatasetsOfEnvelopesAreAdded, AreRecords, AreSections, IsWithin, FieldFault, RecordOrder, Limits, all_append, all_front, all_back}
+use Rattle.iim_fields.proofs.Words.{AllByRecursion, option_or, nat_tests, Octets, Dataset, head_of, IsGoodDataset, AreViableSections, IsEnvelope, added_field_fault, limit_exceeded_by, joined, kept, kept_octets, is_kept, limits_fault, fault_on, HeadsAreRejectedForFaults, ValuesAreRejectedForFaults, BuildersAcceptEnvelopes, AreRecords, AreSections, IsWithin, FieldFault, RecordOrder, Limits, all_append, all_front, all_back}
 use Rattle.iim_fields.proofs.{Runs.records_to_come, Table.EachRowHasValues, Table.passes}
 
 -- The datasets of an object can follow those of an envelope.
@@ -48,14 +48,14 @@ has_room limits before ds d all within =
     let more = joined_more before d ds in
     let longer = length-append before (d ∷ ds) in grind (arith, nat_tests)
 
-pub added : EachRowHasValues → HeadsDieWithTheirFault → ValuesDieWithTheirFault → DatasetsOfEnvelopesAreAdded
+pub added : EachRowHasValues → HeadsAreRejectedForFaults → ValuesAreRejectedForFaults → BuildersAcceptEnvelopes
 added rows heads values limits before ds d e within =
     let (object, follows) = records_to_come rows (7 ∷ 8 ∷ 9 ∷ []) in
     let sections = sections_of (before ++ d ∷ ds) object e follows in
     let each = all_takeable (before ++ d ∷ ds) e in
     let this : IsTakeable d = (all_back IsTakeable before (d ∷ ds) each).0 in
     let whole : AreSections (before ++ d ∷ (ds ++ object)) = rw append_assoc at sections in
-    let alive : SectionsLive (before ++ d ∷ []) = (ds ++ object, rw append_assoc whole) in
+    let alive : AreViableSections (before ++ d ∷ []) = (ds ++ object, rw append_assoc whole) in
     let head = ((heads before (head_of d) (d ∷ ds ++ object, whole)).1 (d, refl, alive)).0 in
     let room = has_room limits before ds d (all_kept before (all_front IsTakeable before (d ∷ ds) each)) within in
     let value = (values before d (d, refl, alive) this.octets).1 alive in
@@ -63,13 +63,13 @@ added rows heads values limits before ds d e within =
 
 -- ---- Within the limits.
 
-within_of : (limits : Limits) (ds : List Dataset) → passed_by limits ds ≡ None → IsWithin limits (length (joined ds)) (length ds)
+within_of : (limits : Limits) (ds : List Dataset) → limit_exceeded_by limits ds ≡ None → IsWithin limits (length (joined ds)) (length ds)
 within_of limits ds none = record { octets_in = grind (arith, nat_tests); fields_in = grind (arith, nat_tests) }
 
 -- The next dataset of an envelope is accepted.
-pub takes : {T : Type 0} → DatasetsOfEnvelopesAreAdded → (limits under : Limits) (all done rest : List Dataset) (d : Dataset) (result : Result T FieldFault)
-    → IsEnvelope all → passed_by limits all ≡ None
-    → under ≡ limits → done ++ d ∷ rest ≡ all → IfErr result (λ fault. add_fault under done d ≡ Some fault) → IsOk result
+pub takes : {T : Type 0} → BuildersAcceptEnvelopes → (limits under : Limits) (all done rest : List Dataset) (d : Dataset) (result : Result T FieldFault)
+    → IsEnvelope all → limit_exceeded_by limits all ≡ None
+    → under ≡ limits → done ++ d ∷ rest ≡ all → IfErr result (λ fault. added_field_fault under done d ≡ Some fault) → IsOk result
 takes law limits under all done rest d (Ok done_it) e none same parts refused = refl
 takes law limits under all done rest d (Err fault) e none same parts refused =
     let fine = law limits done rest d (rw parts e) (rw parts (within_of limits all none)) in let clash = rw same at refused in absurd cc

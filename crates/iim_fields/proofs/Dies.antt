@@ -1,6 +1,6 @@
 -- Datasets are no longer a viable prefix exactly if there is a fault.
 use Rattle.std.proofs.Common.{◌≡◌, ℕ, ◌+◌, ◌⊎◌, Bool, true, false, not, ◌&&◌, cond, nat_eq, List, [], ◌∷◌, ◌++◌, length, refl, ap, sym, ◌∙◌, inl, inr, arith, subst, append_assoc, Option, Some, None}
-use Rattle.iim_fields.proofs.Words.{of_record, IsSomeAnd, IsTrue, AllByRecursion, find, and_parts, or_cases, eqb-true, eq-eqb, IsOctet, Octets, within, Dataset, head_of, Head, all_there, has_kind, row_of, is_admitted, Row, after, mandatory, repeats, occurs, occurrences, has_file_format, IsGoodDataset, IsGoodRecord, SectionsLive, SectionsLiveAt, section_after, section_run, is_first, is_in_order, fault_on, missing_of, head_fault, record_fault, fault_by_row, value_fault, BadValue, FileFormat, repeats_as, meets_as, occurrences_append, some_counts, all_back, false_from_ne_true, cases_Bool, ne_eqb, nat_tests, occurrences_cons}
+use Rattle.iim_fields.proofs.Words.{of_record, IsSomeAnd, IsTrue, AllByRecursion, find, and_parts, or_cases, eqb-true, eq-eqb, IsOctet, Octets, within, Dataset, head_of, Head, all_there, has_kind, row_of, is_admitted, Row, after, mandatory, repeats, occurs, occurrences, has_file_format, IsGoodDataset, IsGoodRecord, AreViableSections, AreViableSectionsWithHead, section_after, current_datasets, is_first, is_in_order, fault_on, missing_of, head_fault, record_fault, fault_by_row, value_fault, BadValue, FileFormat, repeats_as, meets_as, occurrences_append, some_counts, all_back, false_from_ne_true, cases_Bool, ne_eqb, nat_tests, occurrences_cons}
 use Rattle.iim_fields.proofs.Table.{passed, passes, EachRowHasValues, next_of, not_after_itself, not_record0, value_for}
 use Rattle.iim_fields.proofs.Sections.{front_alive}
 use Rattle.iim_fields.proofs.Runs.{IsPart, part_front, part_of, part_more, no_part, part_completes, records_to_come, MayCome}
@@ -81,12 +81,12 @@ from_no_fault : (ds : List Dataset) (d : Dataset) (more : List Dataset) → MayS
 from_no_fault ds d more may from =
     let present : ℕ = section_after ds in
     let m = meets_row (row_of d.rec d.set) d.octets (good_next ds d more from).meets in
-    no_fault_built present (λ n. occurs n (section_run ds)) (head_of d) (elim may [
+    no_fault_built present (λ n. occurs n (current_datasets ds)) (head_of d) (elim may [
       | inl same ↦
           let (run, rest, parts, good, later) = subst (λ (r : ℕ). FromRun r (of_record r ds ++ d ∷ []) more) same (from_less ds d more from) in
           let some = not_record0 d.rec d.set m.0 m.1 in
           let again : repeats present d.set ≡ m.0.repeats = ap (λ (q : ℕ). repeats q d.set) (sym same) ∙ repeats_as d.rec d.set (Some m.0) m.1 in
-          let before = not_before present (section_run ds) d run (rw append_assoc at good) in
+          let before = not_before present (current_datasets ds) d run (rw append_assoc at good) in
           record {
             order = grind (arith, nat_tests);
             row = m.0;
@@ -104,15 +104,15 @@ from_no_fault ds d more may from =
             known = m.1;
             once = grind arith;
             fits = m.2;
-            whole = λ _. all_there (λ k. occurs k (section_run ds)) (mandatory present) done.mandatory;
+            whole = λ _. all_there (λ k. occurs k (current_datasets ds)) (mandatory present) done.mandatory;
           }
     ])
 
 -- ---- A viable prefix, if there is no fault.
 
-part_so_far : (ds : List Dataset) (more : List Dataset) → From ds more → IsPart (section_after ds) (section_run ds)
-part_so_far ds more (run, rest, parts, good, later) = part_front (section_after ds) (section_run ds) run
-    (part_of (section_after ds) (section_run ds ++ run) good)
+part_so_far : (ds : List Dataset) (more : List Dataset) → From ds more → IsPart (section_after ds) (current_datasets ds)
+part_so_far ds more (run, rest, parts, good, later) = part_front (section_after ds) (current_datasets ds) run
+    (part_of (section_after ds) (current_datasets ds ++ run) good)
 
 may_come : (r : ℕ) (xs : List Dataset) (d : Dataset) (row : Row) → row_of r d.set ≡ Some row → (occurs d.set xs && not row.repeats) ≡ false → MayCome r xs d
 may_come r xs d row known once = elim (cases_Bool row.repeats) [
@@ -121,24 +121,24 @@ may_come r xs d row known once = elim (cases_Bool row.repeats) [
 ]
 
 -- A dataset whose head has no fault may come next, and continues a part of its record.
-place : (ds : List Dataset) (d : Dataset) → Follows ds → IsPart (section_after ds) (section_run ds)
-    → HasNoFault (section_after ds) (λ n. occurs n (section_run ds)) (head_of d)
+place : (ds : List Dataset) (d : Dataset) → Follows ds → IsPart (section_after ds) (current_datasets ds)
+    → HasNoFault (section_after ds) (λ n. occurs n (current_datasets ds)) (head_of d)
     → MayStand ds d × IsPart d.rec (of_record d.rec ds) × MayCome d.rec (of_record d.rec ds) d
 place ds d follows part f = elim (in_order_cases (section_after ds) d.rec f.order) [
   | inl same ↦ (inl same, rw same part, may_come d.rec (of_record d.rec ds) d f.row f.known (rw (← same, eq-eqb d.rec d.rec refl) at f.once))
   | inr next ↦
-      let whole = none_missing (λ k. occurs k (section_run ds)) (mandatory (section_after ds)) (f.whole (is_first_of (section_after ds) d.rec next)) in
+      let whole = none_missing (λ k. occurs k (current_datasets ds)) (mandatory (section_after ds)) (f.whole (is_first_of (section_after ds) d.rec next)) in
       let fresh = fresh_next ds d follows next in
       (inr (next, record { each = part.each; mandatory = whole; once = part.once }), rw fresh (no_part d.rec), rw fresh (inr refl))
 ]
 
 -- With a head without a fault, and good data of it, datasets are a viable prefix.
-pub alive_next : EachRowHasValues → (ds : List Dataset) (d : Dataset) → SectionsLive ds → record_fault ds (head_of d) ≡ None → IsGoodDataset d
-    → SectionsLive (ds ++ d ∷ [])
+pub alive_next : EachRowHasValues → (ds : List Dataset) (d : Dataset) → AreViableSections ds → record_fault ds (head_of d) ≡ None → IsGoodDataset d
+    → AreViableSections (ds ++ d ∷ [])
 alive_next values ds d alive none good =
     let follows = alive_follows ds alive in
     let part = part_so_far ds alive.0 (follows.goes alive.0 alive.1) in
-    let f = no_fault_parts (section_after ds) (λ n. occurs n (section_run ds)) (head_of d) none in
+    let f = no_fault_parts (section_after ds) (λ n. occurs n (current_datasets ds)) (head_of d) none in
     let (may, own, come) = place ds d follows part f in
     let done = part_completes values d.rec (of_record d.rec ds ++ d ∷ []) (part_more d.rec (of_record d.rec ds) d own refl good come) in
     let later = records_to_come values (after d.rec) in
@@ -147,23 +147,24 @@ alive_next values ds d alive none good =
 
 -- ---- The lemmas.
 
-pub from_alive : (ds : List Dataset) (d : Dataset) → (alive : SectionsLive (ds ++ d ∷ [])) → MayStand ds d × From (ds ++ d ∷ []) alive.0
+pub from_alive : (ds : List Dataset) (d : Dataset) → (alive : AreViableSections (ds ++ d ∷ [])) → MayStand ds d × From (ds ++ d ∷ []) alive.0
 from_alive ds d alive =
     let follows = alive_follows ds (front_alive ds (d ∷ []) alive) in
     from_cons ds d alive.0 follows (follows.goes (d ∷ alive.0) (rw append_assoc at alive.1))
 
-pub head_alive : EachRowHasValues → (ds : List Dataset) (h : Head) → SectionsLive ds → IsOctet h.set → record_fault ds h ≡ None → SectionsLiveAt ds h
+pub head_alive : EachRowHasValues → (ds : List Dataset) (h : Head) → AreViableSections ds → IsOctet h.set → record_fault ds h ≡ None
+    → AreViableSectionsWithHead ds h
 head_alive values ds h alive small none =
-    let f = no_fault_parts (section_after ds) (λ n. occurs n (section_run ds)) h none in
+    let f = no_fault_parts (section_after ds) (λ n. occurs n (current_datasets ds)) h none in
     let d = value_for values h f.row small f.known f.fits in
     (d.0, d.1, alive_next values ds d.0 alive (subst (λ (k : Head). record_fault ds k ≡ None) (sym d.1) none) d.2)
 
-pub head_no_fault : (ds : List Dataset) (h : Head) → SectionsLiveAt ds h → record_fault ds h ≡ None
+pub head_no_fault : (ds : List Dataset) (h : Head) → AreViableSectionsWithHead ds h → record_fault ds h ≡ None
 head_no_fault ds h (d, is, alive) =
     let from = from_alive ds d alive in subst (λ (k : Head). record_fault ds k ≡ None) is (from_no_fault ds d alive.0 from.0 from.1)
 
 -- The number of a head that can continue is an octet.
-pub head_octet : (ds : List Dataset) (h : Head) → SectionsLiveAt ds h → IsOctet h.set
+pub head_octet : (ds : List Dataset) (h : Head) → AreViableSectionsWithHead ds h → IsOctet h.set
 head_octet ds h (d, is, alive) = subst (λ (k : Head). IsOctet k.set) is (good_next ds d alive.0 (from_alive ds d alive).1).numbered
 
 value_parts : (o : Option Row) (d : Dataset) → IsOctet d.set → row_of d.rec d.set ≡ o → Octets d.octets → fault_by_row o d ≡ None → IsGoodDataset d
@@ -177,10 +178,10 @@ pub good_value : (d : Dataset) → IsGoodDataset d → value_fault d ≡ None
 good_value d good =
     let m = meets_row (row_of d.rec d.set) d.octets good.meets in rw (m.1, m.3) (passes (has_file_format d) _ _ good.file_format refl)
 
-pub value_alive : EachRowHasValues → (ds : List Dataset) (d : Dataset) → SectionsLiveAt ds (head_of d) → Octets d.octets → value_fault d ≡ None
-    → SectionsLive (ds ++ d ∷ [])
+pub value_alive : EachRowHasValues → (ds : List Dataset) (d : Dataset) → AreViableSectionsWithHead ds (head_of d) → Octets d.octets → value_fault d ≡ None
+    → AreViableSections (ds ++ d ∷ [])
 value_alive values ds d at octets none = alive_next values ds d (front_alive ds (at.0 ∷ []) at.2) (head_no_fault ds (head_of d) at)
     (value_parts (row_of d.rec d.set) d (head_octet ds (head_of d) at) refl octets none)
 
-pub value_no_fault : (ds : List Dataset) (d : Dataset) → SectionsLive (ds ++ d ∷ []) → value_fault d ≡ None
+pub value_no_fault : (ds : List Dataset) (d : Dataset) → AreViableSections (ds ++ d ∷ []) → value_fault d ≡ None
 value_no_fault ds d alive = good_value d (good_next ds d alive.0 (from_alive ds d alive).1)

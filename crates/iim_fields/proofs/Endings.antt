@@ -1,6 +1,6 @@
 -- Where the datasets of an envelope end.
 use Rattle.std.proofs.Common.{◌≡◌, ℕ, ◌+◌, ◌<◌, ◌≤◌, false, cond, nat_eq, List, [], ◌∷◌, ◌++◌, length, refl, ap, sym, ◌∙◌, inl, inr, arith, subst, append-nil, length-append}
-use Rattle.iim_fields.proofs.Words.{cond_both, eq-eqb, None, AllByRecursion, eqb_tells, Dataset, of_record, table, row_of, SectionsLive, AreRecords, AreSections, repeats, occurrences, IsGoodDataset, IsGoodRecord, none_meets, occurrences_append, last_record, section_after, EnvelopesEndWithTheLastRecord, NoSectionsBeginOthers}
+use Rattle.iim_fields.proofs.Words.{cond_both, eq-eqb, None, AllByRecursion, eqb_tells, Dataset, of_record, table, row_of, AreViableSections, AreRecords, AreSections, repeats, occurrences, IsGoodDataset, IsGoodRecord, none_meets, occurrences_append, last_record, section_after, EnvelopesEndWithTheLastRecord, NoSectionsAreAPrefixOfOthers}
 use Rattle.iim_fields.proofs.{Table.mandatory_is, Runs.not_empty, Follows.Follows, Follows.alive_follows, Follows.present_more, Sections.last_of_joined}
 
 -- ---- The last record has one dataset.
@@ -76,11 +76,11 @@ nothing_more ds more follows last sections =
     let one : IsGoodRecord 9 (of_record 9 ds ++ run) = rw last at good in
     parts ∙ (λ i. nothing_after_one (of_record 9 ds) run (some_last ds last) one i ++ none i)
 
-pub no_sections_begin_others : NoSectionsBeginOthers
-no_sections_begin_others ds more whole sections = nothing_more ds more (alive_follows ds (more, sections)) (sections_end ds whole) sections
+pub no_sections_are_a_prefix_of_others : NoSectionsAreAPrefixOfOthers
+no_sections_are_a_prefix_of_others ds more whole sections = nothing_more ds more (alive_follows ds (more, sections)) (sections_end ds whole) sections
 
 -- A viable prefix whose last dataset is of record 9 is all of an envelope.
-pub whole_after_nine : (ds : List Dataset) → SectionsLive ds → section_after ds ≡ 9 → AreSections ds
+pub whole_after_nine : (ds : List Dataset) → AreViableSections ds → section_after ds ≡ 9 → AreSections ds
 whole_after_nine ds alive nine =
     let none : alive.0 ≡ [] = nothing_more ds alive.0 (alive_follows ds alive) nine alive.1 in
     subst AreSections (append-nil ds) (subst (λ (more : List Dataset). AreSections (ds ++ more)) none alive.1)

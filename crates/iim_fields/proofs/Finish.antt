@@ -1,7 +1,7 @@
 -- When the datasets of a builder are complete records 1 and 2, and when a reader of records returns
 -- an envelope.
 use Rattle.std.proofs.Common.{arith, ◌≡◌, ℕ, Bool, true, false, nat_eq, List, [], ◌∷◌, ◌++◌, refl, ap, sym, ◌∙◌, inl, inr, subst, append-nil, Option, None, length}
-use Rattle.iim_fields.proofs.Words.{all_back, eqb_tells, AllByRecursion, list_any, filter, option_or, filter-append, filter_passes, recursion_from_All, or_cases, eqb-true, Dataset, of_record, all_there, after, AreRecords, AreSections, mandatory, occurs, IsGoodDataset, IsGoodRecord, SectionsLive, last_record, section_after, is_kept, kept, missing_fault, missing_of, has_seen, IsOrderOf, end_fault, IsEnvelope, finish_fault, IsEnvelopeStore, IsBuilding, fields_of, Limits, Store, RecordPlace, Order, joined, HasChecked, HasEnded, AwaitsHead, HasStored, IsReading, place_of, FieldFault, IsSomeAnd}
+use Rattle.iim_fields.proofs.Words.{all_back, eqb_tells, AllByRecursion, list_any, filter, option_or, filter-append, filter_passes, recursion_from_All, or_cases, eqb-true, Dataset, of_record, all_there, after, AreRecords, AreSections, mandatory, occurs, IsGoodDataset, IsGoodRecord, AreViableSections, last_record, section_after, is_kept, kept, missing_fault, missing_of, has_seen, IsOrderOf, end_fault, IsEnvelope, missing_field_fault, IsEnvelopeStore, IsBuilderState, fields_of, Limits, Store, RecordPlace, Order, joined, HasChecked, LastRecordHasEnded, IsBetweenHeads, HasStored, IsReaderState, reader_view, FieldFault, IsSomeAnd}
 use Rattle.iim_fields.proofs.{Table.EachRowHasValues, Table.no_application_fault, Runs.part_front, Runs.part_of, Runs.records_to_come, Dies.none_missing}
 use Rattle.iim_fields.proofs.{Follows.From, Follows.alive_follows, Stand.between_after, Stand.holds_after, Endings.sections_end, Endings.whole_after_nine}
 use Rattle.iim_fields.proofs.Checking.{same_order}
@@ -27,7 +27,7 @@ records_lack p (r ∷ rs) ds (run, rest, parts, good, later) h =
 -- ---- After record 2.
 
 -- Record 1 is complete.
-first_whole : (ds : List Dataset) → SectionsLive ds → section_after ds ≡ 2 → IsGoodRecord 1 (of_record 1 ds)
+first_whole : (ds : List Dataset) → AreViableSections ds → section_after ds ≡ 2 → IsGoodRecord 1 (of_record 1 ds)
 first_whole ds alive two =
     let (run, rest, parts, good, later) = (alive_follows ds alive).goes alive.0 alive.1 in
     let (r1, rest1, parts1, good1, later1) = alive.1 in
@@ -43,14 +43,14 @@ first_whole ds alive two =
 
 -- ---- The fault.
 
-two_case : (ds : List Dataset) (o : Order) → SectionsLive ds → IsOrderOf o ds → section_after ds ≡ 2 → end_fault 2 (has_seen o) ≡ finish_fault ds
+two_case : (ds : List Dataset) (o : Order) → AreViableSections ds → IsOrderOf o ds → section_after ds ≡ 2 → end_fault 2 (has_seen o) ≡ missing_field_fault ds
 two_case ds o alive tells two =
     let whole = all_there (λ n. occurs n (of_record 1 ds)) (mandatory 1) (first_whole ds alive two).mandatory in
     let seen : (n : ℕ) → has_seen o n ≡ occurs n (of_record 2 ds) = λ n. tells.seen n ∙ ap (λ (r : ℕ). occurs n (of_record r ds)) two in
     λ i. option_or (missing_fault 1 (sym whole i)) (missing_fault 2 (missing_of 2 (λ n. seen n i)))
 
 one_case : (ds : List Dataset) (o : Order) → ((n : ℕ) → has_seen o n ≡ occurs n (of_record 1 ds)) → of_record 2 ds ≡ []
-    → option_or (missing_fault 1 (missing_of 1 (has_seen o))) (missing_fault 2 (missing_of 2 (λ _. false))) ≡ finish_fault ds
+    → option_or (missing_fault 1 (missing_of 1 (has_seen o))) (missing_fault 2 (missing_of 2 (λ _. false))) ≡ missing_field_fault ds
 one_case ds o seen none = λ i. option_or (missing_fault 1 (missing_of 1 (λ n. seen n i))) (missing_fault 2 (missing_of 2 (λ n. occurs n (sym none i))))
 
 -- The last of stored datasets is of record 1 or 2.
@@ -62,7 +62,8 @@ all_kept : (ds : List Dataset) → kept ds ≡ ds → AllByRecursion (λ d. is_k
 all_kept ds same = subst (AllByRecursion (λ (d : Dataset). is_kept d.rec ≡ true)) same
     (recursion_from_All (λ (d : Dataset). is_kept d.rec ≡ true) (kept ds) (filter_passes (λ (d : Dataset). is_kept d.rec) ds))
 
-pub end_fault_is : (ds : List Dataset) (o : Order) → SectionsLive ds → kept ds ≡ ds → IsOrderOf o ds → end_fault o.rec (has_seen o) ≡ finish_fault ds
+pub end_fault_is : (ds : List Dataset) (o : Order) → AreViableSections ds → kept ds ≡ ds → IsOrderOf o ds → end_fault o.rec (has_seen o)
+    ≡ missing_field_fault ds
 end_fault_is [] o alive same tells = rw tells.present (one_case [] o tells.seen refl)
 end_fault_is (d ∷ ds) o alive same tells =
     let present = section_after (d ∷ ds) in
@@ -87,7 +88,7 @@ nothing_missing present has none =
       | inr other ↦ let here = rw other.0 at none in absurd (grind arith)
     ]
 
-present_good : (ds : List Dataset) (o : Order) → SectionsLive ds → IsOrderOf o ds → section_after ds ≡ 2 → missing_of 2 (has_seen o) ≡ None
+present_good : (ds : List Dataset) (o : Order) → AreViableSections ds → IsOrderOf o ds → section_after ds ≡ 2 → missing_of 2 (has_seen o) ≡ None
     → IsGoodRecord 2 (of_record 2 ds)
 present_good ds o alive tells two none =
     let (run, rest, parts, good, later) = (alive_follows ds alive).goes alive.0 alive.1 in
@@ -111,7 +112,7 @@ split_kept ds rest same later sections =
     let left : kept (ds ++ rest) ≡ ds = rw (filter-append (λ (d : Dataset). is_kept d.rec) ds rest, none, append-nil) same in
     subst IsEnvelope left (kept_of_sections (ds ++ rest) sections)
 
-pub finished : EachRowHasValues → (ds : List Dataset) (o : Order) → SectionsLive ds → kept ds ≡ ds → IsOrderOf o ds → end_fault o.rec (has_seen o) ≡ None
+pub finished : EachRowHasValues → (ds : List Dataset) (o : Order) → AreViableSections ds → kept ds ≡ ds → IsOrderOf o ds → end_fault o.rec (has_seen o) ≡ None
     → IsEnvelope ds
 finished values ds o alive same tells none =
     let m = nothing_missing o.rec (has_seen o) none in
@@ -131,12 +132,12 @@ end_at : {check : Option RecordPlace} {ds : List Dataset} {told : Option FieldFa
     → told ≡ end_fault s.order.rec (has_seen s.order)
 end_at {told = told} s tells = subst (TellsEnd told) s.at tells
 
-pub finish_is : {check : Option RecordPlace} {limits : Limits} {store : Store} {told : Option FieldFault} → IsBuilding check limits store
-    → TellsEnd told check → told ≡ finish_fault (fields_of store)
+pub finish_is : {check : Option RecordPlace} {limits : Limits} {store : Store} {told : Option FieldFault} → IsBuilderState check limits store
+    → TellsEnd told check → told ≡ missing_field_fault (fields_of store)
 finish_is {store = store} b tells = let s = b.checked in end_at s tells ∙ end_fault_is (fields_of store) s.order s.alive b.all_kept s.tells
 
 pub envelope_store : EachRowHasValues → {check : Option RecordPlace} {limits : Limits} {store : Store} {told : Option FieldFault}
-    → IsBuilding check limits store → TellsEnd told check → told ≡ None → IsEnvelopeStore store
+    → IsBuilderState check limits store → TellsEnd told check → told ≡ None → IsEnvelopeStore store
 envelope_store values {store = store} b tells none =
     let s = b.checked in
     record {
@@ -147,23 +148,25 @@ envelope_store values {store = store} b tells none =
 
 -- ---- The reader.
 
-pub whole_where_ended : (check : Option RecordPlace) (ds : List Dataset) → HasEnded check → HasChecked check ds → AreSections ds
+pub whole_where_ended : (check : Option RecordPlace) (ds : List Dataset) → LastRecordHasEnded check → HasChecked check ds → AreSections ds
 whole_where_ended check ds ended s =
     let last : section_after ds ≡ 9 = sym s.tells.present
     ∙ (ap (λ (o : Order). o.rec) (same_order check s.order ended.order s.begun None s.at ended.between) ∙ ended.last) in
     whole_after_nine ds s.alive last
 
-pub ended_where_whole : (check : Option RecordPlace) (ds : List Dataset) → AwaitsHead check → HasChecked check ds → AreSections ds → HasEnded check
+pub ended_where_whole : (check : Option RecordPlace) (ds : List Dataset) → IsBetweenHeads check → HasChecked check ds → AreSections ds
+    → LastRecordHasEnded check
 ended_where_whole check ds t s sections = record {
   order = t.order;
   between = t.between;
   last = ap (λ (o : Order). o.rec) (same_order check t.order s.order None s.begun t.between s.at) ∙ (s.tells.present ∙ sections_end ds sections);
 }
 
-pub ended_store : (check : Option RecordPlace) (limits : Limits) (store : Store) (size : List ℕ) → IsReading check limits store size → HasEnded check
+pub ended_store : (check : Option RecordPlace) (limits : Limits) (store : Store) (size : List ℕ) → IsReaderState check limits store size
+    → LastRecordHasEnded check
     → IsEnvelopeStore store
 ended_store check limits store size r ended =
-    let (ds, s) = between_after (place_of check limits store size) r.stands (record { order = ended.order; between = ended.between }) in
+    let (ds, s) = between_after (reader_view check limits store size) r.stands (record { order = ended.order; between = ended.between }) in
     let same : kept ds ≡ fields_of store = sym s.kept_are in
     record {
       few = record {

@@ -1,6 +1,6 @@
 -- What can follow datasets that are a viable prefix.
 use Rattle.std.proofs.Common.{length, ◌<◌, ◌≡◌, ℕ, ◌⊎◌, Bool, true, false, nat_eq, List, [], ◌∷◌, ◌++◌, refl, ap, sym, ◌∙◌, inl, inr, arith, subst, append_assoc, append-nil}
-use Rattle.iim_fields.proofs.Words.{all_back, ne_eqb, mandatory, list_any, filter-append, or_right, eq-eqb, Dataset, of_record, table, after, records, AreRecords, AreSections, IsGoodDataset, IsGoodRecord, none_meets, SectionsLive, section_after, section_run}
+use Rattle.iim_fields.proofs.Words.{all_back, ne_eqb, mandatory, list_any, filter-append, or_right, eq-eqb, Dataset, of_record, table, after, records, AreRecords, AreSections, IsGoodDataset, IsGoodRecord, none_meets, AreViableSections, section_after, current_datasets}
 use Rattle.iim_fields.proofs.{Table.next_of, Table.mandatory_is, Table.no_row, Runs.not_empty, Sections.last_more, Sections.one_of}
 
 -- the rest of the current record after its datasets so far, and then the records after it
@@ -8,7 +8,7 @@ abbrev pub FromRun : ℕ → List Dataset → List Dataset → Type 0
 FromRun r own more = (run rest : List Dataset) × (more ≡ run ++ rest) × IsGoodRecord r (own ++ run) × AreRecords (after r) rest
 
 abbrev pub From : List Dataset → List Dataset → Type 0
-From ds more = FromRun (section_after ds) (section_run ds) more
+From ds more = FromRun (section_after ds) (current_datasets ds) more
 
 -- the record is one of those that remain
 abbrev pub is_coming : ℕ → ℕ → Bool
@@ -26,7 +26,7 @@ pub record Follows (ds : List Dataset) : Type 0 where
 pub present_more : (ds : List Dataset) (d : Dataset) → section_after (ds ++ d ∷ []) ≡ d.rec
 present_more ds d = last_more 0 ds d
 
-pub run_more : (ds : List Dataset) (d : Dataset) → section_run (ds ++ d ∷ []) ≡ of_record d.rec ds ++ d ∷ []
+pub run_more : (ds : List Dataset) (d : Dataset) → current_datasets (ds ++ d ∷ []) ≡ of_record d.rec ds ++ d ∷ []
 run_more ds d = rw (present_more ds d, filter-append (λ (x : Dataset). nat_eq x.rec d.rec) ds (d ∷ []), eq-eqb d.rec d.rec refl) refl
 
 pub from_more : (ds : List Dataset) (d : Dataset) (more : List Dataset) → FromRun d.rec (of_record d.rec ds ++ d ∷ []) more → From (ds ++ d ∷ []) more
@@ -37,7 +37,7 @@ from_less ds d more f = rw (run_more ds d, present_more ds d) at f
 
 -- the dataset is of the current record; or it begins the next one, and the current one is complete
 abbrev pub MayStand : List Dataset → Dataset → Type 0
-MayStand ds d = (d.rec ≡ section_after ds) ⊎ ((after (section_after ds) ≡ d.rec ∷ after d.rec) × IsGoodRecord (section_after ds) (section_run ds))
+MayStand ds d = (d.rec ≡ section_after ds) ⊎ ((after (section_after ds) ≡ d.rec ∷ after d.rec) × IsGoodRecord (section_after ds) (current_datasets ds))
 
 -- The next record has not occurred.
 pub fresh_next : (ds : List Dataset) (d : Dataset) → Follows ds → after (section_after ds) ≡ d.rec ∷ after d.rec → of_record d.rec ds ≡ []
@@ -66,8 +66,8 @@ from_cons ds d more follows ([], rest, parts, good, later) =
 from_cons ds d more follows (x ∷ run, rest, parts, good, later) =
     let first : d ≡ x = cc in
     let tail : more ≡ run ++ rest = cc in
-    let here : IsGoodRecord (section_after ds) (section_run ds ++ d ∷ run) = rw first good in
-    let same = (all_back (λ (y : Dataset). (y.rec ≡ section_after ds) × IsGoodDataset y) (section_run ds) (d ∷ run) here.each).0.0 in
+    let here : IsGoodRecord (section_after ds) (current_datasets ds ++ d ∷ run) = rw first good in
+    let same = (all_back (λ (y : Dataset). (y.rec ≡ section_after ds) × IsGoodDataset y) (current_datasets ds) (d ∷ run) here.each).0.0 in
     (inl same, from_more ds d more (subst (λ (r : ℕ). FromRun r (of_record r ds ++ d ∷ []) more) (sym same) (run, rest, tail, rw append_assoc here, later)))
 
 pub cons_from : (ds : List Dataset) (d : Dataset) (more : List Dataset) → Follows ds → MayStand ds d → From (ds ++ d ∷ []) more → From ds (d ∷ more)
@@ -121,12 +121,12 @@ follows_start = record {
   fresh = λ r coming. refl;
 }
 
-follows_on : (ds rest : List Dataset) → Follows ds → SectionsLive (ds ++ rest) → Follows (ds ++ rest)
+follows_on : (ds rest : List Dataset) → Follows ds → AreViableSections (ds ++ rest) → Follows (ds ++ rest)
 follows_on ds [] follows alive = subst Follows (sym (append-nil ds)) follows
 follows_on ds (d ∷ rest) follows alive =
     let before : From ds (d ∷ (rest ++ alive.0)) = follows.goes (d ∷ (rest ++ alive.0)) (subst AreSections (append_assoc ds (d ∷ rest) alive.0) alive.1) in
     let same : (ds ++ d ∷ []) ++ rest ≡ ds ++ (d ∷ rest) = append_assoc ds (d ∷ []) rest in
-    subst Follows same (follows_on (ds ++ d ∷ []) rest (follows_next ds d (rest ++ alive.0) follows before) (subst SectionsLive (sym same) alive))
+    subst Follows same (follows_on (ds ++ d ∷ []) rest (follows_next ds d (rest ++ alive.0) follows before) (subst AreViableSections (sym same) alive))
 
-pub alive_follows : (ds : List Dataset) → SectionsLive ds → Follows ds
+pub alive_follows : (ds : List Dataset) → AreViableSections ds → Follows ds
 alive_follows ds alive = follows_on [] ds follows_start alive

@@ -2,7 +2,7 @@
 -- may have.
 use Rattle.std.proofs.Common.{subst, ◌≡◌, ℕ, ◌⊎◌, Bool, true, false, ◌&&◌, nat_eq, nat_le, List, [], ◌∷◌, length, Option, Some, None, refl, ap, sym, ◌∙◌, inl, inr, arith, ◌≢◌, not, ◌||◌, if◌then◌else◌, ne_eqb}
 use Rattle.iim_tables.specs.declared.shape.Kind.TheVariants.{Mode, Size, SizeFromOne}
-use Rattle.iim_fields.proofs.Words.{IsInRange, nat_tests, is_none, option_or, number, within, greatest_size, Head, number-cons, size_octets, has_kind, table, row_of, Row, head_fault, value_fault, data_of, Spells, FieldFault, eq-eqb, eqb_tells, after, missing_of, is_first}
+use Rattle.iim_fields.proofs.Words.{IsInRange, nat_tests, is_none, option_or, number, within, greatest_size, Head, number-cons, size_octets, has_kind, table, row_of, Row, head_fault, value_fault, data_of, DatasetEncodesNumber, FieldFault, eq-eqb, eqb_tells, after, missing_of, is_first}
 use Rattle.iim_fields.proofs.{Sections.one_of, Table.not_record0, Table.first_self}
 
 -- a dataset that does not repeat may come next, by the order
@@ -101,7 +101,7 @@ exact_by p has h n xs (Some row) known meant other count =
     let value : is_none (value_fault (data_of h xs)) ≡ (within row.min row.max h.count && has_kind row.kind xs) = rw (known, count, other) (grind arith) in
     rw (both_none, ← head, value, meant.1) (grind arith)
 
-pub number_exact : (p : ℕ) (has : ℕ → Bool) (h : Head) (n : ℕ) (xs : List ℕ) → (h.rec ≡ 7) ⊎ (h.rec ≡ 9) → Spells xs h n
+pub number_exact : (p : ℕ) (has : ℕ → Bool) (h : Head) (n : ℕ) (xs : List ℕ) → (h.rec ≡ 7) ⊎ (h.rec ≡ 9) → DatasetEncodesNumber xs h n
     → (is_number h n && admits_once p has h.rec h.set) ≡ is_none (option_or (head_fault p has h) (value_fault (data_of h xs)))
 number_exact p has h n xs number s =
     exact_by p has h n xs (row_of h.rec h.set) refl (meant h.rec h.set h.count n xs number s.count s.few s.is) (grind (arith, nat_tests)) s.count

@@ -1,7 +1,7 @@
 -- The last record of datasets, and which datasets can continue: lemmas for the proofs of every
 -- crate.
 use Rattle.std.proofs.Common.{◌≡◌, ℕ, false, nat_eq, List, [], ◌∷◌, ◌++◌, length, replicate, Option, refl, sym, subst, append_assoc, inl, inr}
-use Rattle.iim_fields.proofs.Words.{AllByRecursion, cases_eq, ne_eqb, eqb_tells, length-replicate, Dataset, head_of, Octets, zeros_are, Head, RecordPlace, SectionsLive, SectionsLiveAt, last_record, AreSections, HasTaken}
+use Rattle.iim_fields.proofs.Words.{AllByRecursion, cases_eq, ne_eqb, eqb_tells, length-replicate, Dataset, head_of, Octets, zeros_are, Head, RecordPlace, AreViableSections, AreViableSectionsWithHead, last_record, AreSections, HasAcceptedHead}
 
 pub last_more : (r : ℕ) (ds : List Dataset) (d : Dataset) → last_record r (ds ++ d ∷ []) ≡ d.rec
 last_more r [] d = refl
@@ -11,11 +11,11 @@ pub last_of_joined : (r : ℕ) (xs ys : List Dataset) → last_record r (xs ++ y
 last_of_joined r [] ys = refl
 last_of_joined r (x ∷ xs) ys = last_of_joined x.rec xs ys
 
-pub front_alive : (xs ys : List Dataset) → SectionsLive (xs ++ ys) → SectionsLive xs
+pub front_alive : (xs ys : List Dataset) → AreViableSections (xs ++ ys) → AreViableSections xs
 front_alive xs ys (more, are) = (ys ++ more, subst AreSections (append_assoc xs ys more) are)
 
 -- Datasets that can continue with a head can continue.
-pub head_alive : (ds : List Dataset) (h : Head) → SectionsLiveAt ds h → SectionsLive ds
+pub head_alive : (ds : List Dataset) (h : Head) → AreViableSectionsWithHead ds h → AreViableSections ds
 head_alive ds h (d, is, alive) = front_alive ds (d ∷ []) alive
 
 -- A dataset with this head: `h.count` octets, each 0.
@@ -25,7 +25,7 @@ some_data h =
     let count : length zeros ≡ h.count = length-replicate {A = ℕ} h.count 0 in
     (record { rec = h.rec; set = h.set; octets = zeros }, (λ k. record { rec = h.rec; set = h.set; count = count k }), zeros_are h.count)
 
-pub taken_alive : (check : Option RecordPlace) (ds : List Dataset) (h : Head) → HasTaken check ds h → SectionsLiveAt ds h
+pub taken_alive : (check : Option RecordPlace) (ds : List Dataset) (h : Head) → HasAcceptedHead check ds h → AreViableSectionsWithHead ds h
 taken_alive check ds h t = elim (eqb_tells h.rec 8) [
   | inl eight ↦ let (d, is, octets) = some_data h in (d, is, (t.subfile eight.1 d is octets).alive)
   | inr other ↦ (t.checking other.1).alive

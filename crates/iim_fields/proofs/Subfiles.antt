@@ -1,6 +1,6 @@
 -- A complete subfile: when its head may come next, and which state it reaches.
 use Rattle.std.proofs.Common.{◌≡◌, ℕ, Bool, true, false, ◌&&◌, ◌||◌, nat_eq, nat_le, List, [], ◌∷◌, ◌++◌, length, Option, Some, None, refl, ap, sym, ◌∙◌, inl, arith}
-use Rattle.iim_fields.proofs.Words.{AwaitsHead, FieldsPlace, limits_of, kept, nat_tests, vec_len, is_none, option_or, Dataset, Head, table, row_of, head_fault, record_fault, first_fault, row_fault, is_kept, kept_octets, HasChecked, StandsAfter, PassesSubfile, place_of, IsReading, Limits, FieldFault, Store, Begun, RecordPlace, HasTaken, IsIn, Octets, greatest_size, head_of, missing_of, occurs, section_after, section_run}
+use Rattle.iim_fields.proofs.Words.{IsBetweenHeads, FieldsPlace, limits_of, kept, nat_tests, vec_len, is_none, option_or, Dataset, Head, table, row_of, head_fault, record_fault, first_fault, row_fault, is_kept, kept_octets, HasChecked, HasReadDatasets, AcceptedSubfile, reader_view, IsReaderState, Limits, FieldFault, Store, Begun, RecordPlace, HasAcceptedHead, IsInDataset, Octets, greatest_size, head_of, missing_of, occurs, section_after, current_datasets}
 use Rattle.iim_fields.proofs.{Sections.one_of, Sections.some_data, Dies.no_fault_parts, Wholes.no_limit, Wholes.none_where, Checking.checked_as}
 use Rattle.iim_fields.proofs.Stand.{between_after, stands_in, closed_subfile, reading_between}
 
@@ -44,8 +44,8 @@ abbrev pub Leads : Option RecordPlace → Head → Option RecordPlace → Type 0
 Leads old h new = (ds : List Dataset) → HasChecked old ds → (d : Dataset) → head_of d ≡ h → Octets d.octets → HasChecked new (ds ++ d ∷ [])
 
 pub fields_exactly : {check : Option RecordPlace} {limits : Limits} {store : Store} {size : List ℕ} {f : FieldsPlace} {b : Bool} (h : Head)
-    → IsReading check limits store size → place_of check limits store size ≡ f → h.rec ≡ 8
-    → ((ds : List Dataset) → HasChecked check ds → b ≡ is_none (record_fault ds h)) → (ds : List Dataset) → StandsAfter f ds
+    → IsReaderState check limits store size → reader_view check limits store size ≡ f → h.rec ≡ 8
+    → ((ds : List Dataset) → HasChecked check ds → b ≡ is_none (record_fault ds h)) → (ds : List Dataset) → HasReadDatasets f ds
     → b ≡ is_none (first_fault (limits_of f) ds h)
 fields_exactly {limits = limits} h r view eight exactly ds s =
     let none = no_limit limits (kept_octets ds) (length (kept ds)) h (ap is_kept eight) in
@@ -56,21 +56,21 @@ fields_exactly {limits = limits} h r view eight exactly ds s =
 
 -- In the subfile, the order of the check is that of the state after it.
 pub fields_pass : {check new : Option RecordPlace} {limits : Limits} {store : Store} {size : List ℕ} {f : FieldsPlace} {h : Head} {b : Bool}
-    → IsReading check limits store size → place_of check limits store size ≡ f → AwaitsHead f.check
-    → ((ds : List Dataset) → HasChecked check ds → b ≡ is_none (record_fault ds h)) → b ≡ true → Leads check h new → AwaitsHead new → h.rec ≡ 8
-    → PassesSubfile f h (place_of new limits store size)
+    → IsReaderState check limits store size → reader_view check limits store size ≡ f → IsBetweenHeads f.check
+    → ((ds : List Dataset) → HasChecked check ds → b ≡ is_none (record_fault ds h)) → b ≡ true → Leads check h new → IsBetweenHeads new → h.rec ≡ 8
+    → AcceptedSubfile f h (reader_view new limits store size)
 fields_pass {check} {new} {limits} {store} {size} {h = h} r view between exactly taken leads next eight =
-    let (ds, s) = between_after (place_of check limits store size) r.stands (rw (← view) at between) in
-    let parts = no_fault_parts (section_after ds) (λ n. occurs n (section_run ds)) h (none_where _ (sym (exactly ds s.checked) ∙ taken)) in
+    let (ds, s) = between_after (reader_view check limits store size) r.stands (rw (← view) at between) in
+    let parts = no_fault_parts (section_after ds) (λ n. occurs n (current_datasets ds)) h (none_where _ (sym (exactly ds s.checked) ∙ taken)) in
     let begun : Option Begun = Some (record { head = h; row = parts.row }) in
     let mid : Option RecordPlace = Some (record { order = next.order; begun = begun }) in
-    let inside : IsIn mid h = record { order = next.order; row = parts.row; inside = refl; known = parts.known } in
-    let begins : (es : List Dataset) → HasChecked check es → HasTaken mid es h = λ es t. record {
+    let inside : IsInDataset mid h = record { order = next.order; row = parts.row; inside = refl; known = parts.known } in
+    let begins : (es : List Dataset) → HasChecked check es → HasAcceptedHead mid es h = λ es t. record {
       checking = λ other. absurd (other eight);
       subfile = λ _ d is octets. checked_as next.order None begun next.between refl eight (es ++ d ∷ []) (leads es t d is octets);
     } in
     record {
-      inside = place_of mid limits store size;
+      inside = reader_view mid limits store size;
       head = refl;
       limits = ap limits_of view;
       begins = stands_in _ _ r view inside begins refl refl (sym (no_limit limits (length store.octets.items) (vec_len store.entries) h (ap is_kept eight)));
@@ -78,10 +78,10 @@ fields_pass {check} {new} {limits} {store} {size} {h = h} r view between exactly
     }
 
 pub fields_reading : {check new : Option RecordPlace} {limits : Limits} {store : Store} {size : List ℕ} {h : Head} (b : Bool)
-    → IsReading check limits store size → AwaitsHead check → ((ds : List Dataset) → HasChecked check ds → b ≡ is_none (record_fault ds h))
-    → (b ≡ true → Leads check h new) → (b ≡ false → new ≡ check) → AwaitsHead new → h.rec ≡ 8 → IsReading new limits store size
+    → IsReaderState check limits store size → IsBetweenHeads check → ((ds : List Dataset) → HasChecked check ds → b ≡ is_none (record_fault ds h))
+    → (b ≡ true → Leads check h new) → (b ≡ false → new ≡ check) → IsBetweenHeads new → h.rec ≡ 8 → IsReaderState new limits store size
 fields_reading {check} {new} {limits} {store} {size} {h} true r between exactly took left next eight =
-    let (ds, s) = between_after (place_of check limits store size) r.stands between in
+    let (ds, s) = between_after (reader_view check limits store size) r.stands between in
     let (d, is, octets) = some_data h in
     let passes = fields_pass r refl between exactly refl (took refl) next eight in
     reading_between r.room r.store_is next

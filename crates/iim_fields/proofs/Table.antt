@@ -1,6 +1,6 @@
 -- What the table determines of the records of an envelope.
 use Rattle.std.proofs.Common.{not, ◌≡◌, ◌≢◌, ℕ, ◌<◌, ◌≤◌, ◌⊎◌, Bool, true, false, ◌&&◌, ◌||◌, cond, nat_eq, List, [], ◌∷◌, length, map, Option, Some, None, refl, ap, sym, ◌∙◌, inl, inr, arith, subst}
-use Rattle.iim_fields.proofs.Words.{ne_eqb, cases_Bool, true_from_ne_false, nat_tests, AllByRecursion, list_all, filter, find, option_or, option_map, is_kept, is_first, value_fault, fault_by_row, missing_fault, missing_of, and_parts, or_cases, eqb-true, is_none, IsOctet, within, Dataset, head_of, Head, size_octets, has_kind, tells_number, data_of, table, row_of, row_of_others, Meets, is_admitted, HasValue, mandatory, has_to_occur, has_file_format, IsGoodDataset, Row, after}
+use Rattle.iim_fields.proofs.Words.{ne_eqb, cases_Bool, true_from_ne_false, nat_tests, AllByRecursion, list_all, filter, find, option_or, option_map, is_kept, is_first, value_fault, fault_by_row, missing_fault, missing_of, and_parts, or_cases, eqb-true, is_none, IsOctet, within, Dataset, head_of, Head, size_octets, has_kind, has_number_value, data_of, table, row_of, row_of_unread, OctetsMeetRow, is_admitted, HasValueOfLength, mandatory, must_occur, has_file_format, IsGoodDataset, Row, after}
 use Rattle.iim_fields.proofs.Sections.{by_record, one_of}
 use Rattle.iim_fields.specs.declared.fault.FieldCause.TheVariants as causes
 use Rattle.iim_tables.specs.declared.shape.Kind.TheVariants as kinds
@@ -46,7 +46,7 @@ none_of rec must r other (e ∷ es) all =
     rw (apart r (rec e) other parts.0) (none_of rec must r other es parts.1)
 
 mandatory_others : (r : ℕ) → in_five r ≡ false → mandatory r ≡ []
-mandatory_others r other = ap (map (λ e. e.set)) (none_of (λ e. e.rec) (λ e. has_to_occur e.row.duty) r other table all_in_five)
+mandatory_others r other = ap (map (λ e. e.set)) (none_of (λ e. e.rec) (λ e. must_occur e.row.duty) r other table all_in_five)
 
 pub mandatory_is : (r : ℕ) → mandatory r ≡ mandatory_numbers r
 unfolding table in_five
@@ -86,14 +86,14 @@ least_fit r = by_record (λ m. AllByRecursion (λ n. fits_least (row_of m n) ≡
 
 -- For each length that a row allows, some octets of that length meet it.
 abbrev pub EachRowHasValues : Type 0
-EachRowHasValues = (rec set n : ℕ) (r : Row) → row_of rec set ≡ Some r → within r.min r.max n ≡ true → HasValue rec set n
+EachRowHasValues = (rec set n : ℕ) (r : Row) → row_of rec set ≡ Some r → within r.min r.max n ≡ true → HasValueOfLength rec set n
 
 -- The bounds of the row of 1:20.
 pub file_format_bounds : (row : Row) → row_of 1 20 ≡ Some row → (row.min ≡ 2) × (row.max ≡ 2)
 unfolding row_of table
 file_format_bounds row e = (cc, cc)
 
-file_format_meets : Meets 1 20 (0 ∷ 2 ∷ [])
+file_format_meets : OctetsMeetRow 1 20 (0 ∷ 2 ∷ [])
 unfolding row_of table
 file_format_meets = refl
 
@@ -162,7 +162,7 @@ sizes_of_nine : (set : ℕ) → BoundsSize 9 set
 unfolding row_of table
 sizes_of_nine set = one_of (BoundsSize 9) set (10 ∷ []) (grind arith) (λ not row known. let none = rw not.0.0 at known in absurd cc)
 
-pub size_row : (rec set : ℕ) (row : Row) → tells_number rec ≡ true → row_of rec set ≡ Some row → (1 ≤ row.min) × (row.max ≤ size_octets)
+pub size_row : (rec set : ℕ) (row : Row) → has_number_value rec ≡ true → row_of rec set ≡ Some row → (1 ≤ row.min) × (row.max ≤ size_octets)
 size_row rec set row tells known = elim (or_cases (nat_eq rec 7) (nat_eq rec 9) tells) [
   | inl seven ↦ sizes_of_seven set row (rw (eqb-true rec 7 seven) at known)
   | inr nine ↦ sizes_of_nine set row (rw (eqb-true rec 9 nine) at known)
@@ -191,14 +191,14 @@ find_none rec set r n other (e ∷ es) all =
     let parts = and_parts (in_five (rec e)) (list_all (λ x. in_five (rec x)) es) all in
     rw (apart r (rec e) other parts.0) (find_none rec set r n other es parts.1)
 
-no_others : (r : ℕ) → in_five r ≡ false → row_of_others r ≡ None
+no_others : (r : ℕ) → in_five r ≡ false → row_of_unread r ≡ None
 unfolding in_five
 no_others r other = grind arith
 
 no_other_row : (r n : ℕ) → in_five r ≡ false → row_of r n ≡ None
 unfolding row_of
 no_other_row r n other =
-    ap (λ e. option_or (option_map (λ x. x.row) e) (row_of_others r)) (find_none (λ e. e.rec) (λ e. e.set) r n other table all_in_five) ∙ no_others r other
+    ap (λ e. option_or (option_map (λ x. x.row) e) (row_of_unread r)) (find_none (λ e. e.rec) (λ e. e.set) r n other table all_in_five) ∙ no_others r other
 
 five : (r n : ℕ) (row : Row) → row_of r n ≡ Some row → in_five r ≡ true
 five r n row known = true_from_ne_false (in_five r) (λ is. let none = no_other_row r n is in cc)
@@ -213,12 +213,12 @@ first_self r = one_of (λ m. is_first m (after m) ≡ false) r (0 ∷ 1 ∷ 2 �
     (λ not. rw (not.0.1, not.1.0.1, not.1.1.0.1, not.1.1.1.0.1, not.1.1.1.1.0.1, not.1.1.1.1.1.0.1) refl)
 
 -- A record with a row is stored, is the object's, or its values are numbers.
-pub kept_or_tells : (r n : ℕ) (row : Row) → row_of r n ≡ Some row → (r ≢ 8) → is_kept r ≡ false → tells_number r ≡ true
+pub kept_or_tells : (r n : ℕ) (row : Row) → row_of r n ≡ Some row → (r ≢ 8) → is_kept r ≡ false → has_number_value r ≡ true
 unfolding in_five
 kept_or_tells r n row known not8 not_kept = let some = five r n row known in grind (arith, nat_tests)
 
 -- A value that is a size and meets its row is as long as a size.
-pub size_length : (h : Head) (row : Row) (xs : List ℕ) → row_of h.rec h.set ≡ Some row → value_fault (data_of h xs) ≡ None → tells_number h.rec ≡ true
+pub size_length : (h : Head) (row : Row) (xs : List ℕ) → row_of h.rec h.set ≡ Some row → value_fault (data_of h xs) ≡ None → has_number_value h.rec ≡ true
     → (1 ≤ length xs) × (length xs ≤ size_octets)
 size_length h row xs known none tells =
     let bounds = size_row h.rec h.set row tells known in

@@ -1,9 +1,9 @@
 -- The first fault has the cause with the lowest number whose condition holds.
 use Rattle.std.proofs.Common.{◌≡◌, ◌≢◌, ℕ, ◌+◌, ◌<◌, ◌≤◌, ◌⊎◌, Bool, true, false, not, ◌&&◌, cond, nat_eq, nat_le, List, [], ◌∷◌, length, refl, ap, sym, ◌∙◌, inl, inr, arith, subst, Option, Some, None, Decides}
-use Rattle.iim_fields.specs.Format.Causes.{Token, BeginsNext, IsOutOfOrder, IsRepeated, IsOutOfRange, IsAbsent, number_of_cause, HasCause, Names, IsFault, HasNoFault, head_at}
+use Rattle.iim_fields.specs.Format.Causes.{Token, BeginsNext, IsOutOfOrder, IsRepeated, IsOutOfRange, IsMissing, number_of_cause, HasFieldCause, FaultNamesDataset, IsFault, HasNoFault, head_at}
 use Rattle.iim_fields.specs.Format.Causes.Token.{AtHead, AtValue}
 use Rattle.iim_fields.specs.declared.fault.FieldCause.{FieldCause}
-use Rattle.iim_fields.proofs.Words.{cases_lt, false_from_ne_true, nat_tests, record_fault, find, list_any, option_or, or_cases, or_right, eq-eqb, within, Dataset, Head, row_of, is_admitted, Row, after, mandatory, occurs, has_file_format, section_after, section_run, is_first, is_in_order, fault_on, row_fault, missing_fault, missing_of, is_kept, kept, kept_octets, limits_fault, first_fault, value_fault, fault_by_row, IsFaultIfAny, HeadsTellTheLowestCause, ValuesTellTheLowestCause, Limits, FieldFault, RecordOrder, UnknownDataset, Repeated, CountRange, Missing, BadValue, FileFormat, HeaderFull, TooManyFields, repeats_as, meets_as, admitted_as, none_meets}
+use Rattle.iim_fields.proofs.Words.{cases_lt, false_from_ne_true, nat_tests, record_fault, find, list_any, option_or, or_cases, or_right, eq-eqb, within, Dataset, Head, row_of, is_admitted, Row, after, mandatory, occurs, has_file_format, section_after, current_datasets, is_first, is_in_order, fault_on, row_fault, missing_fault, missing_of, is_kept, kept, kept_octets, limits_fault, first_fault, value_fault, fault_by_row, IsFaultIfAny, HeadsReportTheLowestCause, ValuesReportTheLowestCause, Limits, FieldFault, RecordOrder, UnknownDataset, Repeated, CountRange, Missing, BadValue, FileFormat, HeaderFull, TooManyFields, repeats_as, meets_as, admitted_as, none_meets}
 use Rattle.iim_fields.proofs.{Sections.by_record, Table.passed, Table.mandatory_is, Table.mandatory_numbers, Dies.next_is}
 
 -- ---- At most one fault.
@@ -13,7 +13,7 @@ same_cause : (c e : FieldCause) → number_of_cause c ≡ number_of_cause e → 
 same_cause RecordOrder RecordOrder same = refl
 same_cause one other same = grind arith
 
-one_name : (c : FieldCause) (ds : List Dataset) (t : Token) (r s q n : ℕ) → Names c ds t r s → Names c ds t q n → (r ≡ q) × (s ≡ n)
+one_name : (c : FieldCause) (ds : List Dataset) (t : Token) (r s q n : ℕ) → FaultNamesDataset c ds t r s → FaultNamesDataset c ds t q n → (r ≡ q) × (s ≡ n)
 one_name Missing ds t r s q n f g = let low : s ≤ n = f.2 n g.1 in let high : n ≤ s = g.2 s f.1 in (f.0 ∙ sym g.0, omega arith)
 one_name other ds t r s q n f g = (f.0 ∙ sym g.0, f.1 ∙ sym g.1)
 
@@ -22,7 +22,8 @@ one_fault limits ds t f g is also =
     let low = λ (below : number_of_cause g.cause < number_of_cause f.cause). is.lowest g.cause below also.holds in
     let high = λ (below : number_of_cause f.cause < number_of_cause g.cause). also.lowest f.cause below is.holds in
     let same : f.cause ≡ g.cause = same_cause f.cause g.cause (omega (arith, low, high)) in
-    let both = one_name f.cause ds t f.rec f.set g.rec g.set is.names (subst (λ (c : FieldCause). Names c ds t g.rec g.set) (sym same) also.names) in
+    let both = one_name f.cause ds t f.rec f.set g.rec g.set is.names (subst (λ (c : FieldCause). FaultNamesDataset c ds t g.rec g.set)
+    (sym same) also.names) in
     λ i. record { rec = both.0 i; set = both.1 i; cause = same i }
 
 -- ---- The conditions of a head.
@@ -45,7 +46,7 @@ out_of_order ds h = (
 
 -- the current record has a dataset of the number
 abbrev has_come : List Dataset → ℕ → Bool
-has_come ds n = occurs n (section_run ds)
+has_come ds n = occurs n (current_datasets ds)
 
 repeated : (ds : List Dataset) (h : Head) (row : Row) → row_of h.rec h.set ≡ Some row
     → Decides ((nat_eq h.rec (section_after ds) && has_come ds h.set) && not row.repeats) (IsRepeated ds h)
@@ -98,7 +99,7 @@ none_absent has (x ∷ ns) m none some =
 module _ (limits : Limits) (ds : List Dataset) where
   -- no condition of a cause below k holds
   abbrev Below : Token → ℕ → Type 0
-  Below t k = (c : FieldCause) → number_of_cause c < k → HasCause c limits ds t → ⊥
+  Below t k = (c : FieldCause) → number_of_cause c < k → HasFieldCause c limits ds t → ⊥
 
   -- the result is the fault; or it is `None`, and no condition of a cause below k holds
   abbrev IsTold : Token → ℕ → Option FieldFault → Type 0
@@ -110,15 +111,15 @@ module _ (limits : Limits) (ds : List Dataset) where
     told : Below t m → IsTold t n o
 
   -- A cause whose condition does not hold is skipped.
-  past : (t : Token) (c : FieldCause) → Below t (number_of_cause c) → (HasCause c limits ds t → ⊥) → Below t (number_of_cause c + 1)
+  past : (t : Token) (c : FieldCause) → Below t (number_of_cause c) → (HasFieldCause c limits ds t → ⊥) → Below t (number_of_cause c + 1)
   past t c below none e low holds = elim (cases_lt (number_of_cause e) (number_of_cause c)) [
     | inl less ↦ below e less holds
-    | inr same ↦ none (subst (λ (x : FieldCause). HasCause x limits ds t) (same_cause e c (omega arith)) holds)
+    | inr same ↦ none (subst (λ (x : FieldCause). HasFieldCause x limits ds t) (same_cause e c (omega arith)) holds)
   ]
 
   -- A test of one cause, and then others.
-  test : {t : Token} {n : ℕ} {rest : Option FieldFault} (c : FieldCause) (b : Bool) → Decides b (HasCause c limits ds t)
-      → Names c ds t (head_at t).rec (head_at t).set → Tells t (number_of_cause c + 1) n rest
+  test : {t : Token} {n : ℕ} {rest : Option FieldFault} (c : FieldCause) (b : Bool) → Decides b (HasFieldCause c limits ds t)
+      → FaultNamesDataset c ds t (head_at t).rec (head_at t).set → Tells t (number_of_cause c + 1) n rest
       → Tells t (number_of_cause c) n (cond b (Some (fault_on (head_at t) c)) rest)
   test c true d names later = record { told = λ low. record { holds = d.0 refl; lowest = low; names = names } }
   test {t} c false d names later = record { told = λ low. later.told (past t c low (λ holds. let yes = d.1 holds in cc)) }
@@ -147,9 +148,9 @@ module _ (limits : Limits) (ds : List Dataset) where
   }
   early_told h true (Some n) first found =
       let least = least_found (has_come ds) 0 (mandatory (section_after ds)) n (mandatory_rise (section_after ds)) found in
-      let absent : IsAbsent ds n = record { mandatory = least.one; absent = least.absent } in
+      let absent : IsMissing ds n = record { mandatory = least.one; absent = least.absent } in
       let next = next_is (section_after ds) h.rec first in
-      let all = λ (m : ℕ) (is : IsAbsent ds m). least.least m is.mandatory is.absent in
+      let all = λ (m : ℕ) (is : IsMissing ds m). least.least m is.mandatory is.absent in
       record { told = λ low. record { holds = ((after h.rec, next), (n, absent)); lowest = low; names = (refl, absent, all) } }
 
   -- Only a dataset that is stored exceeds a limit.
@@ -207,10 +208,10 @@ module _ (limits : Limits) (ds : List Dataset) where
         ((λ is. absurd cc), (λ none. absurd (none g.cause fault.holds))),
       )
 
-pub heads_tell : HeadsTellTheLowestCause
+pub heads_tell : HeadsReportTheLowestCause
 heads_tell limits ds h = tells limits ds (AtHead h) (first_fault limits ds h) (head_told limits ds h)
 
-pub values_tell : ValuesTellTheLowestCause
+pub values_tell : ValuesReportTheLowestCause
 values_tell limits ds d = tells limits ds (AtValue d) (value_fault d) (value_told limits ds d (row_of d.rec d.set) refl)
 
 pub head_fault_told : (limits : Limits) (ds : List Dataset) (h : Head) (f : FieldFault) → first_fault limits ds h ≡ Some f → IsFault limits ds (AtHead h) f

@@ -18,18 +18,18 @@ pub use Rattle.iim_dataset.specs.Format.Octets.{IsOctet, Octets, greatest_size, 
 pub use Rattle.iim_dataset.specs.declared.head.Head.{Head}
 pub use Rattle.iim_tables.proofs.GoodDatasets.{admitted_as, good_elsewhere, meets_as, none_counts, none_meets, occurrences_append, occurrences_cons, repeats_as, some_counts}
 pub use Rattle.iim_tables.specs.Format.Kinds.{has_kind, size_octets}
-pub use Rattle.iim_tables.specs.Format.Records.{HasValue, IsGoodDataset, IsGoodRecord, has_file_format, has_to_occur, mandatory, occurrences, occurs, repeats}
-pub use Rattle.iim_tables.specs.Format.Rows.{Meets, is_admitted, row_of_others}
+pub use Rattle.iim_tables.specs.Format.Records.{HasValueOfLength, IsGoodDataset, IsGoodRecord, has_file_format, must_occur, mandatory, occurrences, occurs, repeats}
+pub use Rattle.iim_tables.specs.Format.Rows.{OctetsMeetRow, is_admitted, row_of_unread}
 unfoldable pub use Rattle.iim_tables.specs.Format.Rows.{row_of, table}
 pub use Rattle.iim_tables.specs.declared.shape.Row.{Row}
-pub use Rattle.iim_fields.specs.Steps.{IsBuilding, IsEnvelopeStore, IsRecordPlace, place_fault, MayTake, AddsHead, end_fault, HasRoom, IsReading, StandsSomewhere, place_of}
-pub use Rattle.iim_fields.specs.Format.Records.{SectionsLive, SectionsLiveAt, IsWithin, IsEnvelope, AreRecords, AreSections, after, records, data_of, number_told, tells_number, first_data, has_names}
-pub use Rattle.iim_fields.specs.Format.Causes.{fault_by_row, fault_on, first_fault, head_fault, is_first, is_in_order, is_kept, joined, kept, kept_octets, last_record, limit_passed, limits_fault, missing_fault, missing_of, record_fault, room_fault, row_fault, section_after, section_run, value_fault}
-pub use Rattle.iim_fields.specs.Laws.{DatasetsLeadToOnePlace, DatasetsOfEnvelopesAreAdded, EnvelopesEndWithTheLastRecord, HeadsDieWithTheirFault, HeadsTellTheLowestCause, IsFaultIfAny, NoSectionsBeginOthers, ValuesDieWithTheirFault, ValuesTellTheLowestCause}
-pub use Rattle.iim_fields.specs.States.Standing.{Admits, Spells, Building, add_fault, finish_fault, passed_by, AwaitsHead, AwaitsNone, HasChecked, HasEnded, HasTaken, IsChecking, IsIn, IsRecordFault, IsValueFault, TakesHead, begun_head, section_at, IsOrderOf, has_seen, CanClose, CanTake, FieldsPlace, IsBetween, IsEnded, IsHeadFault, IsInside, IsOf, PassesSubfile, StandsAfter, StandsIn, begun_head_of, limits_of, section_of}
+pub use Rattle.iim_fields.specs.Steps.{IsBuilderState, IsEnvelopeStore, IsRecordPlace, place_fault, MayAcceptDataset, OrderAddsHead, end_fault, StoreHasCapacity, IsReaderState, IsReachedByDatasets, reader_view}
+pub use Rattle.iim_fields.specs.Format.Records.{AreViableSections, AreViableSectionsWithHead, IsWithin, IsEnvelope, AreRecords, AreSections, after, records, data_of, encoded_number, has_number_value, first_data, has_names}
+pub use Rattle.iim_fields.specs.Format.Causes.{fault_by_row, fault_on, first_fault, head_fault, is_first, is_in_order, is_kept, joined, kept, kept_octets, last_record, limit_exceeded, limits_fault, missing_fault, missing_of, record_fault, room_fault, row_fault, section_after, current_datasets, value_fault}
+pub use Rattle.iim_fields.specs.Laws.{DatasetsDetermineTheCheck, BuildersAcceptEnvelopes, EnvelopesEndWithTheLastRecord, HeadsAreRejectedForFaults, HeadsReportTheLowestCause, IsFaultIfAny, NoSectionsAreAPrefixOfOthers, ValuesAreRejectedForFaults, ValuesReportTheLowestCause}
+pub use Rattle.iim_fields.specs.States.Standing.{AdmitsDataset, DatasetEncodesNumber, BuilderView, added_field_fault, missing_field_fault, limit_exceeded_by, IsBetweenHeads, ExpectsNoValue, HasChecked, LastRecordHasEnded, HasAcceptedHead, IsChecking, IsInDataset, IsRecordFault, IsValueFault, AcceptsHead, current_head, section_at, IsOrderOf, has_seen, AcceptsEnd, AcceptsData, FieldsPlace, IsBetweenDatasets, RecordReaderHasEnded, IsHeadFault, IsInsideDataset, IsDatasetOf, AcceptedSubfile, HasReadDatasets, IsReadingDataset, current_head_of, limits_of, section_of}
 pub use Rattle.iim_fields.specs.States.Stores.{fields_from}
 pub use Rattle.iim_fields.specs.States.Walks.{data_left, rest_of}
-pub use Rattle.iim_fields.specs.StoreLayout.{HasStored, begun_octets, ends_at, entries_of, fields_of, is_sound, store_room}
+pub use Rattle.iim_fields.specs.StoreLayout.{HasStored, current_octets, ends_at, entries_of, fields_of, entries_are_sound, store_room}
 pub use Rattle.iim_fields.specs.declared.check.Begun.{Begun}
 pub use Rattle.iim_fields.specs.declared.check.RecordPlace.{RecordPlace}
 pub use Rattle.iim_fields.specs.declared.fault.FieldCause.TheVariants.{BadValue, CountRange, FileFormat, HeaderFull, Missing, RecordOrder, Repeated, TooManyFields, UnknownDataset}

@@ -2,27 +2,27 @@
 use Rattle.std.specs.Prelude.{◌≡◌, ◌↔◌, List, [], ◌∷◌, ◌++◌, length, Option, Some, None}
 use Rattle.iim_dataset.specs.Format.{Octets.IsOctet, Octets.Octets, Datasets.Dataset, Datasets.head_of}
 use Rattle.iim_dataset.specs.declared.head.Head.{Head}
-use Rattle.iim_fields.specs.Format.Records.{AreSections, SectionsLive, SectionsLiveAt, IsEnvelope, IsWithin}
+use Rattle.iim_fields.specs.Format.Records.{AreSections, AreViableSections, AreViableSectionsWithHead, IsEnvelope, IsWithin}
 use Rattle.iim_fields.specs.Format.Causes.{record_fault, value_fault, first_fault, joined, Limits, FieldFault, Token, IsFault, HasNoFault}
-use Rattle.iim_fields.specs.States.Standing.{add_fault, AwaitsHead, HasChecked, IsChecking, RecordPlace}
+use Rattle.iim_fields.specs.States.Standing.{added_field_fault, IsBetweenHeads, HasChecked, IsChecking, RecordPlace}
 use Rattle.iim_fields.specs.Format.Causes.Token.{AtHead, AtValue}
 
 -- With a head the datasets are no longer a viable prefix exactly if the head has a fault: every
 -- head without one can be completed.
-abbrev pub HeadsDieWithTheirFault : Type 0
-HeadsDieWithTheirFault = (ds : List Dataset) (h : Head) → SectionsLive ds → ((record_fault ds h ≡ None) × IsOctet h.set) ↔ SectionsLiveAt ds h
+abbrev pub HeadsAreRejectedForFaults : Type 0
+HeadsAreRejectedForFaults = (ds : List Dataset) (h : Head) → AreViableSections ds → ((record_fault ds h ≡ None) × IsOctet h.set) ↔ AreViableSectionsWithHead ds h
 
 -- With a value the datasets are no longer a viable prefix exactly if the value has a fault.
-abbrev pub ValuesDieWithTheirFault : Type 0
-ValuesDieWithTheirFault = (ds : List Dataset) (d : Dataset) → SectionsLiveAt ds (head_of d) → Octets d.octets → (value_fault d ≡ None) ↔ SectionsLive (ds ++ d ∷ [])
+abbrev pub ValuesAreRejectedForFaults : Type 0
+ValuesAreRejectedForFaults = (ds : List Dataset) (d : Dataset) → AreViableSectionsWithHead ds (head_of d) → Octets d.octets → (value_fault d ≡ None) ↔ AreViableSections (ds ++ d ∷ [])
 
 -- A viable prefix is all datasets of an envelope exactly if its last dataset is of record 9.
 abbrev pub EnvelopesEndWithTheLastRecord : Type 0
-EnvelopesEndWithTheLastRecord = (ds : List Dataset) (d : Dataset) → SectionsLive (ds ++ d ∷ []) → (d.rec ≡ 9) ↔ AreSections (ds ++ d ∷ [])
+EnvelopesEndWithTheLastRecord = (ds : List Dataset) (d : Dataset) → AreViableSections (ds ++ d ∷ []) → (d.rec ≡ 9) ↔ AreSections (ds ++ d ∷ [])
 
 -- The datasets of one envelope are never a proper prefix of those of another.
-abbrev pub NoSectionsBeginOthers : Type 0
-NoSectionsBeginOthers = (ds more : List Dataset) → AreSections ds → AreSections (ds ++ more) → more ≡ []
+abbrev pub NoSectionsAreAPrefixOfOthers : Type 0
+NoSectionsAreAPrefixOfOthers = (ds more : List Dataset) → AreSections ds → AreSections (ds ++ more) → more ≡ []
 
 -- The result is the fault of the token, or `None` if the condition of no cause holds.
 abbrev pub IsFaultIfAny : Option FieldFault → Limits → List Dataset → Token → Type 0
@@ -30,35 +30,35 @@ IsFaultIfAny o limits ds t = ((fault : FieldFault) → (o ≡ Some fault) ↔ Is
 
 -- The fault of a head has the cause with the lowest number whose condition holds, of the record
 -- layer and of the limits; and there is a fault exactly if some condition holds.
-abbrev pub HeadsTellTheLowestCause : Type 0
-HeadsTellTheLowestCause = (limits : Limits) (ds : List Dataset) (h : Head) → IsFaultIfAny (first_fault limits ds h) limits ds (AtHead h)
+abbrev pub HeadsReportTheLowestCause : Type 0
+HeadsReportTheLowestCause = (limits : Limits) (ds : List Dataset) (h : Head) → IsFaultIfAny (first_fault limits ds h) limits ds (AtHead h)
 
 -- The fault of a value has the cause with the lowest number whose condition holds; and there is a
 -- fault exactly if some condition holds.
-abbrev pub ValuesTellTheLowestCause : Type 0
-ValuesTellTheLowestCause = (limits : Limits) (ds : List Dataset) (d : Dataset) → IsFaultIfAny (value_fault d) limits ds (AtValue d)
+abbrev pub ValuesReportTheLowestCause : Type 0
+ValuesReportTheLowestCause = (limits : Limits) (ds : List Dataset) (d : Dataset) → IsFaultIfAny (value_fault d) limits ds (AtValue d)
 
 -- The datasets so far determine the state of a `RecordCheck`, and so do the datasets and a head.
-abbrev pub DatasetsLeadToOnePlace : Type 0
-DatasetsLeadToOnePlace =
-    ((a b : Option RecordPlace) (ds : List Dataset) → AwaitsHead a → AwaitsHead b → HasChecked a ds → HasChecked b ds → a ≡ b)
+abbrev pub DatasetsDetermineTheCheck : Type 0
+DatasetsDetermineTheCheck =
+    ((a b : Option RecordPlace) (ds : List Dataset) → IsBetweenHeads a → IsBetweenHeads b → HasChecked a ds → HasChecked b ds → a ≡ b)
     × ((a b : Option RecordPlace) (ds : List Dataset) (h : Head) → IsChecking a ds h → IsChecking b ds h → a ≡ b)
 
 -- A builder accepts the datasets of an envelope that is within its limits, one after the other.
-abbrev pub DatasetsOfEnvelopesAreAdded : Type 0
-DatasetsOfEnvelopesAreAdded = (limits : Limits) (before ds : List Dataset) (d : Dataset) → IsEnvelope (before ++ d ∷ ds)
-    → IsWithin limits (length (joined (before ++ d ∷ ds))) (length (before ++ d ∷ ds)) → add_fault limits before d ≡ None
+abbrev pub BuildersAcceptEnvelopes : Type 0
+BuildersAcceptEnvelopes = (limits : Limits) (before ds : List Dataset) (d : Dataset) → IsEnvelope (before ++ d ∷ ds)
+    → IsWithin limits (length (joined (before ++ d ∷ ds))) (length (before ++ d ∷ ds)) → added_field_fault limits before d ≡ None
 
 -- The lemmas on records, as one record: a field for each.
 pub record RecordLaws : Type 0 where
   -- when datasets are no longer a viable prefix, and for which cause:
-  pub heads_die_with_their_fault : HeadsDieWithTheirFault
-  pub values_die_with_their_fault : ValuesDieWithTheirFault
-  pub heads_tell_the_lowest_cause : HeadsTellTheLowestCause
-  pub values_tell_the_lowest_cause : ValuesTellTheLowestCause
+  pub heads_are_rejected_for_faults : HeadsAreRejectedForFaults
+  pub values_are_rejected_for_faults : ValuesAreRejectedForFaults
+  pub heads_report_the_lowest_cause : HeadsReportTheLowestCause
+  pub values_report_the_lowest_cause : ValuesReportTheLowestCause
   -- where the datasets of an envelope end:
   pub envelopes_end_with_the_last_record : EnvelopesEndWithTheLastRecord
-  pub no_sections_begin_others : NoSectionsBeginOthers
+  pub no_sections_are_a_prefix_of_others : NoSectionsAreAPrefixOfOthers
   -- the states of checks and builders:
-  pub datasets_lead_to_one_place : DatasetsLeadToOnePlace
-  pub datasets_of_envelopes_are_added : DatasetsOfEnvelopesAreAdded
+  pub datasets_determine_the_check : DatasetsDetermineTheCheck
+  pub builders_accept_envelopes : BuildersAcceptEnvelopes

@@ -4,10 +4,10 @@ use Rattle.std.specs.{Option.option_or, Ordering.eq_by_cmp}
 use Rattle.std.specs.Cmp.{IsEquivalence, IsTotalOrder, and_equiv, then_total, both_tied}
 use Rattle.std.specs.Cmp.Lexicographic.{on_texts, on_texts_equal, texts_ties}
 use Rattle.iim_dataset.specs.{Format.Datasets.Dataset, Format.Octets.Octets, declared.head.Head.Head}
-use Rattle.iim_fields.specs.States.Standing.{has_seen, HasChecked, IsChecking, begun_head, FieldsPlace, StandsAfter, StandsIn, AreFew}
+use Rattle.iim_fields.specs.States.Standing.{has_seen, HasChecked, IsChecking, current_head, FieldsPlace, HasReadDatasets, IsReadingDataset, FitAnyLimits}
 use Rattle.iim_fields.specs.Format.Causes.{head_fault, value_fault, FieldFault, missing_fault, missing_of, is_kept, Limits, joined, kept}
 use Rattle.iim_fields.specs.Format.Records.{data_of, Identity, id_eq, id_cmp, IsWithin, IsEnvelope}
-use Rattle.iim_fields.specs.StoreLayout.{store_room, fields_of, begun_octets, HasStored}
+use Rattle.iim_fields.specs.StoreLayout.{store_room, fields_of, current_octets, HasStored}
 use Rattle.iim_fields.specs.declared.{check.RecordPlace.RecordPlace, order.Order.Order, store.Store.Store}
 
 -- Some datasets reach the state, or some datasets and a head.
@@ -30,13 +30,13 @@ pub id_ties : (x y : Identity) → id_eq x y ≡ eq_by_cmp id_cmp x y
 id_ties x y = search (both_tied, texts_ties)
 
 -- A dataset with this head and these data has no fault in the state of the check.
-pub record MayTake (check : Option RecordPlace) (h : Head) (xs : List ℕ) : Type 0 where
+pub record MayAcceptDataset (check : Option RecordPlace) (h : Head) (xs : List ℕ) : Type 0 where
   pub count : h.count ≡ length xs
   pub octets : Octets xs
   pub fine : (place : RecordPlace) → check ≡ Some place → place_fault place h xs ≡ None
 
 -- The head is added: its number joins those of the current record, or is the first of the next.
-pub record AddsHead (old : Order) (h : Head) (new : Order) : Type 0 where
+pub record OrderAddsHead (old : Order) (h : Head) (new : Order) : Type 0 where
   pub rec : new.rec ≡ h.rec
   pub same : h.rec ≡ old.rec → new.seen ≡ slice_set old.seen h.set true
   pub next : h.rec ≢ old.rec → new.seen ≡ slice_set (replicate 256 false) h.set true
@@ -49,16 +49,16 @@ end_fault present has =
     else option_or (missing_fault 1 (missing_of 1 has)) (missing_fault 2 (missing_of 2 (λ _. false)))
 
 -- the view of a reader with this check, these limits, this store and these octets of a size
-abbrev pub place_of : Option RecordPlace → Limits → Store → List ℕ → FieldsPlace
-place_of check limits store size =
-    record { check = check; limits = limits; kept = fields_of store; taken = begun_octets store ++ size; room = store_room store }
+abbrev pub reader_view : Option RecordPlace → Limits → Store → List ℕ → FieldsPlace
+reader_view check limits store size =
+    record { check = check; limits = limits; kept = fields_of store; taken = current_octets store ++ size; room = store_room store }
 
 -- Some datasets reach the state, or some datasets, a head and some of its data.
-abbrev pub StandsSomewhere : FieldsPlace → Type 0
-StandsSomewhere fields = ((ds : List Dataset) × StandsAfter fields ds) ⊎ ((ds : List Dataset) × (h : Head) × (taken : List ℕ) × StandsIn fields ds h taken)
+abbrev pub IsReachedByDatasets : FieldsPlace → Type 0
+IsReachedByDatasets fields = ((ds : List Dataset) × HasReadDatasets fields ds) ⊎ ((ds : List Dataset) × (h : Head) × (taken : List ℕ) × IsReadingDataset fields ds h taken)
 
 -- The store has capacity for all that the limits, numbers of 32 bits, allow.
-pub record HasRoom (limits : Limits) (store : Store) : Type 0 where
+pub record StoreHasCapacity (limits : Limits) (store : Store) : Type 0 where
   pub small_octets : limits.octets < 2 ^ 32
   pub small_fields : limits.fields < 2 ^ 32
   pub octets : limits.octets ≤ store.octets.room
@@ -66,16 +66,16 @@ pub record HasRoom (limits : Limits) (store : Store) : Type 0 where
 
 -- Some datasets reach the state, or a call returned an error; and the octets of the dataset in
 -- progress are in the store if it will be stored, and otherwise in the size.
-pub record IsReading (check : Option RecordPlace) (limits : Limits) (store : Store) (size : List ℕ) : Type 0 where
-  pub room : HasRoom limits store
-  pub store_is : HasStored store (fields_of store) (begun_octets store)
-  pub stands : (check ≡ None) ⊎ StandsSomewhere (place_of check limits store size)
-  pub in_store : (h : Head) → begun_head check ≡ Some h → IsTrue (is_kept h.rec) → size ≡ []
-  pub in_size : (h : Head) → begun_head check ≡ Some h → is_kept h.rec ≡ false → begun_octets store ≡ []
+pub record IsReaderState (check : Option RecordPlace) (limits : Limits) (store : Store) (size : List ℕ) : Type 0 where
+  pub room : StoreHasCapacity limits store
+  pub store_is : HasStored store (fields_of store) (current_octets store)
+  pub stands : (check ≡ None) ⊎ IsReachedByDatasets (reader_view check limits store size)
+  pub in_store : (h : Head) → current_head check ≡ Some h → IsTrue (is_kept h.rec) → size ≡ []
+  pub in_size : (h : Head) → current_head check ≡ Some h → is_kept h.rec ≡ false → current_octets store ≡ []
 
 -- The check of the builder is in the state after the datasets that are stored, and these are all.
-pub record IsBuilding (check : Option RecordPlace) (limits : Limits) (store : Store) : Type 0 where
-  pub room : HasRoom limits store
+pub record IsBuilderState (check : Option RecordPlace) (limits : Limits) (store : Store) : Type 0 where
+  pub room : StoreHasCapacity limits store
   pub checked : HasChecked check (fields_of store)
   pub within : IsWithin limits (length (joined (fields_of store))) (length (fields_of store))
   pub holds : HasStored store (fields_of store) []
@@ -83,6 +83,6 @@ pub record IsBuilding (check : Option RecordPlace) (limits : Limits) (store : St
 
 -- the store has exactly the datasets of an envelope
 pub record IsEnvelopeStore (store : Store) : Type 0 where
-  pub few : AreFew (fields_of store)
+  pub few : FitAnyLimits (fields_of store)
   pub holds : HasStored store (fields_of store) []
   pub envelope : IsEnvelope (fields_of store)

@@ -6,9 +6,9 @@ use Rattle.iim_fields.specs.{Format.Causes.joined, States.Stores.Room, States.St
 use Rattle.iim_fields.specs.declared.store.{Entry.Entry, Store.Store}
 
 -- the entries end in order, within n octets after `from`
-abbrev pub is_sound : ℕ → List Entry → ℕ → Bool
-is_sound from [] n = true
-is_sound from (e ∷ es) n = nat_le from e.end && (nat_le (e.end - from) n && is_sound e.end es (n - (e.end - from)))
+abbrev pub entries_are_sound : ℕ → List Entry → ℕ → Bool
+entries_are_sound from [] n = true
+entries_are_sound from (e ∷ es) n = nat_le from e.end && (nat_le (e.end - from) n && entries_are_sound e.end es (n - (e.end - from)))
 
 -- the entries of datasets whose octets begin at `from`
 abbrev pub entries_of : ℕ → List Dataset → List Entry
@@ -36,8 +36,8 @@ ends_at from [] = from
 ends_at from (e ∷ es) = ends_at e.end es
 
 -- the octets of the dataset in progress: those after the stored ones
-abbrev pub begun_octets : Store → List ℕ
-begun_octets store = drop (ends_at 0 store.entries.items) store.octets.items
+abbrev pub current_octets : Store → List ℕ
+current_octets store = drop (ends_at 0 store.entries.items) store.octets.items
 
 -- whether each number from 0 to 255 is in the set, by its bit in words of 64
 unfoldable pub members : List ℕ → List Bool

@@ -1,7 +1,7 @@
 //! A builder of envelopes, dataset by dataset.
 
 ghost use Rattle.std.specs.Prelude.{◌≡◌, [], ◌∷◌, ◌++◌, Some, None, IfOk, IfErr, OnOk, OnErr};
-ghost use Rattle.iim_fields.specs.States.Standing.{add_fault, finish_fault, passed_by, IsCopyFault, room_for};
+ghost use Rattle.iim_fields.specs.States.Standing.{added_field_fault, missing_field_fault, limit_exceeded_by, IsCopyFault, room_for};
 
 use crate::check::RecordCheck;
 use crate::envelope::Envelope;
@@ -27,16 +27,16 @@ pub struct EnvelopeBuilder {
 }
 
 impl Model for EnvelopeBuilder {
-    ghost use Rattle.iim_fields.specs.States.Standing.{Building};
-    ghost use Rattle.iim_fields.specs.Steps.{IsBuilding};
+    ghost use Rattle.iim_fields.specs.States.Standing.{BuilderView};
+    ghost use Rattle.iim_fields.specs.Steps.{IsBuilderState};
     ghost use Rattle.iim_fields.specs.StoreLayout.{fields_of, store_room};
 
-    ghost Value = { Building };
+    ghost Value = { BuilderView };
 
     ghost view = { λ b. record
         { limits = b.limits; fields = fields_of b.store; room = store_room b.store } };
 
-    ghost invariant = { λ b. IsBuilding b.check b.limits b.store };
+    ghost invariant = { λ b. IsBuilderState b.check b.limits b.store };
 }
 
 impl EnvelopeBuilder {
@@ -68,7 +68,7 @@ impl EnvelopeBuilder {
     ) -> Result<EnvelopeBuilder, CopyFault>
         ensures copied { IfOk result (λ builder. builder
             ≡ record { limits = limits; fields = envelope.now; room = room_for limits }) }
-        ensures within { OnOk result (passed_by limits envelope.now ≡ None) }
+        ensures within { OnOk result (limit_exceeded_by limits envelope.now ≡ None) }
         ensures refused { IfErr result (λ fault. IsCopyFault limits envelope.now fault) }
     {
         record_laws();
@@ -89,7 +89,7 @@ impl EnvelopeBuilder {
     /// **Errors:** the first fault of its head after the datasets so far, or else that of its
     /// value. The builder is unchanged. Records other than 1 and 2 are out of order.
     pub fn add(&mut self, rec: u8, set: u8, octets: &[u8]) -> Result<(), FieldFault>
-        ensures admitted { OnOk result (add_fault self.old.limits self.old.fields record
+        ensures admitted { OnOk result (added_field_fault self.old.limits self.old.fields record
             { rec = rec; set = set; octets = octets.now } ≡ None) }
         ensures added { OnOk result (self.new
             ≡ record self.old {
@@ -97,7 +97,7 @@ impl EnvelopeBuilder {
                   ∷ [];
             }) }
         ensures fault { IfErr result (λ fault.
-            add_fault self.old.limits self.old.fields record { rec = rec; set = set; octets = octets.now }
+            added_field_fault self.old.limits self.old.fields record { rec = rec; set = set; octets = octets.now }
             ≡ Some fault) }
         ensures unchanged { OnErr result (self.new ≡ self.old) }
     {
@@ -127,9 +127,9 @@ impl EnvelopeBuilder {
     /// **Errors:** the builder as it was, and the first missing dataset: of record 1, or else of
     /// record 2.
     pub fn finish(self) -> Result<Envelope, (EnvelopeBuilder, FieldFault)>
-        ensures whole { OnOk result (finish_fault self.fields ≡ None) }
+        ensures whole { OnOk result (missing_field_fault self.fields ≡ None) }
         ensures envelope { IfOk result (λ envelope. envelope ≡ self.fields) }
-        ensures fault { IfErr result (λ refused. finish_fault self.fields ≡ Some refused.1) }
+        ensures fault { IfErr result (λ refused. missing_field_fault self.fields ≡ Some refused.1) }
         ensures unchanged { IfErr result (λ refused. refused.0 ≡ self) }
     {
         each_row_has_values();

@@ -6,9 +6,9 @@ ghost use Rattle.iim_dataset.specs.Format.Octets.{Octets};
 ghost use Rattle.iim_dataset.specs.Format.Datasets.{Dataset, head_of};
 ghost use Rattle.iim_dataset.specs.declared.head.Head.{Head as HeadValue};
 ghost use Rattle.iim_fields.specs.Format.Causes.{head_fault, section_after, record_fault, value_fault};
-ghost use Rattle.iim_fields.specs.States.Standing.{has_seen, Spells, begun_head, section_at, TakesHead, TakesValue, AwaitsHead, IsIn, HasChecked, IsChecking, HasTaken, IsRecordFault, IsValueFault, HasEnded};
-ghost use Rattle.iim_fields.specs.Steps.{AddsHead, end_fault, MayTake, place_fault, IsRecordPlace};
-ghost use Rattle.iim_fields.specs.Format.Records.{number_told, data_of};
+ghost use Rattle.iim_fields.specs.States.Standing.{has_seen, DatasetEncodesNumber, current_head, section_at, AcceptsHead, AcceptsValue, IsBetweenHeads, IsInDataset, HasChecked, IsChecking, HasAcceptedHead, IsRecordFault, IsValueFault, LastRecordHasEnded};
+ghost use Rattle.iim_fields.specs.Steps.{OrderAddsHead, end_fault, MayAcceptDataset, place_fault, IsRecordPlace};
+ghost use Rattle.iim_fields.specs.Format.Records.{encoded_number, data_of};
 ghost use Rattle.iim_fields.specs.declared.check.RecordPlace.{RecordPlace as PlaceValue};
 
 use crate::fault::FieldFault;
@@ -57,7 +57,7 @@ impl RecordPlace {
     fn whole(&mut self, head: Head, octets: &[u8]) -> bool
         requires { head.count ≡ length octets.now }
         ensures exactly { result ≡ is_none (place_fault self.old head octets.now) }
-        ensures took { IsTrue result → AddsHead self.old.order head self.new.order }
+        ensures took { IsTrue result → OrderAddsHead self.old.order head self.new.order }
         ensures begun { self.new.begun ≡ self.old.begun }
         ensures left { result ≡ false → self.new ≡ self.old }
     {
@@ -90,7 +90,7 @@ impl RecordPlace {
     fn whole_subfile(&mut self, head: Head) -> bool
         requires subfile { head.rec ≡ 8 }
         ensures exactly { result ≡ is_none (head_fault self.old.order.rec (has_seen self.old.order) head) }
-        ensures took { IsTrue result → AddsHead self.old.order head self.new.order }
+        ensures took { IsTrue result → OrderAddsHead self.old.order head self.new.order }
         ensures begun { self.new.begun ≡ self.old.begun }
         ensures left { result ≡ false → self.new ≡ self.old }
     {
@@ -103,8 +103,8 @@ impl RecordPlace {
 
     /// Accepts a head that may come next and has this row.
     #[inline(always)]
-    fn enter(&mut self, head: Head, row: Row)
-        ensures order { AddsHead self.old.order head self.new.order }
+    fn accept_head(&mut self, head: Head, row: Row)
+        ensures order { OrderAddsHead self.old.order head self.new.order }
         ensures begun { self.new.begun ≡ Some (record { head = head; row = row }) }
     {
         self.order.take(head);
@@ -132,8 +132,8 @@ impl Model for RecordCheck {
 impl RecordCheck {
     /// Creates a check at the beginning of an envelope.
     pub fn new() -> RecordCheck
-        ensures takes_head { TakesHead result }
-        ensures between { AwaitsHead result }
+        ensures takes_head { AcceptsHead result }
+        ensures between { IsBetweenHeads result }
         ensures stands { HasChecked result [] }
     {
         each_row_has_values();
@@ -184,7 +184,7 @@ impl RecordCheck {
     /// Returns the head of the dataset in progress.
     #[inline(always)]
     pub(crate) fn begun(&self) -> Option<Head>
-        ensures { result ≡ begun_head self.now }
+        ensures { result ≡ current_head self.now }
     {
         match &self.place {
             Some(
@@ -204,11 +204,11 @@ impl RecordCheck {
     /// prefix. The check has then failed.
     #[inline(always)]
     pub fn head(&mut self, head: Head) -> Result<(), FieldFault>
-        requires { TakesHead self.old }
-        ensures takes_value { OnOk result (head.rec ≢ 8 → TakesValue self.new head.count) }
-        ensures takes_head { OnOk result (head.rec ≡ 8 → TakesHead self.new) }
-        ensures inside { OnOk result (IsIn self.new head) }
-        ensures stands { OnOk result ((ds : List Dataset) → HasChecked self.old ds → HasTaken self.new ds head) }
+        requires { AcceptsHead self.old }
+        ensures takes_value { OnOk result (head.rec ≢ 8 → AcceptsValue self.new head.count) }
+        ensures takes_head { OnOk result (head.rec ≡ 8 → AcceptsHead self.new) }
+        ensures inside { OnOk result (IsInDataset self.new head) }
+        ensures stands { OnOk result ((ds : List Dataset) → HasChecked self.old ds → HasAcceptedHead self.new ds head) }
         ensures failed { OnErr result (self.new ≡ None) }
         ensures fault { IfErr result (λ fault. (ds : List Dataset) → HasChecked self.old ds
             → IsRecordFault ds head fault) }
@@ -217,7 +217,7 @@ impl RecordCheck {
         match &mut self.place {
             Some(place) => match place.order.check(head) {
                 Ok(row) => {
-                    place.enter(head, row);
+                    place.accept_head(head, row);
                     Ok(())
                 }
                 Err(fault) => {
@@ -233,14 +233,14 @@ impl RecordCheck {
     /// nothing changes.
     #[inline(always)]
     pub(crate) fn whole(&mut self, head: Head, octets: &[u8]) -> bool
-        requires between { AwaitsHead self.old }
+        requires between { IsBetweenHeads self.old }
         requires count { head.count ≡ length octets.now }
         ensures exactly { (ds : List Dataset) → HasChecked self.old ds
             → result ≡ is_none (option_or (record_fault ds head) (value_fault (data_of head octets.now))) }
         ensures took { IsTrue result → (ds : List Dataset) → HasChecked self.old ds
             → HasChecked self.new (ds ++ data_of head octets.now ∷ []) }
         ensures section { IsTrue result → section_at self.new ≡ head.rec }
-        ensures between { AwaitsHead self.new }
+        ensures between { IsBetweenHeads self.new }
         ensures left { result ≡ false → self.new ≡ self.old }
     {
         each_row_has_values();
@@ -254,9 +254,9 @@ impl RecordCheck {
     /// number.
     #[inline(always)]
     pub(crate) fn admits_number(&self, head: Head, number: u64) -> bool
-        requires between { AwaitsHead self.now }
+        requires between { IsBetweenHeads self.now }
         requires number { (head.rec ≡ 7) ⊎ (head.rec ≡ 9) }
-        ensures { (ds : List Dataset) (xs : List ℕ) → HasChecked self.now ds → Spells xs head number
+        ensures { (ds : List Dataset) (xs : List ℕ) → HasChecked self.now ds → DatasetEncodesNumber xs head number
             → result ≡ is_none (option_or (record_fault ds head) (value_fault (data_of head xs))) }
     {
         match &self.place {
@@ -268,12 +268,12 @@ impl RecordCheck {
     /// Accepts a complete dataset that is no subfile and may come next.
     #[inline(always)]
     pub(crate) fn put(&mut self, head: Head)
-        requires between { AwaitsHead self.old }
-        requires admitted { (xs : List ℕ) × MayTake self.old head xs }
-        ensures took { (xs : List ℕ) → MayTake self.old head xs → (ds : List Dataset) → HasChecked self.old ds
+        requires between { IsBetweenHeads self.old }
+        requires admitted { (xs : List ℕ) × MayAcceptDataset self.old head xs }
+        ensures took { (xs : List ℕ) → MayAcceptDataset self.old head xs → (ds : List Dataset) → HasChecked self.old ds
             → HasChecked self.new (ds ++ data_of head xs ∷ []) }
         ensures section { section_at self.new ≡ head.rec }
-        ensures between { AwaitsHead self.new }
+        ensures between { IsBetweenHeads self.new }
     {
         each_row_has_values();
         match &mut self.place {
@@ -286,13 +286,13 @@ impl RecordCheck {
     /// otherwise nothing changes.
     #[inline(always)]
     pub(crate) fn whole_subfile(&mut self, head: Head) -> bool
-        requires between { AwaitsHead self.old }
+        requires between { IsBetweenHeads self.old }
         requires subfile { head.rec ≡ 8 }
         ensures exactly { (ds : List Dataset) → HasChecked self.old ds → result ≡ is_none (record_fault ds head) }
         ensures took { IsTrue result → (ds : List Dataset) → HasChecked self.old ds → (d : Dataset) → head_of d ≡ head
             → Octets d.octets → HasChecked self.new (ds ++ d ∷ []) }
         ensures section { IsTrue result → section_at self.new ≡ head.rec }
-        ensures between { AwaitsHead self.new }
+        ensures between { IsBetweenHeads self.new }
         ensures left { result ≡ false → self.new ≡ self.old }
     {
         each_row_has_values();
@@ -309,11 +309,12 @@ impl RecordCheck {
     /// prefix. The check has then failed.
     #[inline(always)]
     pub fn value(&mut self, octets: &[u8]) -> Result<Option<u64>, FieldFault>
-        requires { TakesValue self.old (length octets.now) }
-        ensures takes_head { OnOk result (TakesHead self.new) }
-        ensures between { OnOk result (AwaitsHead self.new) }
+        requires { AcceptsValue self.old (length octets.now) }
+        ensures takes_head { OnOk result (AcceptsHead self.new) }
+        ensures between { OnOk result (IsBetweenHeads self.new) }
         ensures stands { IfOk result (λ number. (ds : List Dataset) (h : HeadValue) → IsChecking self.old ds h
-            → HasChecked self.new (ds ++ data_of h octets.now ∷ []) × (number ≡ number_told (data_of h octets.now))) }
+            → HasChecked self.new (ds ++ data_of h octets.now ∷ []) × (number ≡ encoded_number
+            (data_of h octets.now))) }
         ensures failed { OnErr result (self.new ≡ None) }
         ensures fault { IfErr result (λ fault. (ds : List Dataset) (h : HeadValue) → IsChecking self.old ds h
             → IsValueFault ds (data_of h octets.now) fault) }
@@ -339,8 +340,8 @@ impl RecordCheck {
 
     /// Ends a subfile.
     pub(crate) fn end_subfile(&mut self)
-        requires { TakesHead self.old }
-        ensures between { AwaitsHead self.new }
+        requires { AcceptsHead self.old }
+        ensures between { IsBetweenHeads self.new }
         ensures stands { (ds : List Dataset) → HasChecked self.old ds → HasChecked self.new ds }
     {
         if let Some(place) = &mut self.place {
@@ -350,7 +351,7 @@ impl RecordCheck {
 
     /// Checks whether the last dataset of an envelope, that of record 9, has ended.
     pub(crate) fn is_ended(&self) -> bool
-        ensures { IsTrue result ↔ HasEnded self.now }
+        ensures { IsTrue result ↔ LastRecordHasEnded self.now }
     {
         match &self.place {
             Some(RecordPlace { order, begun: None }) => order.present() == POST_OBJECT,

@@ -38,9 +38,9 @@ impl Envelope {
     ghost use Rattle.iim_tables.specs.Format.Dates.{is_date, year_in, month_in, day_in};
     ghost use Rattle.iim_fields.specs.States.Walks.{rest_of, data_left};
     ghost use Rattle.iim_fields.specs.Format.Records.{IsEnvelope, first_data, all_data, instant_sent, instant_of_release, instant_of_expiration};
-    ghost use Rattle.iim_fields.specs.States.Standing.{AreFew};
+    ghost use Rattle.iim_fields.specs.States.Standing.{FitAnyLimits};
     ghost use Rattle.iim_fields.specs.Format.Causes.{joined};
-    ghost use Rattle.iim_tables.specs.Format.Rows.{Meets};
+    ghost use Rattle.iim_tables.specs.Format.Rows.{OctetsMeetRow};
 
     /// Returns a borrowed view of the envelope.
     pub fn borrowed(&self) -> EnvelopeRef<'_>
@@ -61,7 +61,7 @@ impl Envelope {
     pub fn fields(&self) -> FieldIter<'_>
         ensures fields { rest_of result ≡ self.now }
         ensures envelope { IsEnvelope self.now }
-        ensures few { AreFew self.now }
+        ensures few { FitAnyLimits self.now }
     {
         self.borrowed().fields()
     }
@@ -70,7 +70,7 @@ impl Envelope {
     /// data meet the row of the dataset.
     pub fn first(&self, rec: u8, set: u8) -> Option<&[u8]>
         ensures data { option_map (λ x. x.now) result ≡ first_data rec set self.now }
-        ensures meets { IfSome result (λ x. Meets rec set x.now) }
+        ensures meets { IfSome result (λ x. OctetsMeetRow rec set x.now) }
     {
         self.borrowed().first(rec, set)
     }
@@ -90,7 +90,7 @@ impl Envelope {
     fn mandatory(&self, rec: u8, set: u8) -> &[u8]
         requires { (ds : List Dataset) → IsEnvelope ds → IsTrue (is_some (first_data rec set ds)) }
         ensures data { first_data rec set self.now ≡ Some result.now }
-        ensures meets { Meets rec set result.now }
+        ensures meets { OctetsMeetRow rec set result.now }
     {
         self.borrowed().mandatory(rec, set)
     }

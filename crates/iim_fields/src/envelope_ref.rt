@@ -39,14 +39,14 @@ impl<'a> EnvelopeRef<'a> {
     ghost use Rattle.iim_tables.specs.Format.Dates.{is_date, year_in, month_in, day_in};
     ghost use Rattle.iim_fields.specs.States.Walks.{rest_of};
     ghost use Rattle.iim_fields.specs.Format.Records.{IsEnvelope, first_data, instant_sent, instant_of_release, instant_of_expiration};
-    ghost use Rattle.iim_fields.specs.States.Standing.{AreFew};
-    ghost use Rattle.iim_tables.specs.Format.Rows.{Meets};
+    ghost use Rattle.iim_fields.specs.States.Standing.{FitAnyLimits};
+    ghost use Rattle.iim_tables.specs.Format.Rows.{OctetsMeetRow};
 
     /// Iterates over all datasets, in order: record, number and data of each.
     pub fn fields(&self) -> FieldIter<'a>
         ensures fields { rest_of result ≡ self.now }
         ensures envelope { IsEnvelope self.now }
-        ensures few { AreFew self.now }
+        ensures few { FitAnyLimits self.now }
     {
         FieldIter {
             from: 0,
@@ -59,7 +59,7 @@ impl<'a> EnvelopeRef<'a> {
     /// data meet the row of the dataset.
     pub fn first(&self, rec: u8, set: u8) -> Option<&'a [u8]>
         ensures data { option_map (λ x. x.now) result ≡ first_data rec set self.now }
-        ensures meets { IfSome result (λ x. Meets rec set x.now) }
+        ensures meets { IfSome result (λ x. OctetsMeetRow rec set x.now) }
     {
         let mut fields = self.fields();
         while let Some((field_rec, field_set, octets)) = fields.next() {
@@ -74,7 +74,7 @@ impl<'a> EnvelopeRef<'a> {
     pub(crate) fn mandatory(&self, rec: u8, set: u8) -> &'a [u8]
         requires { (ds : List Dataset) → IsEnvelope ds → IsTrue (is_some (first_data rec set ds)) }
         ensures data { first_data rec set self.now ≡ Some result.now }
-        ensures meets { Meets rec set result.now }
+        ensures meets { OctetsMeetRow rec set result.now }
     {
         // Reading a field makes the invariant of the type known here.
         let _ = &self.store;

@@ -3,7 +3,7 @@
 ghost use Rattle.std.specs.Prelude.{◌≡◌, ◌⊎◌, false, ◌+◌, ◌-◌, ◌≤◌, ◌<◌, ℕ, List, [], ◌∷◌, ◌++◌, length, is_none, Some, None, IfOk, IfErr, OnOk, OnErr, ◌↔◌, IsTrue, IsSome, IfSome};
 ghost use Rattle.iim_dataset.specs.Format.Datasets.{Dataset};
 ghost use Rattle.iim_dataset.specs.declared.head.Head.{Head as HeadValue};
-ghost use Rattle.iim_fields.specs.Format.Records.{AreSections, number_told, data_of};
+ghost use Rattle.iim_fields.specs.Format.Records.{AreSections, encoded_number, data_of};
 ghost use Rattle.std.specs.Option.{option_or};
 ghost use Rattle.iim_fields.specs.Format.Causes.{first_fault, is_kept, kept, room_fault, value_fault};
 ghost use Rattle.iim_fields.specs.States.Standing.{IsValueFault};
@@ -75,28 +75,28 @@ pub struct Fields {
 
 impl Model for Fields {
     ghost use Rattle.iim_fields.specs.States.Standing.{FieldsPlace};
-    ghost use Rattle.iim_fields.specs.Steps.{place_of, IsReading};
+    ghost use Rattle.iim_fields.specs.Steps.{reader_view, IsReaderState};
 
     ghost Value = { FieldsPlace };
 
-    ghost view = { λ f. place_of f.check f.limits f.store f.size.items };
+    ghost view = { λ f. reader_view f.check f.limits f.store f.size.items };
 
-    ghost invariant = { λ f. IsReading f.check f.limits f.store f.size.items };
+    ghost invariant = { λ f. IsReaderState f.check f.limits f.store f.size.items };
 }
 
 impl Fields {
     ghost use Rattle.iim_fields.specs.Format.Causes.{section_after};
     ghost use Rattle.iim_fields.specs.States.Walks.{rest_of};
-    ghost use Rattle.iim_fields.specs.States.Standing.{limits_of, room_of, section_of, begun_head_of, room_for, IsFailed, IsBetween, IsInside, CanTake, CanClose, StandsAfter, StandsIn, TookDataset, PassesSubfile, SameBounds, IsHeadFault, IsOf, IsEnded, Spells, Admits, add_fault};
+    ghost use Rattle.iim_fields.specs.States.Standing.{limits_of, reader_capacity, section_of, current_head_of, room_for, RecordReaderFailed, IsBetweenDatasets, IsInsideDataset, AcceptsData, AcceptsEnd, HasReadDatasets, IsReadingDataset, AcceptedDataset, AcceptedSubfile, HasSameBounds, IsHeadFault, IsDatasetOf, RecordReaderHasEnded, DatasetEncodesNumber, AdmitsDataset, added_field_fault};
 
     /// Creates a reader at the beginning of an envelope, with memory for exactly what the limits
     /// allow. No later call allocates.
     ///
     /// **Errors:** the allocation fails.
     pub fn new(alloc: Global, limits: Limits) -> Result<Fields, AllocError>
-        ensures stands { IfOk result (λ fields. StandsAfter fields []) }
+        ensures stands { IfOk result (λ fields. HasReadDatasets fields []) }
         ensures limits { IfOk result (λ fields. limits_of fields ≡ limits) }
-        ensures room { IfOk result (λ fields. room_of fields ≡ room_for limits) }
+        ensures room { IfOk result (λ fields. reader_capacity fields ≡ room_for limits) }
     {
         let store = Store::new(alloc, limits.octets as usize, limits.fields as usize)?;
         Ok(Fields {
@@ -110,8 +110,8 @@ impl Fields {
     /// Resets the reader to the beginning of an envelope, with the same memory and the same limits,
     /// whatever was read or rejected before. It does not allocate.
     pub fn again(&mut self)
-        ensures stands { StandsAfter self.new [] }
-        ensures bounds { SameBounds self.old self.new }
+        ensures stands { HasReadDatasets self.new [] }
+        ensures bounds { HasSameBounds self.old self.new }
     {
         self.store.empty();
         self.size.clear();
@@ -127,7 +127,7 @@ impl Fields {
 
     /// Checks whether a call returned an error.
     pub fn is_failed(&self) -> bool
-        ensures { IsTrue result ↔ IsFailed self.now }
+        ensures { IsTrue result ↔ RecordReaderFailed self.now }
     {
         self.check.is_failed()
     }
@@ -137,8 +137,8 @@ impl Fields {
     #[inline(always)]
     pub fn section(&self) -> u8
         ensures section { result ≡ section_of self.now }
-        ensures after { (ds : List Dataset) → StandsAfter self.now ds → result ≡ section_after ds }
-        ensures inside { (ds : List Dataset) (h : HeadValue) (taken : List ℕ) → StandsIn self.now ds h taken
+        ensures after { (ds : List Dataset) → HasReadDatasets self.now ds → result ≡ section_after ds }
+        ensures inside { (ds : List Dataset) (h : HeadValue) (taken : List ℕ) → IsReadingDataset self.now ds h taken
             → result ≡ h.rec }
     {
         self.check.section()
@@ -147,10 +147,10 @@ impl Fields {
     /// Returns the head of the dataset in progress; `None` between datasets, at the beginning of an
     /// envelope, and after an error.
     #[inline(always)]
-    pub fn begun_head(&self) -> Option<Head>
-        ensures head { result ≡ begun_head_of self.now }
-        ensures after { (ds : List Dataset) → StandsAfter self.now ds → result ≡ None }
-        ensures inside { (ds : List Dataset) (h : HeadValue) (taken : List ℕ) → StandsIn self.now ds h taken
+    pub fn current_head(&self) -> Option<Head>
+        ensures head { result ≡ current_head_of self.now }
+        ensures after { (ds : List Dataset) → HasReadDatasets self.now ds → result ≡ None }
+        ensures inside { (ds : List Dataset) (h : HeadValue) (taken : List ℕ) → IsReadingDataset self.now ds h taken
             → result ≡ Some h }
     {
         self.check.begun()
@@ -159,7 +159,7 @@ impl Fields {
     /// Returns the octets received of the dataset in progress. The octets of a subfile do not pass
     /// through this reader. The reader must not have failed.
     pub fn begun(&self) -> &[u8]
-        requires { IsFailed self.now → ⊥ }
+        requires { RecordReaderFailed self.now → ⊥ }
         ensures { result.now ≡ self.now.taken }
     {
         match self.check.begun() {
@@ -185,13 +185,14 @@ impl Fields {
     /// limit is exceeded. The reader has then failed.
     #[inline(always)]
     pub fn begin(&mut self, head: Head) -> Result<(), FieldFault>
-        requires { IsBetween self.old }
-        ensures inside { OnOk result (IsInside self.new head head.count) }
-        ensures stands { OnOk result ((ds : List Dataset) → StandsAfter self.old ds → StandsIn self.new ds head []) }
-        ensures failed { OnErr result (IsFailed self.new) }
-        ensures fault { IfErr result (λ fault. (ds : List Dataset) → StandsAfter self.old ds
+        requires { IsBetweenDatasets self.old }
+        ensures inside { OnOk result (IsInsideDataset self.new head head.count) }
+        ensures stands { OnOk result ((ds : List Dataset) → HasReadDatasets self.old ds
+            → IsReadingDataset self.new ds head []) }
+        ensures failed { OnErr result (RecordReaderFailed self.new) }
+        ensures fault { IfErr result (λ fault. (ds : List Dataset) → HasReadDatasets self.old ds
             → IsHeadFault (limits_of self.old) ds head fault) }
-        ensures bounds { SameBounds self.old self.new }
+        ensures bounds { HasSameBounds self.old self.new }
     {
         self.check.head(head)?;
         let octets = self.store.octets.len();
@@ -208,15 +209,15 @@ impl Fields {
     /// fault.
     #[inline(always)]
     pub fn whole(&mut self, head: Head, octets: &[u8]) -> bool
-        requires between { IsBetween self.old }
+        requires between { IsBetweenDatasets self.old }
         requires count { head.count ≡ length octets.now }
-        ensures exactly { (ds : List Dataset) → StandsAfter self.old ds
-            → result ≡ is_none (add_fault (limits_of self.old) ds (data_of head octets.now)) }
+        ensures exactly { (ds : List Dataset) → HasReadDatasets self.old ds
+            → result ≡ is_none (added_field_fault (limits_of self.old) ds (data_of head octets.now)) }
         ensures kept { IsTrue result → IsTrue (is_kept head.rec) }
-        ensures took { IsTrue result → TookDataset self.old head octets.now self.new }
-        ensures between { IsBetween self.new }
+        ensures took { IsTrue result → AcceptedDataset self.old head octets.now self.new }
+        ensures between { IsBetweenDatasets self.new }
         ensures left { result ≡ false → self.new ≡ self.old }
-        ensures bounds { SameBounds self.old self.new }
+        ensures bounds { HasSameBounds self.old self.new }
     {
         if !is_kept(head.rec) {
             return false;
@@ -238,10 +239,11 @@ impl Fields {
     /// those calls return the fault.
     #[inline(always)]
     pub fn admits_number(&self, head: Head, number: u64) -> bool
-        requires between { IsBetween self.now }
+        requires between { IsBetweenDatasets self.now }
         requires number { (head.rec ≡ 7) ⊎ (head.rec ≡ 9) }
-        requires spelled { (octets : List ℕ) × Spells octets head number }
-        ensures exactly { (ds : List Dataset) (octets : List ℕ) → StandsAfter self.now ds → Spells octets head number
+        requires spelled { (octets : List ℕ) × DatasetEncodesNumber octets head number }
+        ensures exactly { (ds : List Dataset) (octets : List ℕ) → HasReadDatasets self.now ds
+            → DatasetEncodesNumber octets head number
             → result ≡ is_none (option_or (first_fault (limits_of self.now) ds head)
             (value_fault (data_of head octets))) }
     {
@@ -252,12 +254,13 @@ impl Fields {
     /// `bytes` and `close` do. It must be one for which `admits_number` returns true.
     #[inline(always)]
     pub fn put_number(&mut self, head: Head)
-        requires between { IsBetween self.old }
+        requires between { IsBetweenDatasets self.old }
         requires number { (head.rec ≡ 7) ⊎ (head.rec ≡ 9) }
-        requires admitted { (octets : List ℕ) × Admits self.old head octets }
-        ensures took { (octets : List ℕ) → Admits self.old head octets → TookDataset self.old head octets self.new }
-        ensures between { IsBetween self.new }
-        ensures bounds { SameBounds self.old self.new }
+        requires admitted { (octets : List ℕ) × AdmitsDataset self.old head octets }
+        ensures took { (octets : List ℕ) → AdmitsDataset self.old head octets
+            → AcceptedDataset self.old head octets self.new }
+        ensures between { IsBetweenDatasets self.new }
+        ensures bounds { HasSameBounds self.old self.new }
     {
         self.check.put(head);
     }
@@ -267,15 +270,15 @@ impl Fields {
     /// fault.
     #[inline(always)]
     pub fn whole_subfile(&mut self, head: Head) -> bool
-        requires between { IsBetween self.old }
+        requires between { IsBetweenDatasets self.old }
         requires subfile { head.rec ≡ 8 }
-        ensures exactly { (ds : List Dataset) → StandsAfter self.old ds
+        ensures exactly { (ds : List Dataset) → HasReadDatasets self.old ds
             → result ≡ is_none (first_fault (limits_of self.old) ds head) }
         ensures section { IsTrue result → section_of self.new ≡ head.rec }
-        ensures passes { IsTrue result → PassesSubfile self.old head self.new }
-        ensures between { IsBetween self.new }
+        ensures passes { IsTrue result → AcceptedSubfile self.old head self.new }
+        ensures between { IsBetweenDatasets self.new }
         ensures left { result ≡ false → self.new ≡ self.old }
-        ensures bounds { SameBounds self.old self.new }
+        ensures bounds { HasSameBounds self.old self.new }
     {
         self.check.whole_subfile(head)
     }
@@ -284,11 +287,12 @@ impl Fields {
     /// the count of the head. Do not call it for a subfile, 8:10, whose data belong to the object.
     #[inline(always)]
     pub fn bytes(&mut self, octets: &[u8])
-        requires { CanTake self.old (length octets.now) }
-        ensures inside { (h : HeadValue) (n : ℕ) → IsInside self.old h n → IsInside self.new h (n - length octets.now) }
-        ensures stands { (ds : List Dataset) (h : HeadValue) (taken : List ℕ) → StandsIn self.old ds h taken
-            → StandsIn self.new ds h (taken ++ octets.now) }
-        ensures bounds { SameBounds self.old self.new }
+        requires { AcceptsData self.old (length octets.now) }
+        ensures inside { (h : HeadValue) (n : ℕ) → IsInsideDataset self.old h n → IsInsideDataset self.new h
+            (n - length octets.now) }
+        ensures stands { (ds : List Dataset) (h : HeadValue) (taken : List ℕ) → IsReadingDataset self.old ds h taken
+            → IsReadingDataset self.new ds h (taken ++ octets.now) }
+        ensures bounds { HasSameBounds self.old self.new }
     {
         each_row_has_values();
         let Some(head) = self.check.begun() else {
@@ -307,16 +311,17 @@ impl Fields {
     /// prefix. The reader has then failed.
     #[inline(always)]
     pub fn close(&mut self) -> Result<Option<u64>, FieldFault>
-        requires { CanClose self.old }
-        ensures between { OnOk result (IsBetween self.new) }
+        requires { AcceptsEnd self.old }
+        ensures between { OnOk result (IsBetweenDatasets self.new) }
         ensures stands { IfOk result (λ number. (ds : List Dataset) (h : HeadValue) (taken : List ℕ)
-            → StandsIn self.old ds h taken
-            → (d : Dataset) → IsOf h taken d → StandsAfter self.new (ds ++ d ∷ []) × (number ≡ number_told d)) }
-        ensures failed { OnErr result (IsFailed self.new) }
+            → IsReadingDataset self.old ds h taken
+            → (d : Dataset) → IsDatasetOf h taken d → HasReadDatasets self.new (ds ++ d ∷ []) × (number
+            ≡ encoded_number d)) }
+        ensures failed { OnErr result (RecordReaderFailed self.new) }
         ensures fault { IfErr result (λ fault. (ds : List Dataset) (h : HeadValue) (taken : List ℕ)
-            → StandsIn self.old ds h taken
+            → IsReadingDataset self.old ds h taken
             → IsValueFault ds (data_of h taken) fault) }
-        ensures bounds { SameBounds self.old self.new }
+        ensures bounds { HasSameBounds self.old self.new }
     {
         let Some(head) = self.check.begun() else {
             unreachable!()
@@ -338,9 +343,9 @@ impl Fields {
     /// Returns a borrowed view of the stored envelope, if 9:10 has ended and no call returned an
     /// error.
     pub fn envelope(&self) -> Option<EnvelopeRef<'_>>
-        ensures ended { IsSome result ↔ IsEnded self.now }
-        ensures whole { (ds : List Dataset) → StandsAfter self.now ds → IsSome result ↔ AreSections ds }
-        ensures envelope { IfSome result (λ envelope. (ds : List Dataset) → StandsAfter self.now ds → envelope
+        ensures ended { IsSome result ↔ RecordReaderHasEnded self.now }
+        ensures whole { (ds : List Dataset) → HasReadDatasets self.now ds → IsSome result ↔ AreSections ds }
+        ensures envelope { IfSome result (λ envelope. (ds : List Dataset) → HasReadDatasets self.now ds → envelope
             ≡ kept ds) }
     {
         if !self.check.is_ended() {
@@ -352,12 +357,13 @@ impl Fields {
     /// Returns the stored envelope, if 9:10 has ended and no call returned an error. Otherwise
     /// returns the reader as it was.
     pub fn into_envelope(self) -> Result<Envelope, Fields>
-        ensures ended { OnOk result (IsEnded self) }
-        ensures whole { OnOk result ((ds : List Dataset) → StandsAfter self ds → AreSections ds) }
-        ensures envelope { IfOk result (λ envelope. (ds : List Dataset) → StandsAfter self ds → envelope ≡ kept ds) }
-        ensures not_ended { OnErr result (IsEnded self → ⊥) }
-        ensures refused { OnErr result ((ds : List Dataset) → StandsAfter self ds → AreSections ds → ⊥) }
-        ensures handed_back { IfErr result (λ fields. fields ≡ self) }
+        ensures ended { OnOk result (RecordReaderHasEnded self) }
+        ensures whole { OnOk result ((ds : List Dataset) → HasReadDatasets self ds → AreSections ds) }
+        ensures envelope { IfOk result (λ envelope. (ds : List Dataset) → HasReadDatasets self ds → envelope
+            ≡ kept ds) }
+        ensures not_ended { OnErr result (RecordReaderHasEnded self → ⊥) }
+        ensures refused { OnErr result ((ds : List Dataset) → HasReadDatasets self ds → AreSections ds → ⊥) }
+        ensures returned_unchanged { IfErr result (λ fields. fields ≡ self) }
     {
         if !self.check.is_ended() {
             return Err(self);

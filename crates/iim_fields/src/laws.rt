@@ -15,6 +15,6 @@ pub fn record_laws()
 }
 
 /// Proves that [`Limits::WIRE`] are 65,536 octets in 512 datasets.
-pub fn wire_limits_are_told()
+pub fn wire_limits_are_stated()
     ensures { Limits.WIRE ≡ wire_limits }
 {}

@@ -1,7 +1,7 @@
 //! Limits on the stored data of records 1 and 2.
 
 ghost use Rattle.std.specs.Prelude.{◌≡◌};
-ghost use Rattle.iim_fields.specs.Format.Causes.{limit_passed};
+ghost use Rattle.iim_fields.specs.Format.Causes.{limit_exceeded};
 
 use crate::fault::FieldCause;
 
@@ -24,7 +24,7 @@ impl Limits {
     /// Returns the first limit that a total of `octets` octets and `fields` datasets exceeds:
     /// `HeaderFull`, or else `TooManyFields`.
     pub fn passed(self, octets: u64, fields: u64) -> Option<FieldCause>
-        ensures { result ≡ limit_passed self octets fields }
+        ensures { result ≡ limit_exceeded self octets fields }
     {
         if octets > u64::from(self.octets) {
             return Some(FieldCause::HeaderFull);

@@ -7,7 +7,7 @@ ghost use Rattle.iim_tables.specs.Format.Rows.{row_of};
 ghost use Rattle.iim_fields.specs.Format.Causes.{head_fault, row_fault, missing_of, missing_fault, is_in_order, is_first};
 ghost use Rattle.iim_fields.specs.Format.Records.{after};
 ghost use Rattle.iim_fields.specs.States.Standing.{has_seen};
-ghost use Rattle.iim_fields.specs.Steps.{AddsHead, end_fault};
+ghost use Rattle.iim_fields.specs.Steps.{OrderAddsHead, end_fault};
 
 use crate::fault::{FieldCause, FieldFault};
 use crate::number_set::NumberSet;
@@ -36,7 +36,7 @@ pub(crate) fn fault_on(head: Head, cause: FieldCause) -> FieldFault
     }
 }
 
-fn missing_on(rec: u8, set: u8) -> FieldFault
+fn missing_fault_on(rec: u8, set: u8) -> FieldFault
     ensures { result ≡ record { rec = rec; set = set; cause = FieldCause.Missing } }
 {
     FieldFault {
@@ -50,7 +50,7 @@ fn missing_on(rec: u8, set: u8) -> FieldFault
 fn no_application() -> Option<FieldFault>
     ensures { result ≡ missing_fault 2 (missing_of 2 (λ _. false)) }
 {
-    Some(missing_on(APPLICATION, 0))
+    Some(missing_fault_on(APPLICATION, 0))
 }
 
 /// Returns the first fault of a head by its row.
@@ -150,7 +150,7 @@ impl Order {
         ensures { result ≡ missing_fault rec (missing_of rec (has_seen self.now)) }
     {
         match self.missing(rec) {
-            Some(set) => Some(missing_on(rec, set)),
+            Some(set) => Some(missing_fault_on(rec, set)),
             None => None,
         }
     }
@@ -250,7 +250,7 @@ impl Order {
 
     /// Checks whether a subfile may come next.
     #[inline(always)]
-    fn takes_subfile(&self) -> bool
+    fn subfile_may_follow(&self) -> bool
         ensures { result ≡ (self.now.rec == 8 || (self.now.rec == 7 && is_none (missing_of 7 (has_seen self.now)))) }
     {
         match self.rec {
@@ -267,14 +267,14 @@ impl Order {
         requires { head.rec ≡ 8 }
         ensures { result ≡ is_none (head_fault self.now.rec (has_seen self.now) head) }
     {
-        is_subfile(head) && self.takes_subfile()
+        is_subfile(head) && self.subfile_may_follow()
     }
 
     /// Accepts a head of the current record that may come next.
     #[inline(always)]
     pub(crate) fn add(&mut self, head: Head)
         requires { head.rec ≡ self.old.rec }
-        ensures { AddsHead self.old head self.new }
+        ensures { OrderAddsHead self.old head self.new }
     {
         self.seen.insert(head.set);
     }
@@ -283,7 +283,7 @@ impl Order {
     #[inline(always)]
     pub(crate) fn begin(&mut self, head: Head)
         requires { head.rec ≢ self.old.rec }
-        ensures { AddsHead self.old head self.new }
+        ensures { OrderAddsHead self.old head self.new }
     {
         self.rec = head.rec;
         self.seen = NumberSet::new();
@@ -293,7 +293,7 @@ impl Order {
     /// Accepts a head that may come next.
     #[inline(always)]
     pub(crate) fn take(&mut self, head: Head)
-        ensures { AddsHead self.old head self.new }
+        ensures { OrderAddsHead self.old head self.new }
     {
         if head.rec == self.rec {
             self.add(head);

@@ -1,7 +1,7 @@
 //! The store of datasets: their octets in one buffer, and an entry for each.
 
 ghost use Rattle.std.specs.Prelude.{◌≡◌, ◌+◌, ◌≤◌, ◌<◌, ◌++◌, ◌∷◌, [], IfOk, length, vec_len, vec_capacity};
-ghost use Rattle.iim_fields.specs.StoreLayout.{ends_at, begun_octets};
+ghost use Rattle.iim_fields.specs.StoreLayout.{ends_at, current_octets};
 
 use iim_dataset::internals::ReservedOctets;
 use std::alloc::{AllocError, Global};
@@ -81,7 +81,7 @@ impl Store {
     #[inline(always)]
     pub(crate) fn begun(&self) -> &[u8]
         requires { ends_at 0 self.now.entries.items ≤ length self.now.octets.items }
-        ensures { result.now ≡ begun_octets self.now }
+        ensures { result.now ≡ current_octets self.now }
     {
         &self.octets.as_slice()[self.end()..]
     }

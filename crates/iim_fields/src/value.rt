@@ -7,7 +7,7 @@ ghost use Rattle.std.specs.Int.{IsInRange};
 ghost use Rattle.iim_dataset.specs.Format.Octets.{greatest_size};
 ghost use Rattle.iim_tables.specs.Format.Kinds.{size_octets, has_kind};
 ghost use Rattle.iim_tables.specs.Format.Records.{has_file_format};
-ghost use Rattle.iim_fields.specs.Format.Records.{data_of, number_told, tells_number};
+ghost use Rattle.iim_fields.specs.Format.Records.{data_of, encoded_number, has_number_value};
 
 use crate::fault::{FieldCause, FieldFault};
 use crate::order::fault_on;
@@ -94,9 +94,9 @@ pub(crate) fn is_number(head: Head, number: u64) -> bool
 
 /// Returns the number that a value of record 7 or 9 encodes.
 #[inline(always)]
-fn number_told(head: Head, octets: &[u8]) -> Option<u64>
-    requires { IsTrue (tells_number head.rec) → IsInRange 1 size_octets (length octets.now) }
-    ensures { result ≡ number_told (data_of head octets.now) }
+fn encoded_number(head: Head, octets: &[u8]) -> Option<u64>
+    requires { IsTrue (has_number_value head.rec) → IsInRange 1 size_octets (length octets.now) }
+    ensures { result ≡ encoded_number (data_of head octets.now) }
 {
     match head.rec {
         PRE_OBJECT | POST_OBJECT => number_of(octets),
@@ -110,12 +110,12 @@ fn number_told(head: Head, octets: &[u8]) -> Option<u64>
 #[inline(always)]
 pub(crate) fn check_value(head: Head, row: &Row, octets: &[u8]) -> Result<Option<u64>, FieldFault>
     requires { row_of head.rec head.set ≡ Some row.now }
-    ensures number { IfOk result (λ number. number ≡ number_told (data_of head octets.now)) }
+    ensures number { IfOk result (λ number. number ≡ encoded_number (data_of head octets.now)) }
     ensures ok { OnOk result (value_fault (data_of head octets.now) ≡ None) }
     ensures fault { IfErr result (λ fault. value_fault (data_of head octets.now) ≡ Some fault) }
 {
     if let Some(fault) = value_fault(head, row, octets) {
         return Err(fault);
     }
-    Ok(number_told(head, octets))
+    Ok(encoded_number(head, octets))
 }

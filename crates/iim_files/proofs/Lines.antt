@@ -6,14 +6,14 @@ use Rattle.iim_dataset.specs.Format.Octets.{lf}
 use Rattle.iim_files.specs.Format.{begins_line, front, prefixed}
 use Rattle.iim_files.specs.States.Lines.{before, own, seen_octets, stripped, text_of}
 
-pub begins_joined : (fresh : Bool) (xs ys : List ℕ) → begins_line fresh (xs ++ ys) ≡ begins_line (begins_line fresh xs) ys
-begins_joined fresh [] ys = refl
-begins_joined fresh (x ∷ xs) ys = begins_joined (x == lf) xs ys
+pub begins_line-append : (fresh : Bool) (xs ys : List ℕ) → begins_line fresh (xs ++ ys) ≡ begins_line (begins_line fresh xs) ys
+begins_line-append fresh [] ys = refl
+begins_line-append fresh (x ∷ xs) ys = begins_line-append (x == lf) xs ys
 
-pub prefixed_joined : (p : List ℕ) (fresh : Bool) (xs ys : List ℕ) → prefixed p fresh (xs ++ ys) ≡ prefixed p fresh xs ++ prefixed p (begins_line fresh xs) ys
-prefixed_joined p fresh [] ys = refl
-prefixed_joined p fresh (x ∷ xs) ys =
-    rw (prefixed_joined p (x == lf) xs ys, append_assoc (front p fresh) (x ∷ prefixed p (x == lf) xs) (prefixed p (begins_line (x == lf) xs) ys)) refl
+pub prefixed-append : (p : List ℕ) (fresh : Bool) (xs ys : List ℕ) → prefixed p fresh (xs ++ ys) ≡ prefixed p fresh xs ++ prefixed p (begins_line fresh xs) ys
+prefixed-append p fresh [] ys = refl
+prefixed-append p fresh (x ∷ xs) ys =
+    rw (prefixed-append p (x == lf) xs ys, append_assoc (front p fresh) (x ∷ prefixed p (x == lf) xs) (prefixed p (begins_line (x == lf) xs) ys)) refl
 
 -- ---- the text of lines with a prefix
 
@@ -39,18 +39,18 @@ text_back p false (x ∷ text) tail e = ap (λ t. x ∷ t) (text_back p (x == lf
 
 -- ---- laying out lines, octet by octet
 
-pub laid_more : (p : List ℕ) (fresh : Bool) (xs : List ℕ) (i : ℕ) → i < length xs
+pub prefixed-push : (p : List ℕ) (fresh : Bool) (xs : List ℕ) (i : ℕ) → i < length xs
     → prefixed p fresh (take (i + 1) xs) ≡ (prefixed p fresh (take i xs) ++ front p (begins_line fresh (take i xs))) ++ (get_or xs i 0 ∷ [])
-laid_more p fresh xs i lt =
+prefixed-push p fresh xs i lt =
     let next = get_or xs i 0 ∷ [] in
     rw (
       take_more xs i 0 lt,
-      prefixed_joined p fresh (take i xs) next,
+      prefixed-append p fresh (take i xs) next,
       append_assoc (prefixed p fresh (take i xs)) (front p (begins_line fresh (take i xs))) next,
     ) refl
 
 pub begins_more : (fresh : Bool) (xs : List ℕ) (i : ℕ) → i < length xs → begins_line fresh (take (i + 1) xs) ≡ (get_or xs i 0 == lf)
-begins_more fresh xs i lt = rw (take_more xs i 0 lt, begins_joined fresh (take i xs) (get_or xs i 0 ∷ [])) refl
+begins_more fresh xs i lt = rw (take_more xs i 0 lt, begins_line-append fresh (take i xs) (get_or xs i 0 ∷ [])) refl
 
 pub take_past : (a : List ℕ) (x : ℕ) (ys : List ℕ) (n : ℕ) → length a < n → take n (a ++ (x ∷ ys)) ≡ a ++ (x ∷ take (n - (length a + 1)) ys)
 take_past [] x ys zero lt = absurd (omega (arith, lt))
@@ -81,7 +81,7 @@ pub whole_more : (p : List ℕ) (fresh begins : Bool) (xs : List ℕ) (i left : 
 whole_more p fresh begins xs i left all lt is past parts =
     let rest = prefixed p (get_or xs i 0 == lf) (drop (i + 1) xs) in
     let next = get_or xs i 0 ∷ [] in
-    let more : prefixed p fresh (take (i + 1) xs) ≡ (prefixed p fresh (take i xs) ++ front p begins) ++ next = rw is (laid_more p fresh xs i lt) in
+    let more : prefixed p fresh (take (i + 1) xs) ≡ (prefixed p fresh (take i xs) ++ front p begins) ++ next = rw is (prefixed-push p fresh xs i lt) in
     parts ∙ ap (λ t. prefixed p fresh (take i xs) ++ t) (ap (take left) (rest_at p begins xs i lt) ∙ take_past (front p begins) (get_or xs i 0) rest left past)
     ∙ three_joined (prefixed p fresh (take i xs)) (front p begins) (get_or xs i 0) (take (left - (length (front p begins) + 1)) rest)
     ∙ ap (λ t. t ++ take (left - (length (front p begins) + 1)) rest) (sym more)

@@ -7,11 +7,11 @@ use Rattle.std.proofs.lemmas.List.{drop-append-le, drop_all, length-take-le, tak
 use Rattle.std.proofs.lemmas.Slice.Eq.{bytes_eq-Decides}
 use mathlib.Core.Bool.{beq}
 use Rattle.iim_files.specs.Format.{begins_line, prefixed}
-use Rattle.iim_files.specs.States.Lines.{before, is_laid, own, seen_octets, ended, seen_of, started, stripped, text_of}
-use Rattle.iim_files.specs.States.Seen.{IsParted, IsWritten}
+use Rattle.iim_files.specs.States.Lines.{before, is_prefixed_text, own, seen_octets, ended, text_seen_of, started, stripped, text_of}
+use Rattle.iim_files.specs.States.Seen.{IsReturnedOutput, IsPrefixedOutput}
 use Rattle.iim_dataset.specs.Format.Octets.{lf}
-use Rattle.iim_dataset.specs.Steps.{same_front}
-use Rattle.iim_files.proofs.Lines.{begins_joined, none_left, prefixed_joined, skip_at, text_back}
+use Rattle.iim_dataset.specs.Steps.{append_cancel_same_length}
+use Rattle.iim_files.proofs.Lines.{begins_line-append, none_left, prefixed-append, skip_at, text_back}
 
 and_parts : (a b : Bool) → (a && b) ≡ true → (a ≡ true) × (b ≡ true)
 and_parts true b e = (refl, e)
@@ -33,13 +33,13 @@ beq_same false true e = e
 beq_same false false e = refl
 
 -- what the test for prefixed lines implies
-pub record Laid (p : List ℕ) (count cut : ℕ) (fresh broken : Bool) (octets : List ℕ) : Type 0 where
+pub record IsPrefixedText (p : List ℕ) (count cut : ℕ) (fresh broken : Bool) (octets : List ℕ) : Type 0 where
   pub own_is : own count octets ≡ prefixed p true (text_of (length p) count octets) ++ take cut p
   pub begins : fresh ≡ begins_line true (text_of (length p) count octets)
   pub whole : (broken || cut == 0) ≡ true
 
-pub laid_of : (p : List ℕ) (count cut : ℕ) (fresh broken : Bool) (octets : List ℕ) → is_laid p count cut fresh broken octets ≡ true
-    → Laid p count cut fresh broken octets
+pub laid_of : (p : List ℕ) (count cut : ℕ) (fresh broken : Bool) (octets : List ℕ) → is_prefixed_text p count cut fresh broken octets ≡ true
+    → IsPrefixedText p count cut fresh broken octets
 laid_of p count cut fresh broken octets e =
     let text = text_of (length p) count octets in
     let same = bytes_eq (own count octets) (prefixed p true text ++ take cut p) in
@@ -51,8 +51,8 @@ laid_of p count cut fresh broken octets e =
       whole = second.1;
     }
 
-pub is_laid_of : (p : List ℕ) (count cut : ℕ) (fresh broken : Bool) (octets : List ℕ) → Laid p count cut fresh broken octets
-    → is_laid p count cut fresh broken octets ≡ true
+pub is_laid_of : (p : List ℕ) (count cut : ℕ) (fresh broken : Bool) (octets : List ℕ) → IsPrefixedText p count cut fresh broken octets
+    → is_prefixed_text p count cut fresh broken octets ≡ true
 is_laid_of p count cut fresh broken octets l =
     let text = text_of (length p) count octets in
     and_both (bytes_eq (own count octets) (prefixed p true text ++ take cut p)) (beq fresh (begins_line true text) && (broken || cut == 0))
@@ -78,44 +78,45 @@ tail_none p (suc cut) fresh at =
     rw e (none_left (length p) (length p) (take (suc cut) p) (omega (arith, length-take (suc cut) p)))
 
 -- what is written: a text, and a part of the prefix after it
-pub record GoesOut (p : List ℕ) (fresh : Bool) (text : List ℕ) (cut : ℕ) (out : List ℕ) : Type 0 where
+pub record IsWrittenWithPrefix (p : List ℕ) (fresh : Bool) (text : List ℕ) (cut : ℕ) (out : List ℕ) : Type 0 where
   pub is : out ≡ prefixed p fresh text ++ take cut p
   pub at : 0 < cut → begins_line fresh text ≡ true
 
 -- the octets that it has written then, and their text
-pub own_grown : (p : List ℕ) (count : ℕ) (fresh broken : Bool) (octets text : List ℕ) (cut : ℕ) (out : List ℕ) → Laid p count 0 fresh broken octets
-    → GoesOut p fresh text cut out
+pub own-append : (p : List ℕ) (count : ℕ) (fresh broken : Bool) (octets text : List ℕ) (cut : ℕ) (out : List ℕ) → IsPrefixedText p count 0 fresh broken octets
+    → IsWrittenWithPrefix p fresh text cut out
     → own (count + length out) (octets ++ out) ≡ prefixed p true (text_of (length p) count octets ++ text) ++ take cut p
-own_grown p count fresh broken octets text cut out l g =
+own-append p count fresh broken octets text cut out l g =
     let old = text_of (length p) count octets in
     own_more count octets out ∙ ap (λ t. t ++ out) (l.own_is ∙ append-nil (prefixed p true old)) ∙ ap (λ t. prefixed p true old ++ t) g.is
     ∙ sym (append_assoc (prefixed p true old) (prefixed p fresh text) (take cut p))
-    ∙ ap (λ t. t ++ take cut p) (ap (λ b. prefixed p true old ++ prefixed p b text) l.begins ∙ sym (prefixed_joined p true old text))
+    ∙ ap (λ t. t ++ take cut p) (ap (λ b. prefixed p true old ++ prefixed p b text) l.begins ∙ sym (prefixed-append p true old text))
 
-pub text_grown : (p : List ℕ) (count : ℕ) (fresh broken : Bool) (octets text : List ℕ) (cut : ℕ) (out : List ℕ) → Laid p count 0 fresh broken octets
-    → GoesOut p fresh text cut out
+pub text_grown : (p : List ℕ) (count : ℕ) (fresh broken : Bool) (octets text : List ℕ) (cut : ℕ) (out : List ℕ) → IsPrefixedText p count 0 fresh broken octets
+    → IsWrittenWithPrefix p fresh text cut out
     → text_of (length p) (count + length out) (octets ++ out) ≡ text_of (length p) count octets ++ text
 text_grown p count fresh broken octets text cut out l g =
     let old = text_of (length p) count octets in
-    let at : 0 < cut → begins_line true (old ++ text) ≡ true = λ some. begins_joined true old text ∙ ap (λ b. begins_line b text) (sym l.begins) ∙ g.at some in
-    ap (stripped (length p) (length p)) (own_grown p count fresh broken octets text cut out l g)
+    let at : 0 < cut → begins_line true (old ++ text) ≡ true = λ some. begins_line-append true old text ∙ ap (λ b. begins_line b text)
+    (sym l.begins) ∙ g.at some in
+    ap (stripped (length p) (length p)) (own-append p count fresh broken octets text cut out l g)
     ∙ text_back p true (old ++ text) (take cut p) (tail_none p cut (begins_line true (old ++ text)) at)
 
-pub laid_grown : (p : List ℕ) (count : ℕ) (fresh broken : Bool) (octets text : List ℕ) (cut : ℕ) (out : List ℕ) (ends breaks : Bool)
-    → Laid p count 0 fresh broken octets → GoesOut p fresh text cut out → ends ≡ begins_line fresh text → (breaks || cut == 0) ≡ true
-    → Laid p (count + length out) cut ends breaks (octets ++ out)
-laid_grown p count fresh broken octets text cut out ends breaks l g is whole =
+pub is_prefixed_text_more : (p : List ℕ) (count : ℕ) (fresh broken : Bool) (octets text : List ℕ) (cut : ℕ) (out : List ℕ) (ends breaks : Bool)
+    → IsPrefixedText p count 0 fresh broken octets → IsWrittenWithPrefix p fresh text cut out → ends ≡ begins_line fresh text → (breaks || cut == 0) ≡ true
+    → IsPrefixedText p (count + length out) cut ends breaks (octets ++ out)
+is_prefixed_text_more p count fresh broken octets text cut out ends breaks l g is whole =
     let old = text_of (length p) count octets in
     let grown = text_grown p count fresh broken octets text cut out l g in
     record {
-      own_is = own_grown p count fresh broken octets text cut out l g ∙ ap (λ t. prefixed p true t ++ take cut p) (sym grown);
-      begins = is ∙ ap (λ b. begins_line b text) l.begins ∙ sym (begins_joined true old text) ∙ ap (begins_line true) (sym grown);
+      own_is = own-append p count fresh broken octets text cut out l g ∙ ap (λ t. prefixed p true t ++ take cut p) (sym grown);
+      begins = is ∙ ap (λ b. begins_line b text) l.begins ∙ sym (begins_line-append true old text) ∙ ap (begins_line true) (sym grown);
       whole = whole;
     }
 
-seen_grown : (p : List ℕ) (count : ℕ) (fresh broken : Bool) (octets text : List ℕ) (cut : ℕ) (out : List ℕ) → Laid p count 0 fresh broken octets
-    → GoesOut p fresh text cut out → seen_octets p (count + length out) (octets ++ out) ≡ seen_octets p count octets ++ text
-seen_grown p count fresh broken octets text cut out l g =
+seen_after_write : (p : List ℕ) (count : ℕ) (fresh broken : Bool) (octets text : List ℕ) (cut : ℕ) (out : List ℕ) → IsPrefixedText p count 0 fresh broken octets
+    → IsWrittenWithPrefix p fresh text cut out → seen_octets p (count + length out) (octets ++ out) ≡ seen_octets p count octets ++ text
+seen_after_write p count fresh broken octets text cut out l g =
     let b = before count octets in
     ap (λ t. started p t ++ text_of (length p) (count + length out) (octets ++ out)) (before_more count octets out)
     ∙ ap (λ t. started p b ++ t) (text_grown p count fresh broken octets text cut out l g)
@@ -127,25 +128,27 @@ not_broken cut e =
     eqb→eq cut 0 (rw is tt)
 
 -- what contracts see of it grows by the text
-grown_at : (p : List ℕ) (count cut : ℕ) (fresh : Bool) (octets text : List ℕ) (cut' : ℕ) (out : List ℕ) (ends breaks : Bool) (test : Bool)
-    → test ≡ is_laid p count cut fresh false octets → GoesOut p fresh text cut' out → ends ≡ begins_line fresh text → (breaks || cut' == 0) ≡ true
-    → Appends (if test then Some (seen_octets p count octets) else None) (seen_of p (count + length out) cut' ends breaks (octets ++ out)) text
-grown_at p count cut fresh octets text cut' out ends breaks false is g e whole = tt
-grown_at p count cut fresh octets text cut' out ends breaks true is g e whole =
+text_seen_grown : (p : List ℕ) (count cut : ℕ) (fresh : Bool) (octets text : List ℕ) (cut' : ℕ) (out : List ℕ) (ends breaks : Bool) (test : Bool)
+    → test ≡ is_prefixed_text p count cut fresh false octets → IsWrittenWithPrefix p fresh text cut' out → ends ≡ begins_line fresh text → (breaks || cut' == 0)
+    ≡ true
+    → Appends (if test then Some (seen_octets p count octets) else None) (text_seen_of p (count + length out) cut' ends breaks (octets ++ out)) text
+text_seen_grown p count cut fresh octets text cut' out ends breaks false is g e whole = tt
+text_seen_grown p count cut fresh octets text cut' out ends breaks true is g e whole =
     let laid = laid_of p count cut fresh false octets (sym is) in
     let none : cut ≡ 0 = not_broken cut laid.whole in
-    let l : Laid p count 0 fresh false octets = rw none at laid in
-    rw (is_laid_of p (count + length out) cut' ends breaks (octets ++ out) (laid_grown p count fresh false octets text cut' out ends breaks l g e whole))
-    (seen_grown p count fresh false octets text cut' out l g)
+    let l : IsPrefixedText p count 0 fresh false octets = rw none at laid in
+    rw (is_laid_of p (count + length out) cut' ends breaks (octets ++ out) (is_prefixed_text_more p count fresh false octets text cut' out ends breaks l g e
+    whole))
+    (seen_after_write p count fresh false octets text cut' out l g)
 
 pub appended : (p : List ℕ) (count cut : ℕ) (fresh : Bool) (old new : Option (List ℕ)) (text : List ℕ) (cut' : ℕ) (out : List ℕ) (count' : ℕ)
-    (ends breaks : Bool) → Appends old new out → GoesOut p fresh text cut' out → ends ≡ begins_line fresh text → (breaks || cut' == 0) ≡ true
+    (ends breaks : Bool) → Appends old new out → IsWrittenWithPrefix p fresh text cut' out → ends ≡ begins_line fresh text → (breaks || cut' == 0) ≡ true
     → count' ≡ count + length out
-    → Appends (option_and_then (seen_of p count cut fresh false) old) (option_and_then (seen_of p count' cut' ends breaks) new) text
+    → Appends (option_and_then (text_seen_of p count cut fresh false) old) (option_and_then (text_seen_of p count' cut' ends breaks) new) text
 appended p count cut fresh None new text cut' out count' ends breaks a g e whole counts = tt
 appended p count cut fresh (Some xs) None text cut' out count' ends breaks a g e whole counts = absurd a
 appended p count cut fresh (Some xs) (Some ys) text cut' out count' ends breaks a g e whole counts =
-    rw (counts, a) (grown_at p count cut fresh xs text cut' out ends breaks (is_laid p count cut fresh false xs) refl g e whole)
+    rw (counts, a) (text_seen_grown p count cut fresh xs text cut' out ends breaks (is_prefixed_text p count cut fresh false xs) refl g e whole)
 
 pub keeps_of : (old new : Option (List ℕ)) → Appends old new [] → Keeps old new
 keeps_of None new a = tt
@@ -153,9 +156,10 @@ keeps_of (Some xs) None a = absurd a
 keeps_of (Some xs) (Some ys) a = a ∙ append-nil xs
 
 pub appended_by : (p : List ℕ) (count cut : ℕ) (fresh broken : Bool) → broken ≡ false → (old new : Option (List ℕ)) (text : List ℕ) (cut' : ℕ) (out : List ℕ)
-    (count' : ℕ) (ends breaks : Bool) → Appends old new out → GoesOut p fresh text cut' out → ends ≡ begins_line fresh text → (breaks || cut' == 0) ≡ true
+    (count' : ℕ) (ends breaks : Bool) → Appends old new out → IsWrittenWithPrefix p fresh text cut' out → ends ≡ begins_line fresh text → (breaks || cut' == 0)
+    ≡ true
     → count' ≡ count + length out
-    → Appends (option_and_then (seen_of p count cut fresh broken) old) (option_and_then (seen_of p count' cut' ends breaks) new) text
+    → Appends (option_and_then (text_seen_of p count cut fresh broken) old) (option_and_then (text_seen_of p count' cut' ends breaks) new) text
 appended_by p count cut fresh true e = cc
 appended_by p count cut fresh false e = appended p count cut fresh
 
@@ -168,9 +172,9 @@ unbroken_or false = refl
 
 -- ---- how much of a block is written
 
-laid_front : (p : List ℕ) (fresh : Bool) (piece : List ℕ) (n : ℕ)
+prefixed-take-drop : (p : List ℕ) (fresh : Bool) (piece : List ℕ) (n : ℕ)
     → prefixed p fresh piece ≡ prefixed p fresh (take n piece) ++ prefixed p (begins_line fresh (take n piece)) (drop n piece)
-laid_front p fresh piece n = ap (prefixed p fresh) (sym (take-append-drop n piece)) ∙ prefixed_joined p fresh (take n piece) (drop n piece)
+prefixed-take-drop p fresh piece n = ap (prefixed p fresh) (sym (take-append-drop n piece)) ∙ prefixed-append p fresh (take n piece) (drop n piece)
 
 pub few_out : (p : List ℕ) (fresh : Bool) (piece : List ℕ) (n out : ℕ) (block : List ℕ) → block ≡ prefixed p fresh (take n piece) → out < length block
     → out ≤ length (prefixed p fresh piece)
@@ -178,7 +182,7 @@ few_out p fresh piece n out block is lt = omega (
   arith,
   lt,
   ap length is,
-  ap length (laid_front p fresh piece n),
+  ap length (prefixed-take-drop p fresh piece n),
   length-append (prefixed p fresh (take n piece)) (prefixed p (begins_line fresh (take n piece)) (drop n piece)),
 )
 
@@ -186,7 +190,7 @@ pub cut_out : (p : List ℕ) (fresh : Bool) (piece : List ℕ) (n out : ℕ) (bl
     → take out block ≡ take out (prefixed p fresh piece)
 cut_out p fresh piece n out block is lt =
     let le : out ≤ length (prefixed p fresh (take n piece)) = omega (arith, lt, ap length is) in
-    ap (take out) is ∙ sym (ap (take out) (laid_front p fresh piece n)
+    ap (take out) is ∙ sym (ap (take out) (prefixed-take-drop p fresh piece n)
     ∙ take-append-le out (prefixed p fresh (take n piece)) (prefixed p (begins_line fresh (take n piece)) (drop n piece)) le)
 
 -- ---- what is written, by what contracts see
@@ -196,11 +200,11 @@ split : (p q xs ys s t : List ℕ) → started p xs ++ s ≡ started q ys ++ t �
 split p q xs ys s t e =
     let sizes : length p ≡ length q = ap (λ l. get_or l 0 0) e in
     let tails : (p ++ (length xs ∷ xs)) ++ s ≡ (q ++ (length ys ∷ ys)) ++ t = ap (drop 1) e in
-    let first = same_front p q (length xs ∷ (xs ++ s)) (length ys ∷ (ys ++ t)) sizes
+    let first = append_cancel_same_length p q (length xs ∷ (xs ++ s)) (length ys ∷ (ys ++ t)) sizes
     (sym (append_assoc p (length xs ∷ xs) s) ∙ tails ∙ append_assoc q (length ys ∷ ys) t) in
     let counts : length xs ≡ length ys = ap (λ l. get_or l 0 0) first.1 in
     let rest : xs ++ s ≡ ys ++ t = ap (drop 1) first.1 in
-    let second = same_front xs ys s t counts rest in
+    let second = append_cancel_same_length xs ys s t counts rest in
     (first.0, second.0, second.1)
 
 -- the octets of the target if contracts see this text after these octets
@@ -209,7 +213,8 @@ pub record Unseen (p : List ℕ) (xs text : List ℕ) (cut : ℕ) (fresh broken 
   pub begins : fresh ≡ begins_line true text
   pub whole : (broken || cut == 0) ≡ true
 
-unseen_at : (p q : List ℕ) (count cut : ℕ) (fresh broken : Bool) (octets xs text : List ℕ) (test : Bool) → test ≡ is_laid q count cut fresh broken octets
+unseen_at : (p q : List ℕ) (count cut : ℕ) (fresh broken : Bool) (octets xs text : List ℕ) (test : Bool) → test
+    ≡ is_prefixed_text q count cut fresh broken octets
     → (if test then Some (seen_octets q count octets) else None) ≡ Some (started p xs ++ text) → Unseen p xs text cut fresh broken octets
 unseen_at p q count cut fresh broken octets xs text false is e = cc
 unseen_at p q count cut fresh broken octets xs text true is e =
@@ -224,11 +229,12 @@ unseen_at p q count cut fresh broken octets xs text true is e =
     }
 
 pub unseen : (p q : List ℕ) (count cut : ℕ) (fresh broken : Bool) (octets xs text : List ℕ)
-    → seen_of q count cut fresh broken octets ≡ Some (started p xs ++ text) → Unseen p xs text cut fresh broken octets
-unseen p q count cut fresh broken octets xs text e = unseen_at p q count cut fresh broken octets xs text (is_laid q count cut fresh broken octets) refl e
+    → text_seen_of q count cut fresh broken octets ≡ Some (started p xs ++ text) → Unseen p xs text cut fresh broken octets
+unseen p q count cut fresh broken octets xs text e = unseen_at p q count cut fresh broken octets xs text
+    (is_prefixed_text q count cut fresh broken octets) refl e
 
 pub parted_of : (p q : List ℕ) (count cut : ℕ) (fresh broken : Bool) (o : Option (List ℕ)) (xs text : List ℕ)
-    → option_and_then (seen_of q count cut fresh broken) o ≡ Some (started p xs ++ text)
+    → option_and_then (text_seen_of q count cut fresh broken) o ≡ Some (started p xs ++ text)
     → (cut' : ℕ) × (o ≡ Some (xs ++ (prefixed p true text ++ take cut' p))) × (broken ≡ false → cut' ≡ 0) × (fresh ≡ begins_line true text)
 parted_of p q count cut fresh broken None xs text e = cc
 parted_of p q count cut fresh broken (Some octets) xs text e =
@@ -249,7 +255,7 @@ only_fresh false e = e
 -- a line begins next, or a write failed
 pub written_now : (p xs text : List ℕ) (fresh broken : Bool) (o : Option (List ℕ)) → (fresh || broken) ≡ true
     → (cut : ℕ) × (o ≡ Some (xs ++ (prefixed p true text ++ take cut p))) × (broken ≡ false → cut ≡ 0) × (fresh ≡ begins_line true text)
-    → IsWritten p xs text broken o
+    → IsPrefixedOutput p xs text broken o
 written_now p xs text fresh true o now h = (text, h.0, inl refl, h.1)
 written_now p xs text fresh false o now h =
     let all : ended text ≡ text = ended_at text true (sym (only_fresh fresh now) ∙ h.3) ∙ append-nil text in
@@ -257,7 +263,7 @@ written_now p xs text fresh false o now h =
 
 -- an LF was written after it
 pub written_then : (p xs text : List ℕ) (broken : Bool) (seen new : Option (List ℕ)) (fresh : Bool) → false ≡ begins_line true text
-    → Appends (Some (started p xs ++ text)) seen (lf ∷ []) → IsParted seen fresh new broken → IsWritten p xs text broken new
+    → Appends (Some (started p xs ++ text)) seen (lf ∷ []) → IsReturnedOutput seen fresh new broken → IsPrefixedOutput p xs text broken new
 written_then p xs text broken None new fresh ends a h = absurd a
 written_then p xs text true (Some z) new fresh ends a h =
     let all : ended text ≡ text ++ (lf ∷ []) = ended_at text false ends in
@@ -276,7 +282,7 @@ nothing_own octets = drop_all (length octets - 0) octets (omega arith)
 all_before : (octets : List ℕ) → before 0 octets ≡ octets
 all_before octets = take_all (length octets - 0) octets (omega arith)
 
-new_laid : (p octets : List ℕ) → Laid p 0 0 true false octets
+new_laid : (p octets : List ℕ) → IsPrefixedText p 0 0 true false octets
 new_laid p octets =
     let text : text_of (length p) 0 octets ≡ [] = ap (stripped (length p) (length p)) (nothing_own octets) in
     record {
@@ -290,6 +296,6 @@ new_seen_octets p octets =
     let text : text_of (length p) 0 octets ≡ [] = ap (stripped (length p) (length p)) (nothing_own octets) in
     ap (λ t. started p (before 0 octets) ++ t) text ∙ append-nil (started p (before 0 octets)) ∙ ap (started p) (all_before octets)
 
-pub new_seen : (p : List ℕ) (o : Option (List ℕ)) → option_and_then (seen_of p 0 0 true false) o ≡ option_map (started p) o
+pub new_seen : (p : List ℕ) (o : Option (List ℕ)) → option_and_then (text_seen_of p 0 0 true false) o ≡ option_map (started p) o
 new_seen p None = refl
 new_seen p (Some octets) = rw (is_laid_of p 0 0 true false octets (new_laid p octets)) (ap (λ t. Some t) (new_seen_octets p octets))

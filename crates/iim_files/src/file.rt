@@ -2,17 +2,17 @@
 
 ghost use Rattle.std.specs.Prelude.{◌≡◌, ◌<◌, ◌⊎◌, ◌||◌, ℕ, IfOk, length, if◌then◌else◌, max};
 ghost use Rattle.iim_output.specs.Format.{fault_line, status_failed};
-ghost use Rattle.iim_files.specs.States.Runs.{HasRun, HasRunFile, IsStarved, IsTold, line_prefix, unopened_line, untext_line, untext_prefix};
-ghost use Rattle.iim_files.specs.States.Seen.{fresh_device, seen};
+ghost use Rattle.iim_files.specs.States.Runs.{RunsPrefixed, RunsFile, AllocationFails, LineIsPrinted, line_prefix, cannot_open_line, non_utf8_line, non_utf8_prefix};
+ghost use Rattle.iim_files.specs.States.Seen.{empty_prefixed_device, seen};
 
 use crate::prefixed::Prefixed;
 use iim_commands::fault::CommandFault;
-use iim_commands::lines::tell;
+use iim_commands::lines::write_with_status;
 use iim_commands::shown::push_name;
 use iim_commands::status::{ACCEPTED, FAILED};
 use iim_commands::{Job, Request, run};
 use iim_dataset::internals::ReservedOctets;
-use iim_dataset::{BLOCK, Source, Target, push_shown, put};
+use iim_dataset::{BLOCK, Source, Target, push_with_escapes, put};
 use std::alloc::{AllocError, Global};
 
 /// The result of a command over the files so far.
@@ -51,7 +51,7 @@ fn prefix_of(alloc: Global, name: &str) -> Result<Vec<u8>, AllocError>
 }
 
 /// Allocates a buffer for lines with a prefix.
-fn room_for(alloc: Global, prefix: &[u8]) -> Result<ReservedOctets, AllocError>
+fn allocate_block(alloc: Global, prefix: &[u8]) -> Result<ReservedOctets, AllocError>
     ensures { IfOk result (λ block. length prefix.now < block.room) }
 {
     match prefix.len().checked_add(BLOCK) {
@@ -61,11 +61,12 @@ fn room_for(alloc: Global, prefix: &[u8]) -> Result<ReservedOctets, AllocError>
 }
 
 /// Prints that the allocation for the lines of a file failed.
-fn starve<W: Target, E: Target>(output: W, errors: E) -> SoFar<W, E>
-    ensures { IsStarved (W.state output, E.state errors) (W.state result.output, E.state result.errors) result.status }
+fn print_out_of_memory<W: Target, E: Target>(output: W, errors: E) -> SoFar<W, E>
+    ensures { AllocationFails (W.state output, E.state errors)
+        (W.state result.output, E.state result.errors) result.status }
 {
     let mut errors = errors;
-    let status = tell(
+    let status = write_with_status(
         &mut errors,
         CommandFault::OutOfMemory.line().as_bytes(),
         FAILED,
@@ -100,7 +101,7 @@ fn run_prefixed<R: Source + Drop, W: Target, E: Target>(
     output: Prefixed<'_, W>,
     errors: Prefixed<'_, E>,
 ) -> SoFar<W, E>
-    ensures { HasRun R.state R.leads job reader (seen W.state output.entry, seen E.state errors.entry)
+    ensures { RunsPrefixed R.state R.leads job reader (seen W.state output.entry, seen E.state errors.entry)
         ((W.state result.output).octets, (E.state result.errors).octets) result.broken result.status }
 {
     let request = Request { file: None, job };
@@ -122,13 +123,13 @@ fn run_prefixed<R: Source + Drop, W: Target, E: Target>(
 type Parts = (Vec<u8>, ReservedOctets, ReservedOctets);
 
 /// Allocates the buffers for the lines of a file.
-fn parts_for(alloc: Global, name: &str) -> Result<Parts, AllocError>
+fn allocate_parts(alloc: Global, name: &str) -> Result<Parts, AllocError>
     ensures { IfOk result (λ parts. (parts.0.items ≡ line_prefix name.now) × (length parts.0.items < parts.1.room)
         × (length parts.0.items < parts.2.room)) }
 {
     let prefix = prefix_of(alloc, name)?;
-    let output = room_for(alloc, prefix.as_slice())?;
-    let errors = room_for(alloc, prefix.as_slice())?;
+    let output = allocate_block(alloc, prefix.as_slice())?;
+    let errors = allocate_block(alloc, prefix.as_slice())?;
     Ok((prefix, output, errors))
 }
 
@@ -141,16 +142,16 @@ fn run_file<R: Source + Drop, W: Target, E: Target>(
     output: W,
     errors: E,
 ) -> SoFar<W, E>
-    ensures { HasRunFile R.state R.leads name.now job reader (W.state output, E.state errors)
+    ensures { RunsFile R.state R.leads name.now job reader (W.state output, E.state errors)
         (W.state result.output, E.state result.errors) result.broken result.status }
 {
-    match parts_for(alloc, name) {
+    match allocate_parts(alloc, name) {
         Ok((prefix, output_room, errors_room)) => {
             let output = Prefixed::new(output, prefix.as_slice(), output_room);
             let errors = Prefixed::new(errors, prefix.as_slice(), errors_room);
             run_prefixed(alloc, job, reader, output, errors)
         }
-        Err(_) => starve(output, errors),
+        Err(_) => print_out_of_memory(output, errors),
     }
 }
 
@@ -163,7 +164,7 @@ pub fn run_next<R: Source + Drop, W: Target, E: Target>(
     so_far: SoFar<W, E>,
 ) -> SoFar<W, E>
     ensures { (status : ℕ)
-        × HasRunFile R.state R.leads name.now job reader (W.state so_far.output, E.state so_far.errors)
+        × RunsFile R.state R.leads name.now job reader (W.state so_far.output, E.state so_far.errors)
         (W.state result.output, E.state result.errors) result.broken status
         × (result.status ≡ max so_far.status status) }
 {
@@ -174,11 +175,11 @@ pub fn run_next<R: Source + Drop, W: Target, E: Target>(
         errors,
     } = so_far;
     let ran = run_file(alloc, name, job, reader, output, errors);
-    worsen(ran, status)
+    with_greater_status(ran, status)
 }
 
 /// Returns the result with the greater of two statuses.
-fn worsen<W, E>(so_far: SoFar<W, E>, status: u8) -> SoFar<W, E>
+fn with_greater_status<W, E>(so_far: SoFar<W, E>, status: u8) -> SoFar<W, E>
     ensures { result ≡ record so_far { status = max status so_far.status } }
 {
     let SoFar {
@@ -196,8 +197,8 @@ fn worsen<W, E>(so_far: SoFar<W, E>, status: u8) -> SoFar<W, E>
 }
 
 /// Prints a line to the errors, and sets the status of a failure.
-fn tell_line<W, E: Target>(text: &[u8], so_far: SoFar<W, E>) -> SoFar<W, E>
-    ensures told { IsTold text.now (E.state so_far.errors) (E.state result.errors) }
+fn print_line<W, E: Target>(text: &[u8], so_far: SoFar<W, E>) -> SoFar<W, E>
+    ensures told { LineIsPrinted text.now (E.state so_far.errors) (E.state result.errors) }
     ensures status { result.status ≡ status_failed }
     ensures output { result.output ≡ so_far.output }
 {
@@ -218,18 +219,18 @@ fn tell_line<W, E: Target>(text: &[u8], so_far: SoFar<W, E>) -> SoFar<W, E>
 }
 
 /// Prints an error that belongs to no single file.
-pub fn tell_fault<W, E: Target>(fault: CommandFault, so_far: SoFar<W, E>) -> SoFar<W, E>
-    ensures told { IsTold (fault_line fault) (E.state so_far.errors) (E.state result.errors) }
+pub fn print_fault<W, E: Target>(fault: CommandFault, so_far: SoFar<W, E>) -> SoFar<W, E>
+    ensures told { LineIsPrinted (fault_line fault) (E.state so_far.errors) (E.state result.errors) }
     ensures status { result.status ≡ status_failed }
     ensures output { result.output ≡ so_far.output }
 {
-    tell_line(fault.line().as_bytes(), so_far)
+    print_line(fault.line().as_bytes(), so_far)
 }
 
 /// Returns the line for a file that cannot be opened or, if `starved`, for which an allocation
 /// failed.
-fn unopened_line(alloc: Global, name: &str, starved: bool) -> Result<Vec<u8>, AllocError>
-    ensures { IfOk result (λ line. line.items ≡ unopened_line name.now starved) }
+fn cannot_open_line(alloc: Global, name: &str, starved: bool) -> Result<Vec<u8>, AllocError>
+    ensures { IfOk result (λ line. line.items ≡ cannot_open_line name.now starved) }
 {
     let mut line = prefix_of(alloc, name)?;
     if starved {
@@ -244,53 +245,57 @@ fn unopened_line(alloc: Global, name: &str, starved: bool) -> Result<Vec<u8>, Al
 
 /// Prints that the file with this name cannot be opened or, if `starved`, that an allocation
 /// failed for it.
-pub fn tell_unopened<W, E: Target>(
+pub fn print_cannot_open<W, E: Target>(
     alloc: Global,
     name: &str,
     starved: bool,
     so_far: SoFar<W, E>,
 ) -> SoFar<W, E>
-    ensures told { IsTold (unopened_line name.now starved) (E.state so_far.errors) (E.state result.errors)
-        ⊎ IsTold (fault_line CommandFault.OutOfMemory) (E.state so_far.errors) (E.state result.errors) }
+    ensures told { LineIsPrinted (cannot_open_line name.now starved) (E.state so_far.errors) (E.state result.errors)
+        ⊎ LineIsPrinted (fault_line CommandFault.OutOfMemory) (E.state so_far.errors) (E.state result.errors) }
     ensures status { result.status ≡ status_failed }
     ensures output { result.output ≡ so_far.output }
 {
-    match unopened_line(alloc, name, starved) {
-        Ok(line) => tell_line(line.as_slice(), so_far),
-        Err(_) => tell_fault(CommandFault::OutOfMemory, so_far),
+    match cannot_open_line(alloc, name, starved) {
+        Ok(line) => print_line(line.as_slice(), so_far),
+        Err(_) => print_fault(CommandFault::OutOfMemory, so_far),
     }
 }
 
 /// Returns the prefix of the line for a file whose name is not UTF-8.
-fn untext_prefix(alloc: Global, name: &[u8]) -> Result<Vec<u8>, AllocError>
-    ensures { IfOk result (λ prefix. prefix.items ≡ untext_prefix name.now) }
+fn non_utf8_prefix(alloc: Global, name: &[u8]) -> Result<Vec<u8>, AllocError>
+    ensures { IfOk result (λ prefix. prefix.items ≡ non_utf8_prefix name.now) }
 {
     let mut prefix = Vec::new(alloc);
-    push_shown(&mut prefix, name)?;
+    push_with_escapes(&mut prefix, name)?;
     prefix.extend_from_slice(b": ")?;
     Ok(prefix)
 }
 
 /// Returns the line for a file that cannot be opened and whose name is not UTF-8.
-fn untext_line(alloc: Global, name: &[u8]) -> Result<Vec<u8>, AllocError>
-    ensures { IfOk result (λ line. line.items ≡ untext_line name.now) }
+fn non_utf8_line(alloc: Global, name: &[u8]) -> Result<Vec<u8>, AllocError>
+    ensures { IfOk result (λ line. line.items ≡ non_utf8_line name.now) }
 {
-    let mut line = untext_prefix(alloc, name)?;
+    let mut line = non_utf8_prefix(alloc, name)?;
     line.extend_from_slice(b"cannot open ")?;
-    push_shown(&mut line, name)?;
+    push_with_escapes(&mut line, name)?;
     line.push(b'\n')?;
     Ok(line)
 }
 
 /// Prints that a file whose name is not UTF-8 cannot be opened.
-pub fn tell_untext<W, E: Target>(alloc: Global, name: &[u8], so_far: SoFar<W, E>) -> SoFar<W, E>
-    ensures told { IsTold (untext_line name.now) (E.state so_far.errors) (E.state result.errors)
-        ⊎ IsTold (fault_line CommandFault.OutOfMemory) (E.state so_far.errors) (E.state result.errors) }
+pub fn print_cannot_open_octets<W, E: Target>(
+    alloc: Global,
+    name: &[u8],
+    so_far: SoFar<W, E>,
+) -> SoFar<W, E>
+    ensures told { LineIsPrinted (non_utf8_line name.now) (E.state so_far.errors) (E.state result.errors)
+        ⊎ LineIsPrinted (fault_line CommandFault.OutOfMemory) (E.state so_far.errors) (E.state result.errors) }
     ensures status { result.status ≡ status_failed }
     ensures output { result.output ≡ so_far.output }
 {
-    match untext_line(alloc, name) {
-        Ok(line) => tell_line(line.as_slice(), so_far),
-        Err(_) => tell_fault(CommandFault::OutOfMemory, so_far),
+    match non_utf8_line(alloc, name) {
+        Ok(line) => print_line(line.as_slice(), so_far),
+        Err(_) => print_fault(CommandFault::OutOfMemory, so_far),
     }
 }

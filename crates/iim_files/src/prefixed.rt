@@ -40,7 +40,12 @@ fn front_of(prefix: &[u8], fresh: bool) -> &[u8]
 
 /// Appends a chunk to an empty block, each line with its prefix, as far as it fits. Returns how
 /// many octets of the chunk were appended, and whether a line begins after them.
-fn lay_out(block: &mut ReservedOctets, prefix: &[u8], fresh: bool, piece: &[u8]) -> (usize, bool)
+fn append_prefixed(
+    block: &mut ReservedOctets,
+    prefix: &[u8],
+    fresh: bool,
+    piece: &[u8],
+) -> (usize, bool)
     requires empty { block.old.items ≡ [] }
     requires room { length prefix.now < block.old.room }
     requires more { 0 < length piece.now }
@@ -67,7 +72,7 @@ fn lay_out(block: &mut ReservedOctets, prefix: &[u8], fresh: bool, piece: &[u8])
 /// Finds how much of a chunk is within its first `out` octets with prefixes. Returns the number of
 /// complete octets of the chunk, the number of octets of a prefix after them, and whether a line
 /// begins after the complete ones.
-fn whole_in(prefix: &[u8], fresh: bool, piece: &[u8], out: usize) -> (usize, usize, bool)
+fn count_complete(prefix: &[u8], fresh: bool, piece: &[u8], out: usize) -> (usize, usize, bool)
     requires { out ≤ length (prefixed prefix.now fresh piece.now) }
     ensures within { result.0 ≤ length piece.now × result.1 ≤ length prefix.now }
     ensures parts { take out (prefixed prefix.now fresh piece.now)
@@ -92,15 +97,15 @@ fn whole_in(prefix: &[u8], fresh: bool, piece: &[u8], out: usize) -> (usize, usi
 
 impl<'p, W: Target> Prefixed<'p, W> {
     ghost use Rattle.std.specs.Prelude.{◌≡◌, IfOk, IfErr, Err, length};
-    ghost use Rattle.iim_dataset.specs.Format.Octets.{Rose};
-    ghost use Rattle.iim_dataset.specs.States.Devices.{Accepted, Faulted};
-    ghost use Rattle.iim_files.specs.States.Seen.{fresh_device, seen, IsFinished, IsParted, IsSameButFailures};
+    ghost use Rattle.iim_dataset.specs.Format.Octets.{CounterRose};
+    ghost use Rattle.iim_dataset.specs.States.Devices.{WriteAccepted, CountedFault};
+    ghost use Rattle.iim_files.specs.States.Seen.{empty_prefixed_device, seen, IsFinishedOutput, IsReturnedOutput, IsSameButFailures};
 
     /// Creates a target to which nothing was written. `block` must have the capacity for the
     /// prefix and one more octet.
     pub fn new(writer: W, prefix: &'p [u8], block: ReservedOctets) -> Prefixed<'p, W>
         requires { length prefix.now < block.room }
-        ensures { seen W.state result ≡ fresh_device prefix.entry.now (W.state writer) }
+        ensures { seen W.state result ≡ empty_prefixed_device prefix.entry.now (W.state writer) }
     {
         Prefixed {
             writer,
@@ -116,7 +121,8 @@ impl<'p, W: Target> Prefixed<'p, W> {
 
     /// Returns the target, and whether a write failed.
     fn into_parts(self) -> (W, bool)
-        ensures parts { IsParted (seen W.state self.entry).octets self.entry.fresh (W.state result.0).octets result.1 }
+        ensures parts { IsReturnedOutput (seen W.state self.entry).octets self.entry.fresh
+            (W.state result.0).octets result.1 }
         ensures broken { result.1 ≡ self.entry.broken }
     {
         let Prefixed {
@@ -135,7 +141,7 @@ impl<'p, W: Target> Prefixed<'p, W> {
     /// Ends the last line with LF, if it is not ended. Returns the target, and whether a write
     /// failed.
     pub fn finish(self) -> (W, bool)
-        ensures { IsFinished (seen W.state self.entry).octets (W.state result.0).octets result.1 }
+        ensures { IsFinishedOutput (seen W.state self.entry).octets (W.state result.0).octets result.1 }
     {
         if self.fresh || self.broken {
             return self.into_parts();
@@ -151,10 +157,10 @@ impl<'p, W: Target> Prefixed<'p, W> {
     }
 
     /// Counts a failure, and returns the error.
-    fn refuse(&mut self) -> IoFault
+    fn count_failure(&mut self) -> IoFault
         ensures fault { result ≡ IoFault.Failed }
         ensures same { IsSameButFailures self.old self.new }
-        ensures counted { Rose self.old.failures self.new.failures }
+        ensures counted { CounterRose self.old.failures self.new.failures }
     {
         self.failures = self.failures.saturating_add(1);
         IoFault::Failed
@@ -163,16 +169,16 @@ impl<'p, W: Target> Prefixed<'p, W> {
     /// Writes octets of a non-empty chunk. Returns how many were written.
     fn write_some(&mut self, piece: &[u8]) -> Result<usize, IoFault>
         requires { 0 < length piece.now }
-        ensures ok { IfOk result (Accepted (seen W.state self.old) (seen W.state self.new) piece.now) }
-        ensures err { IfErr result (Faulted (seen W.state self.old) (seen W.state self.new)) }
+        ensures ok { IfOk result (WriteAccepted (seen W.state self.old) (seen W.state self.new) piece.now) }
+        ensures err { IfErr result (CountedFault (seen W.state self.old) (seen W.state self.new)) }
     {
         if self.broken {
-            return Err(self.refuse());
+            return Err(self.count_failure());
         }
         self.block.clear();
-        let (taken, begins) = lay_out(&mut self.block, self.prefix, self.fresh, piece);
+        let (taken, begins) = append_prefixed(&mut self.block, self.prefix, self.fresh, piece);
         let Some(count) = self.count.checked_add(self.block.len() as u64) else {
-            return Err(self.refuse());
+            return Err(self.count_failure());
         };
         match put(&mut self.writer, self.block.as_slice()) {
             Ok(()) => {
@@ -182,13 +188,13 @@ impl<'p, W: Target> Prefixed<'p, W> {
                 Ok(taken)
             }
             Err(out) => {
-                let (whole, cut, begins) = whole_in(self.prefix, self.fresh, piece, out);
+                let (whole, cut, begins) = count_complete(self.prefix, self.fresh, piece, out);
                 self.broken = true;
                 self.count += out as u64;
                 self.fresh = begins;
                 self.cut = cut;
                 if whole == 0 {
-                    return Err(self.refuse());
+                    return Err(self.count_failure());
                 }
                 Ok(whole)
             }

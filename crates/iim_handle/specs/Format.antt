@@ -8,13 +8,13 @@ use Rattle.iim_places.specs.Format.Open.{IsTruncatedAt}
 use Rattle.iim_places.specs.States.Restored.{IsRestoreFault}
 use Rattle.iim_places.specs.declared.refusal.Refusal.{Refusal}
 use Rattle.iim_places.specs.declared.ticket.fault.TicketFault.{TicketFault}
-use Rattle.iim_unpack.specs.States.Unpacking.{Unpacking, Stands, IsDone, failed_at, limits_in, room_in}
-use Rattle.iim_unpack.specs.States.Restored.{HasTicketIn, IsRestored}
+use Rattle.iim_unpack.specs.States.Unpacking.{Unpacking, HasRead, IsDone, failed_at, limits_in, capacity_in}
+use Rattle.iim_unpack.specs.States.Restored.{WritesTicketOf, IsRestored}
 use Rattle.iim_unpack.specs.declared.unpacker.Progress.{Progress, TheVariants.Done}
 use Rattle.iim_c.specs.Format.Answers.{status_answer, refusal_answer, short_answer, ticket_answer}
 use Rattle.iim_c.specs.declared.answer.IimAnswer.{IimAnswer}
 use Rattle.iim_c.specs.Format.Statuses as status
-use Rattle.iim_c.specs.Format.Chunks.{HasFedText, HasRefusedText, used_in}
+use Rattle.iim_c.specs.Format.Chunks.{HasFedText, HasRefusedText, progress_status}
 
 -- the status of a call on a closed handle, and of opening an open one
 abbrev pub bad_handle : ℕ
@@ -27,98 +27,98 @@ failed = 11
 -- ---- opening
 
 -- The unpacker begins an envelope within the limits, and has capacity for what they allow.
-pub record IsNew (limits : Limits) (v : Unpacking) : Type 0 where
-  pub begins : Stands v [] 0
+pub record BeginsEnvelope (limits : Limits) (v : Unpacking) : Type 0 where
+  pub begins : HasRead v [] 0
   pub limits_are : limits_in v ≡ limits
-  pub capacity : room_in v ≡ room_for limits
+  pub capacity : capacity_in v ≡ room_for limits
 
 -- An open handle is left as it is. A closed one has a new unpacker, or there is no memory for one.
-abbrev pub IsOpened : Limits → Option Unpacking → Option Unpacking → ℕ → Type 0
-IsOpened limits (Some u) new returned = (new ≡ Some u) × (returned ≡ bad_handle)
-IsOpened limits None (Some v) returned = IsNew limits v × (returned ≡ status.done)
-IsOpened limits None None returned = returned ≡ status.no_memory
+abbrev pub HandleIsOpened : Limits → Option Unpacking → Option Unpacking → ℕ → Type 0
+HandleIsOpened limits (Some u) new returned = (new ≡ Some u) × (returned ≡ bad_handle)
+HandleIsOpened limits None (Some v) returned = BeginsEnvelope limits v × (returned ≡ status.done)
+HandleIsOpened limits None None returned = returned ≡ status.no_memory
 
 -- The unpacker of an open handle begins an envelope, with the limits and the capacity that it had.
-abbrev pub IsReset : Option Unpacking → Option Unpacking → ℕ → Type 0
-IsReset (Some u) (Some v) returned = Stands v [] 0 × (limits_in v ≡ limits_in u) × (room_in v ≡ room_in u) × (returned ≡ status.done)
-IsReset (Some u) None returned = ⊥
-IsReset None new returned = (new ≡ None) × (returned ≡ bad_handle)
+abbrev pub HandleIsReset : Option Unpacking → Option Unpacking → ℕ → Type 0
+HandleIsReset (Some u) (Some v) returned = HasRead v [] 0 × (limits_in v ≡ limits_in u) × (capacity_in v ≡ capacity_in u) × (returned ≡ status.done)
+HandleIsReset (Some u) None returned = ⊥
+HandleIsReset None new returned = (new ≡ None) × (returned ≡ bad_handle)
 
 -- ---- feeding
 
 -- From all octets that led to the state of the unpacker, the piece leads on, or leads to the end of an envelope; the buffer has the text
 -- of what was consumed, and the capacity is what it was. After the end of an envelope nothing is consumed.
-pub record Consumes (u : Unpacking) (piece out : List ℕ) (v : Unpacking) (answer : IimAnswer) : Type 0 where
+pub record ConsumesChunk (u : Unpacking) (piece out : List ℕ) (v : Unpacking) (answer : IimAnswer) : Type 0 where
   pub progress : Progress
   pub accepts : u.refused ≡ None
   pub text : HasFedText u v piece out answer.written progress
-  pub fits : (p : List ℕ) (a : ℕ) → Stands u p a → answer.written ≤ length piece
+  pub fits : (p : List ℕ) (a : ℕ) → HasRead u p a → answer.written ≤ length piece
   pub ended : IsDone u → (progress ≡ Done 0) × (v ≡ u) × (answer.written ≡ 0)
   pub limits_are : limits_in v ≡ limits_in u
-  pub capacity : room_in v ≡ room_in u
-  pub answer_is : answer ≡ record (status_answer (used_in progress (length piece)).0)
-      { octet = v.octets; used = (used_in progress (length piece)).1; written = answer.written }
+  pub capacity : capacity_in v ≡ capacity_in u
+  pub answer_is : answer ≡ record (status_answer (progress_status progress (length piece)).0)
+      { octet = v.octets; used = (progress_status progress (length piece)).1; written = answer.written }
 
 -- An octet of the piece is rejected, the buffer has the text of those before it, and the unpacker has failed.
-pub record Rejects (u : Unpacking) (piece out : List ℕ) (v : Unpacking) (answer : IimAnswer) : Type 0 where
+pub record RejectsAndFails (u : Unpacking) (piece out : List ℕ) (v : Unpacking) (answer : IimAnswer) : Type 0 where
   pub refusal : Refusal
   pub accepts : u.refused ≡ None
   pub unended : IsDone u → ⊥
   pub text : HasRefusedText u piece out answer.written refusal
-  pub fits : (p : List ℕ) (a : ℕ) → Stands u p a → answer.written ≤ length piece
+  pub fits : (p : List ℕ) (a : ℕ) → HasRead u p a → answer.written ≤ length piece
   pub fails : v.refused ≡ Some refusal.octet
-  pub capacity : room_in v ≡ room_in u
+  pub capacity : capacity_in v ≡ capacity_in u
   pub answer_is : answer ≡ record (refusal_answer status.refused refusal) { written = answer.written }
 
 -- An octet was rejected before: nothing changes.
-pub record HasFailed (u v : Unpacking) (answer : IimAnswer) : Type 0 where
+pub record StaysFailed (u v : Unpacking) (answer : IimAnswer) : Type 0 where
   pub octet : ℕ
   pub was : u.refused ≡ Some octet
   pub same : v ≡ u
   pub answer_is : answer ≡ refusal_answer status.refused (failed_at octet)
 
-abbrev pub IsFedTo : Unpacking → List ℕ → List ℕ → Unpacking → IimAnswer → Type 0
-IsFedTo u piece out v answer = Consumes u piece out v answer ⊎ Rejects u piece out v answer ⊎ HasFailed u v answer
+abbrev pub UnpackerIsFed : Unpacking → List ℕ → List ℕ → Unpacking → IimAnswer → Type 0
+UnpackerIsFed u piece out v answer = ConsumesChunk u piece out v answer ⊎ RejectsAndFails u piece out v answer ⊎ StaysFailed u v answer
 
 -- A piece was fed to a handle. A closed handle, or a buffer with room for fewer octets than the piece has, changes nothing.
-abbrev pub IsFed : Option Unpacking → List ℕ → List ℕ → List ℕ → Option Unpacking → IimAnswer → Type 0
-IsFed (Some u) piece before out new answer =
+abbrev pub HandleIsFed : Option Unpacking → List ℕ → List ℕ → List ℕ → Option Unpacking → IimAnswer → Type 0
+HandleIsFed (Some u) piece before out new answer =
     ((length before < length piece) × (new ≡ Some u) × (out ≡ before) × (answer ≡ short_answer (length piece) 0))
-    ⊎ ((length piece ≤ length before) × ((v : Unpacking) × (new ≡ Some v) × IsFedTo u piece out v answer))
-IsFed None piece before out new answer = (new ≡ None) × (out ≡ before) × (answer ≡ status_answer bad_handle)
+    ⊎ ((length piece ≤ length before) × ((v : Unpacking) × (new ≡ Some v) × UnpackerIsFed u piece out v answer))
+HandleIsFed None piece before out new answer = (new ≡ None) × (out ≡ before) × (answer ≡ status_answer bad_handle)
 
 -- ---- saving
 
 -- The ticket of the state is in the buffer, or the answer has its length, if the buffer is too short; or an octet was rejected before.
-abbrev pub IsSavedFrom : Unpacking → List ℕ → IimAnswer → Type 0
-IsSavedFrom u out answer =
+abbrev pub UnpackerIsSaved : Unpacking → List ℕ → IimAnswer → Type 0
+UnpackerIsSaved u out answer =
     ((octet : ℕ) × (u.refused ≡ Some octet) × (answer ≡ status_answer failed))
-    ⊎ ((count : ℕ) × (u.refused ≡ None) × HasTicketIn u out count
+    ⊎ ((count : ℕ) × (u.refused ≡ None) × WritesTicketOf u out count
     × (((count ≤ length out) × (answer ≡ record (status_answer status.done) { octet = u.octets; ticket = count }))
     ⊎ ((length out < count) × (answer ≡ short_answer 0 count))))
 
 -- The handle is left as it is.
-abbrev pub IsSaved : Option Unpacking → Option Unpacking → List ℕ → List ℕ → IimAnswer → Type 0
-IsSaved (Some u) new before out answer = (new ≡ Some u) × IsSavedFrom u out answer
-IsSaved None new before out answer = (new ≡ None) × (out ≡ before) × (answer ≡ status_answer bad_handle)
+abbrev pub HandleIsSaved : Option Unpacking → Option Unpacking → List ℕ → List ℕ → IimAnswer → Type 0
+HandleIsSaved (Some u) new before out answer = (new ≡ Some u) × UnpackerIsSaved u out answer
+HandleIsSaved None new before out answer = (new ≡ None) × (out ≡ before) × (answer ≡ status_answer bad_handle)
 
 -- A closed handle has the unpacker that the ticket describes, with capacity for what the limits allow; or the ticket is rejected; or there
 -- is no memory. An open handle is left as it is.
-abbrev pub IsRestoredTo : Limits → List ℕ → ℕ → Option Unpacking → Option Unpacking → IimAnswer → Type 0
-IsRestoredTo limits ticket at (Some u) new answer = (new ≡ Some u) × (answer ≡ status_answer bad_handle)
-IsRestoredTo limits ticket at None (Some v) answer =
-    IsRestored limits ticket at v × (room_in v ≡ room_for limits) × (answer ≡ status_answer status.done)
-IsRestoredTo limits ticket at None None answer =
+abbrev pub HandleIsRestored : Limits → List ℕ → ℕ → Option Unpacking → Option Unpacking → IimAnswer → Type 0
+HandleIsRestored limits ticket at (Some u) new answer = (new ≡ Some u) × (answer ≡ status_answer bad_handle)
+HandleIsRestored limits ticket at None (Some v) answer =
+    IsRestored limits ticket at v × (capacity_in v ≡ room_for limits) × (answer ≡ status_answer status.done)
+HandleIsRestored limits ticket at None None answer =
     ((fault : TicketFault) × IsRestoreFault limits ticket fault × (answer ≡ ticket_answer fault)) ⊎ (answer ≡ status_answer status.no_memory)
 
 -- ---- the end of the input
 
 -- An envelope has ended; or an octet was rejected before; or the octets so far are truncated.
-pub record HasEnd (u : Unpacking) (answer : IimAnswer) : Type 0 where
+pub record UnpackerHasEnd (u : Unpacking) (answer : IimAnswer) : Type 0 where
   pub done : IsDone u → answer ≡ record (status_answer status.done) { octet = u.octets }
   pub failed : (octet : ℕ) → u.refused ≡ Some octet → answer ≡ refusal_answer status.refused (failed_at octet)
-  pub truncated : (p : List ℕ) (a : ℕ) → Stands u p a → (e : Refusal) × IsTruncatedAt p a e × (answer ≡ refusal_answer status.truncated e)
+  pub truncated : (p : List ℕ) (a : ℕ) → HasRead u p a → (e : Refusal) × IsTruncatedAt p a e × (answer ≡ refusal_answer status.truncated e)
 
-abbrev pub IsEnd : Option Unpacking → Option Unpacking → IimAnswer → Type 0
-IsEnd (Some u) new answer = (new ≡ Some u) × HasEnd u answer
-IsEnd None new answer = (new ≡ None) × (answer ≡ status_answer bad_handle)
+abbrev pub HandleHasEnd : Option Unpacking → Option Unpacking → IimAnswer → Type 0
+HandleHasEnd (Some u) new answer = (new ≡ Some u) × UnpackerHasEnd u answer
+HandleHasEnd None new answer = (new ≡ None) × (answer ≡ status_answer bad_handle)

@@ -1,7 +1,7 @@
 //! The end of the input, and the end of a handle.
 
 ghost use Rattle.std.specs.Prelude.{◌≡◌, None};
-ghost use Rattle.iim_handle.specs.Format.{HasEnd, IsEnd};
+ghost use Rattle.iim_handle.specs.Format.{UnpackerHasEnd, HandleHasEnd};
 
 use crate::handle::{IimUnpacker, put_back, take_out};
 use crate::status::BAD_HANDLE;
@@ -13,7 +13,7 @@ use std::alloc::Global;
 
 /// Returns what it means for an unpacker that the input ends.
 fn end_unpacker(unpacker: &Unpacker) -> IimAnswer
-    ensures { HasEnd unpacker.now result }
+    ensures { UnpackerHasEnd unpacker.now result }
 {
     match unpacker.end_of_input() {
         Some(refusal) if unpacker.is_failed() => refusal_answer(REFUSED, refusal),
@@ -30,7 +30,7 @@ fn end_unpacker(unpacker: &Unpacker) -> IimAnswer
 /// `answer.status` is `DONE` after the end of an envelope, `TRUNCATED`, `REFUSED` with `cause` 61 if
 /// an octet was rejected before, or `BAD_HANDLE` if the handle is closed. The handle stays as it is.
 pub fn iim_unpacker_end(alloc: Global, handle: &mut IimUnpacker, answer: &mut IimAnswer)
-    ensures { IsEnd handle.old.owner.home handle.new.owner.home answer.new }
+    ensures { HandleHasEnd handle.old.owner.home handle.new.owner.home answer.new }
 {
     if !handle.is_open {
         *answer = status_answer(BAD_HANDLE);

@@ -1,11 +1,11 @@
 //! Feeding a handle.
 
-ghost use Rattle.iim_handle.specs.Format.{IsFed, IsFedTo};
+ghost use Rattle.iim_handle.specs.Format.{HandleIsFed, UnpackerIsFed};
 
 use crate::handle::{IimUnpacker, put_back, take_out};
 use crate::status::BAD_HANDLE;
 use iim_c::IimAnswer;
-use iim_c::internals::{feed_text, refusal_answer, status_answer, used_of};
+use iim_c::internals::{feed_text, refusal_answer, status_and_used, status_answer};
 use iim_c::status::{REFUSED, SHORT};
 use iim_dataset::laws::dataset_laws;
 use iim_unpack::Unpacker;
@@ -13,13 +13,13 @@ use std::alloc::Global;
 
 /// Feeds a piece to an unpacker, and writes the text that it delivers into the buffer.
 fn feed_unpacker(unpacker: &mut Unpacker, piece: &[u8], text_out: &mut [u8]) -> IimAnswer
-    ensures { IsFedTo unpacker.old piece.now text_out.new unpacker.new result }
+    ensures { UnpackerIsFed unpacker.old piece.now text_out.new unpacker.new result }
 {
     dataset_laws();
     let (fed, written) = feed_text(unpacker, piece, text_out);
     match fed {
         Ok(progress) => {
-            let (status, used) = used_of(progress, piece.len());
+            let (status, used) = status_and_used(progress, piece.len());
             IimAnswer {
                 octet: unpacker.octets(),
                 used,
@@ -47,7 +47,7 @@ pub fn iim_unpacker_feed(
     text_out: &mut [u8],
     answer: &mut IimAnswer,
 )
-    ensures { IsFed handle.old.owner.home piece.now text_out.old text_out.new handle.new.owner.home answer.new }
+    ensures { HandleIsFed handle.old.owner.home piece.now text_out.old text_out.new handle.new.owner.home answer.new }
 {
     if !handle.is_open {
         *answer = status_answer(BAD_HANDLE);

@@ -39,11 +39,11 @@ pub(crate) fn put_back(handle: &mut IimUnpacker, unpacker: Box<Unpacker>)
     requires { handle.old.owner.home ≡ None }
     ensures { handle.new.owner.home ≡ Some unpacker.value }
 {
-    let opened = IimUnpacker {
+    let put_new_opens = IimUnpacker {
         owner: Owner::of_parts(Parts::of(unpacker)),
         is_open: true,
     };
-    let IimUnpacker { owner, is_open: _ } = replace(handle, opened);
+    let IimUnpacker { owner, is_open: _ } = replace(handle, put_new_opens);
     owner.end();
 }
 

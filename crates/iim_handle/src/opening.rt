@@ -1,7 +1,7 @@
 //! Calls that begin an envelope.
 
 ghost use Rattle.iim_c.specs.Format.Checking.{limits_for};
-ghost use Rattle.iim_handle.specs.Format.{IsOpened, IsReset};
+ghost use Rattle.iim_handle.specs.Format.{HandleIsOpened, HandleIsReset};
 
 use crate::handle::{IimUnpacker, put_back, put_new, take_out};
 use crate::status::BAD_HANDLE;
@@ -15,7 +15,7 @@ use std::alloc::Global;
 /// Returns `DONE`; `NO_MEMORY`, and the handle stays closed; or `BAD_HANDLE` if it is open already,
 /// and stays as it is.
 pub fn iim_unpacker_open(alloc: Global, limits: IimLimits, handle: &mut IimUnpacker) -> u8
-    ensures { IsOpened (limits_for limits) handle.old.owner.home handle.new.owner.home result }
+    ensures { HandleIsOpened (limits_for limits) handle.old.owner.home handle.new.owner.home result }
 {
     if handle.is_open {
         return BAD_HANDLE;
@@ -30,7 +30,7 @@ pub fn iim_unpacker_open(alloc: Global, limits: IimLimits, handle: &mut IimUnpac
 ///
 /// Returns `DONE`, or `BAD_HANDLE` if the handle is closed. It allocates nothing.
 pub fn iim_unpacker_reset(alloc: Global, handle: &mut IimUnpacker) -> u8
-    ensures { IsReset handle.old.owner.home handle.new.owner.home result }
+    ensures { HandleIsReset handle.old.owner.home handle.new.owner.home result }
 {
     if !handle.is_open {
         return BAD_HANDLE;

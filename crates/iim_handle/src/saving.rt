@@ -1,7 +1,7 @@
 //! Saving the state of a handle, and opening one in a saved state.
 
 ghost use Rattle.iim_c.specs.Format.Checking.{limits_for};
-ghost use Rattle.iim_handle.specs.Format.{IsRestoredTo, IsSaved, IsSavedFrom};
+ghost use Rattle.iim_handle.specs.Format.{HandleIsRestored, HandleIsSaved, UnpackerIsSaved};
 
 use crate::handle::{IimUnpacker, put_back, put_new, take_out};
 use crate::status::{BAD_HANDLE, FAILED};
@@ -13,7 +13,7 @@ use std::alloc::Global;
 
 /// Writes the ticket of an unpacker into a buffer, if it has room for it.
 fn save_unpacker(unpacker: &Unpacker, ticket_out: &mut [u8]) -> IimAnswer
-    ensures { IsSavedFrom unpacker.now ticket_out.new result }
+    ensures { UnpackerIsSaved unpacker.now ticket_out.new result }
 {
     let Ok(ticket) = unpacker.save_at(ticket_out) else {
         return status_answer(FAILED);
@@ -43,7 +43,7 @@ pub fn iim_unpacker_save(
     ticket_out: &mut [u8],
     answer: &mut IimAnswer,
 )
-    ensures { IsSaved handle.old.owner.home handle.new.owner.home ticket_out.old ticket_out.new answer.new }
+    ensures { HandleIsSaved handle.old.owner.home handle.new.owner.home ticket_out.old ticket_out.new answer.new }
 {
     if !handle.is_open {
         *answer = status_answer(BAD_HANDLE);
@@ -66,7 +66,8 @@ pub fn iim_unpacker_restore(
     at: u64,
     answer: &mut IimAnswer,
 )
-    ensures { IsRestoredTo (limits_for limits) ticket.now at handle.old.owner.home handle.new.owner.home answer.new }
+    ensures { HandleIsRestored (limits_for limits) ticket.now at handle.old.owner.home handle.new.owner.home
+        answer.new }
 {
     if handle.is_open {
         *answer = status_answer(BAD_HANDLE);

@@ -1,5 +1,5 @@
 pub mod Words
 pub mod Listings
-pub mod Narration
-pub mod Narrators
+pub mod StoryWriting
+pub mod StoryWriters
 pub mod Taken

@@ -2,29 +2,29 @@
 use Rattle.std.specs.Prelude.{◌≡◌, ℕ, ◌+◌, length, List, [], ◌∷◌, ◌++◌, codes, decimal, ◌⊎◌, ◌≤◌, map, take}
 use Rattle.std.specs.{List.flat_map, List.join_with_byte, Io.KnownBytes.Appends}
 use Rattle.wire_story.specs.Format.Texts.{StoryEvent, delivered, octet_for}
-use Rattle.iim_places.specs.Format.Open.{IsTextOf, IsOpen}
-use Rattle.iim_places.specs.Format.Streams.{raised, InputEnding, Listed, Whole, RefusedBy, TooMany, Divides, EndsBy, IsListing, IsListed, IsRefusedAfter}
+use Rattle.iim_places.specs.Format.Open.{IsTextOf, IsIncomplete}
+use Rattle.iim_places.specs.Format.Streams.{sum_capped, InputEnding, Listed, Whole, RefusedBy, TooMany, SplitsInto, HasEnd, IsListing, IsListed, IsRefusedAfter}
 use Rattle.iim_output.specs.Format.{accepted_line, refused_line, too_many_line, status_accepted, status_refused, limits}
 use Rattle.iim_object.specs.{Format.Objects.mode_number, declared.size.Sizes.Sizes}
 use Rattle.iim_script.specs.Format.Scripts.{field_line, message_line, trailer_line}
 use Rattle.iim_dataset.specs.{Format.Datasets.number_or_dash, Format.Octets.lf, declared.device.IoFault.IoFault}
-use Rattle.iim_dataset.specs.States.Devices.{Device, Wrote, Stopped, Unfailed, HasGiven, MissedAfter}
+use Rattle.iim_dataset.specs.States.Devices.{Device, WroteAllOf, WroteOnlyPrefixOf, CountedNoFailure, ReadsGave, ReadFailedAfter}
 use Rattle.iim_output.specs.States.Devices.{HasOctets}
-use Rattle.wire_story.specs.States.Reading.{HasBroken}
+use Rattle.wire_story.specs.States.Reading.{TargetFailed}
 pub use Rattle.iim_output.specs.declared.fault.CommandFault.{CommandFault}
 pub use Rattle.iim_output.specs.declared.fault.CommandFault.TheVariants.{CannotRead, CannotWrite, OutOfMemory}
 
 -- a number of octets as it is counted: capped at the greatest number of 64 bits
 abbrev pub told : ℕ → ℕ
-told n = raised 0 n
+told n = sum_capped 0 n
 
 -- These events are delivered for the text in the octets.
-abbrev pub IsDelivered : List ℕ → List StoryEvent → Type 0
-IsDelivered octets more = (text : List ℕ) × IsTextOf octets text × (more ≡ delivered text)
+abbrev pub EventsAreDelivered : List ℕ → List StoryEvent → Type 0
+EventsAreDelivered octets more = (text : List ℕ) × IsTextOf octets text × (more ≡ delivered text)
 
 -- the line of an envelope with this number
-abbrev pub line_of : ℕ → Listed → List ℕ
-line_of number e = accepted_line number (told (length e.octets))
+abbrev pub check_line_of : ℕ → Listed → List ℕ
+check_line_of number e = accepted_line number (told (length e.octets))
 
 -- the texts of envelopes in their order, numbered from n
 abbrev pub texts_from : (ℕ → Listed → List ℕ) → ℕ → List Listed → List ℕ
@@ -42,9 +42,9 @@ abbrev pub listing : (ℕ → Listed → List ℕ) → List Listed → InputEndi
 listing text envelopes ending = texts_from text 1 envelopes ++ ending_line (length envelopes) ending
 
 -- the status of a listing: 0 if the whole input is accepted, otherwise 1
-abbrev pub status_of : InputEnding → ℕ
-status_of Whole = status_accepted
-status_of _ = status_refused
+abbrev pub listing_status : InputEnding → ℕ
+listing_status Whole = status_accepted
+listing_status _ = status_refused
 
 -- the first line
 abbrev pub number_line : ℕ → List ℕ
@@ -57,31 +57,31 @@ sizes_line s =
     ++ (number_or_dash s.maximum ++ codes "\n")))))))))))
 
 -- the text of `show` for an envelope with this number
-abbrev pub shown_of : ℕ → Listed → List ℕ
-shown_of number e = number_line number
+abbrev pub show_text_of : ℕ → Listed → List ℕ
+show_text_of number e = number_line number
     ++ (flat_map field_line e.value.fields ++ (message_line e.value.head ++ (trailer_line e.value.trailer ++ sizes_line e.value.sizes)))
 
 -- The listing of the whole input is written, and this is its status. (The input before and after,
 -- then the output.)
 abbrev pub WritesListing : (ℕ → Listed → List ℕ) → Device → Device → Device → Device → ℕ → Type 0
-WritesListing text source rest old new status = (input : List ℕ) × (envelopes : List Listed) × (ending : InputEnding) × HasOctets source.octets input × Unfailed source rest
-    × IsListing limits input envelopes ending × (status ≡ status_of ending) × Wrote old new (listing text envelopes ending)
+WritesListing text source rest old new status = (input : List ℕ) × (envelopes : List Listed) × (ending : InputEnding) × HasOctets source.octets input × CountedNoFailure source rest
+    × IsListing limits input envelopes ending × (status ≡ listing_status ending) × WroteAllOf old new (listing text envelopes ending)
 
 -- The text is that of the envelopes, possibly with the last line.
 abbrev pub IsListingText : (ℕ → Listed → List ℕ) → List Listed → List ℕ → List ℕ → Type 0
 IsListingText text envelopes rest words = (words ≡ texts_from text 1 envelopes)
-    ⊎ ((ending : InputEnding) × EndsBy limits (length envelopes) rest ending × (words ≡ listing text envelopes ending))
+    ⊎ ((ending : InputEnding) × HasEnd limits (length envelopes) rest ending × (words ≡ listing text envelopes ending))
 
 -- Why the listing is not complete. A read failed after envelopes and a viable prefix: all these
 -- envelopes are listed. Or a write failed inside the listing. Or an allocation failed: some of the
 -- envelopes that were read are listed.
-abbrev pub FailsListing : (ℕ → Listed → List ℕ) → Device → Device → Device → Device → CommandFault → Type 0
-FailsListing text source rest old new CannotRead = (input : List ℕ) × (envelopes : List Listed) × (begun : List ℕ) × (fault : IoFault)
-    × Divides limits input envelopes begun × IsOpen limits begun × MissedAfter source rest input fault × Wrote old new (texts_from text 1 envelopes)
-FailsListing text source rest old new CannotWrite = (input : List ℕ) × (envelopes : List Listed) × (begun : List ℕ) × (words : List ℕ) × (n : ℕ)
-    × Divides limits input envelopes begun × HasGiven source rest input × IsListingText text envelopes begun words × Stopped old new words n
-FailsListing text source rest old new OutOfMemory = (input : List ℕ) × (envelopes : List Listed) × (begun : List ℕ)
-    × Divides limits input envelopes begun × HasGiven source rest input × Wrote old new (texts_from text 1 envelopes)
+abbrev pub ListingFails : (ℕ → Listed → List ℕ) → Device → Device → Device → Device → CommandFault → Type 0
+ListingFails text source rest old new CannotRead = (input : List ℕ) × (envelopes : List Listed) × (begun : List ℕ) × (fault : IoFault)
+    × SplitsInto limits input envelopes begun × IsIncomplete limits begun × ReadFailedAfter source rest input fault × WroteAllOf old new (texts_from text 1 envelopes)
+ListingFails text source rest old new CannotWrite = (input : List ℕ) × (envelopes : List Listed) × (begun : List ℕ) × (words : List ℕ) × (n : ℕ)
+    × SplitsInto limits input envelopes begun × ReadsGave source rest input × IsListingText text envelopes begun words × WroteOnlyPrefixOf old new words n
+ListingFails text source rest old new OutOfMemory = (input : List ℕ) × (envelopes : List Listed) × (begun : List ℕ)
+    × SplitsInto limits input envelopes begun × ReadsGave source rest input × WroteAllOf old new (texts_from text 1 envelopes)
 
 -- ---- What `story` writes: the text of each envelope to the output, and the lines of `check` to
 -- the errors.
@@ -99,67 +99,67 @@ abbrev pub stories : List Listed → List ℕ
 stories envelopes = texts_from story_of 1 envelopes
 
 -- The words are the text delivered for the octets, with each line end as LF.
-abbrev pub IsTextIn : List ℕ → List ℕ → Type 0
-IsTextIn octets words = (more : List StoryEvent) × IsDelivered octets more × (words ≡ map octet_for more)
+abbrev pub TextIsDelivered : List ℕ → List ℕ → Type 0
+TextIsDelivered octets words = (more : List StoryEvent) × EventsAreDelivered octets more × (words ≡ map octet_for more)
 
 -- The text of the octets after the envelopes: for a refusal the text before the rejected octet,
 -- and for one envelope too many its text, without an LF.
-abbrev pub LeavesText : List ℕ → InputEnding → List ℕ → Type 0
-LeavesText rest Whole words = words ≡ []
-LeavesText rest (RefusedBy refusal) words = (k : ℕ) × IsRefusedAfter limits rest k refusal × IsTextIn (take k rest) words
-LeavesText rest TooMany words = (e : Listed) × IsListed limits e × (more : List ℕ) × (rest ≡ e.octets ++ more) × (words ≡ text_of e)
+abbrev pub WritesTextAfter : List ℕ → InputEnding → List ℕ → Type 0
+WritesTextAfter rest Whole words = words ≡ []
+WritesTextAfter rest (RefusedBy refusal) words = (k : ℕ) × IsRefusedAfter limits rest k refusal × TextIsDelivered (take k rest) words
+WritesTextAfter rest TooMany words = (e : Listed) × IsListed limits e × (more : List ℕ) × (rest ≡ e.octets ++ more) × (words ≡ text_of e)
 
 -- The whole input is written: its stories to the output, and the lines of `check` to the errors.
 -- (The input before and after, then the output, then the errors.)
-abbrev pub Narrated : Device → Device → Device → Device → Device → Device → ℕ → Type 0
-Narrated source rest old new errors_old errors_new status =
-    (input : List ℕ) × (envelopes : List Listed) × (ending : InputEnding) × (words : List ℕ) × HasOctets source.octets input × Unfailed source rest
-    × (all : IsListing limits input envelopes ending) × LeavesText all.rest ending words × (status ≡ status_of ending)
-    × Wrote old new (stories envelopes ++ words) × Wrote errors_old errors_new (listing line_of envelopes ending)
+abbrev pub WritesStories : Device → Device → Device → Device → Device → Device → ℕ → Type 0
+WritesStories source rest old new errors_old errors_new status =
+    (input : List ℕ) × (envelopes : List Listed) × (ending : InputEnding) × (words : List ℕ) × HasOctets source.octets input × CountedNoFailure source rest
+    × (all : IsListing limits input envelopes ending) × WritesTextAfter all.rest ending words × (status ≡ listing_status ending)
+    × WroteAllOf old new (stories envelopes ++ words) × WroteAllOf errors_old errors_new (listing check_line_of envelopes ending)
 
 -- ---- where an error occurs
 
 -- A write to the output failed after these stories, inside the text of the octets. The words are
 -- written; the text of the first k octets begins with them. If these are all octets, and all of
 -- their text is written, then they are an envelope, and the write of the LF after its text failed.
-abbrev pub BreaksInText : Device → Device → List Listed → List ℕ → Type 0
-BreaksInText old new envelopes octets = (k : ℕ) × (words : List ℕ) × (rest : List ℕ) × (k ≤ length octets)
+abbrev pub TextWriteFails : Device → Device → List Listed → List ℕ → Type 0
+TextWriteFails old new envelopes octets = (k : ℕ) × (words : List ℕ) × (rest : List ℕ) × (k ≤ length octets)
     × (k ≡ length octets → rest ≡ [] → (e : Listed) × IsListed limits e × (e.octets ≡ octets))
-    × IsTextIn (take k octets) (words ++ rest) × Appends old.octets new.octets (stories envelopes ++ words) × HasBroken old new
+    × TextIsDelivered (take k octets) (words ++ rest) × Appends old.octets new.octets (stories envelopes ++ words) × TargetFailed old new
 
 -- Of the envelopes whose stories are written, the lines of the first ones are written to the
 -- errors, each completely. (All envelopes that ended before the last read are among them: nothing
 -- is buffered at a read. That is the condition of `Input::next_piece`, and not part of this
 -- definition.)
-abbrev pub TellsFront : Device → Device → List Listed → Type 0
-TellsFront errors_old errors_new envelopes = (front : List Listed) × (others : List Listed) × (envelopes ≡ front ++ others)
-    × Wrote errors_old errors_new (texts_from line_of 1 front)
+abbrev pub WritesFirstLines : Device → Device → List Listed → Type 0
+WritesFirstLines errors_old errors_new envelopes = (front : List Listed) × (others : List Listed) × (envelopes ≡ front ++ others)
+    × WroteAllOf errors_old errors_new (texts_from check_line_of 1 front)
 
 -- A write to the errors failed inside these lines, after these words, which are the text of the
 -- first k octets after the envelopes; or the lines include the one for what follows the envelopes.
-abbrev pub AreToldWith : List Listed → List ℕ → List ℕ → List ℕ → Type 0
-AreToldWith envelopes rest told words = ((told ≡ texts_from line_of 1 envelopes) × (k : ℕ) × IsTextIn (take k rest) words)
-    ⊎ ((ending : InputEnding) × EndsBy limits (length envelopes) rest ending × LeavesText rest ending words × (told ≡ listing line_of envelopes ending))
+abbrev pub LinesFollowText : List Listed → List ℕ → List ℕ → List ℕ → Type 0
+LinesFollowText envelopes rest told words = ((told ≡ texts_from check_line_of 1 envelopes) × (k : ℕ) × TextIsDelivered (take k rest) words)
+    ⊎ ((ending : InputEnding) × HasEnd limits (length envelopes) rest ending × WritesTextAfter rest ending words × (told ≡ listing check_line_of envelopes ending))
 
-abbrev pub BreaksInLines : Device → Device → Device → Device → List Listed → List ℕ → Type 0
-BreaksInLines old new errors_old errors_new envelopes rest = (told : List ℕ) × (words : List ℕ) × (n : ℕ) × AreToldWith envelopes rest told words
-    × Wrote old new (stories envelopes ++ words) × Stopped errors_old errors_new told n
+abbrev pub LineWriteFails : Device → Device → Device → Device → List Listed → List ℕ → Type 0
+LineWriteFails old new errors_old errors_new envelopes rest = (told : List ℕ) × (words : List ℕ) × (n : ℕ) × LinesFollowText envelopes rest told words
+    × WroteAllOf old new (stories envelopes ++ words) × WroteOnlyPrefixOf errors_old errors_new told n
 
 -- Why the output is not complete. A read failed after envelopes and a viable prefix. Or a write to
 -- the output failed inside a story, possibly that of an earlier envelope than the last one read:
 -- then the buffered lines are lost, and no line is written before its story. Or a write to the
 -- errors failed inside the lines, when all stories were written. Or an allocation failed: the
 -- stories of some of the envelopes are written, and the text of the first k octets after them.
-abbrev pub FailsToNarrate : Device → Device → Device → Device → Device → Device → CommandFault → Type 0
-FailsToNarrate source rest old new errors_old errors_new CannotRead =
+abbrev pub StoriesFail : Device → Device → Device → Device → Device → Device → CommandFault → Type 0
+StoriesFail source rest old new errors_old errors_new CannotRead =
     (input : List ℕ) × (envelopes : List Listed) × (begun : List ℕ) × (fault : IoFault) × (words : List ℕ)
-    × Divides limits input envelopes begun × IsOpen limits begun × MissedAfter source rest input fault × IsTextIn begun words
-    × Wrote old new (stories envelopes ++ words) × Wrote errors_old errors_new (texts_from line_of 1 envelopes)
-FailsToNarrate source rest old new errors_old errors_new CannotWrite =
-    (input : List ℕ) × (envelopes : List Listed) × (begun : List ℕ) × Divides limits input envelopes begun × HasGiven source rest input
-    × ((BreaksInText old new envelopes begun × TellsFront errors_old errors_new envelopes)
-    ⊎ BreaksInLines old new errors_old errors_new envelopes begun)
-FailsToNarrate source rest old new errors_old errors_new OutOfMemory =
+    × SplitsInto limits input envelopes begun × IsIncomplete limits begun × ReadFailedAfter source rest input fault × TextIsDelivered begun words
+    × WroteAllOf old new (stories envelopes ++ words) × WroteAllOf errors_old errors_new (texts_from check_line_of 1 envelopes)
+StoriesFail source rest old new errors_old errors_new CannotWrite =
+    (input : List ℕ) × (envelopes : List Listed) × (begun : List ℕ) × SplitsInto limits input envelopes begun × ReadsGave source rest input
+    × ((TextWriteFails old new envelopes begun × WritesFirstLines errors_old errors_new envelopes)
+    ⊎ LineWriteFails old new errors_old errors_new envelopes begun)
+StoriesFail source rest old new errors_old errors_new OutOfMemory =
     (input : List ℕ) × (envelopes : List Listed) × (begun : List ℕ) × (k : ℕ) × (words : List ℕ)
-    × Divides limits input envelopes begun × HasGiven source rest input × IsTextIn (take k begun) words
-    × Wrote old new (stories envelopes ++ words) × Wrote errors_old errors_new (texts_from line_of 1 envelopes)
+    × SplitsInto limits input envelopes begun × ReadsGave source rest input × TextIsDelivered (take k begun) words
+    × WroteAllOf old new (stories envelopes ++ words) × WroteAllOf errors_old errors_new (texts_from check_line_of 1 envelopes)

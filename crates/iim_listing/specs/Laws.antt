@@ -3,8 +3,8 @@
 use Rattle.std.specs.Prelude.{◌≡◌, ℕ, List}
 use Rattle.wire_story.specs.Format.Texts.{StoryEvent, events_of_lines}
 use Rattle.iim_places.specs.Format.Admitted.{Value, Admits}
-use Rattle.iim_listing.specs.Format.{IsDelivered}
+use Rattle.iim_listing.specs.Format.{EventsAreDelivered}
 
 -- The text delivered for an envelope consists of its lines.
 abbrev pub EnvelopesAreDeliveredAsLines : Type 0
-EnvelopesAreDeliveredAsLines = (octets : List ℕ) (v : Value) (more : List StoryEvent) → Admits octets v → IsDelivered octets more → more ≡ events_of_lines v.lines
+EnvelopesAreDeliveredAsLines = (octets : List ℕ) (v : Value) (more : List StoryEvent) → Admits octets v → EventsAreDelivered octets more → more ≡ events_of_lines v.lines

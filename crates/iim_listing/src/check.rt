@@ -1,6 +1,6 @@
 //! One line for each envelope.
 
-ghost use Rattle.iim_listing.specs.Format.{line_of};
+ghost use Rattle.iim_listing.specs.Format.{check_line_of};
 
 use crate::list::EnvelopeLines;
 use iim_output::lines::push_accepted;
@@ -12,7 +12,7 @@ use std::alloc::AllocError;
 pub struct Check;
 
 impl EnvelopeLines for Check {
-    ghost written = { line_of };
+    ghost written = { check_line_of };
 
     fn push_text(
         &self,

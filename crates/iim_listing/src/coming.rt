@@ -1,22 +1,22 @@
 //! The next envelope of an input.
 
 ghost use Rattle.std.specs.Prelude.{◌≡◌, [], None, OnOk, OnErr};
-ghost use Rattle.iim_unpack.specs.States.Intakes.{in_line};
-ghost use Rattle.iim_listing.specs.States.{IsNext, IsCalm, CanAskForMore};
+ghost use Rattle.iim_unpack.specs.States.Intakes.{input_of};
+ghost use Rattle.iim_listing.specs.States.{IsNextItem, CountsFailuresOfSink, CanReadNext};
 ghost use Rattle.iim_unpack.specs.States.Unpacking.{limits_in};
 ghost use Rattle.iim_unpack.specs.declared.intake.IntakeFault.TheVariants.{Refused};
-ghost use Rattle.iim_listing.specs.Steps.{IsOfFault};
+ghost use Rattle.iim_listing.specs.Steps.{IsNextForFault};
 ghost use Rattle.iim_output.specs.Format.{limits};
 
 use crate::input::Input;
-use iim_dataset::device_laws::gifts_join;
+use iim_dataset::device_laws::reads_join;
 use iim_dataset::{Source, Stop};
 use iim_output::fault::CommandFault;
+use iim_output::flush_sink::FlushSink;
 pub use iim_output::limits::LIMITS;
-use iim_output::outlet::Outlet;
 use iim_unpack::laws::place_laws;
 use iim_unpack::{Cause, Fed, IntakeFault, Refusal, Unpacker};
-use wire_story::laws::delivery_may_be_cut;
+use wire_story::laws::delivery_of_chunks_joins;
 
 /// The next item of an input.
 #[derive(Clone, Copy, Debug, PartialEq, Eq)]
@@ -30,21 +30,21 @@ pub enum Next {
 }
 
 /// Flushes the sink if the input has no buffered octets and must be read.
-fn let_out_before_read<R: Source, S: Outlet>(intake: &Input<R>, sink: &mut S) -> Result<(), Stop>
+fn flush_before_read<R: Source, S: FlushSink>(intake: &Input<R>, sink: &mut S) -> Result<(), Stop>
     ensures told { OnOk result (S.goes sink.old [] sink.new) }
-    ensures calm { OnOk result (S.failures sink.new ≡ S.failures sink.old) }
-    ensures settled { OnOk result (intake.now.block ≡ [] → S.settled sink.new) }
-    ensures stuck { OnErr result (S.stuck sink.old sink.new) }
+    ensures no_failure { OnOk result (S.failures sink.new ≡ S.failures sink.old) }
+    ensures is_flushed { OnOk result (intake.now.block ≡ [] → S.is_flushed sink.new) }
+    ensures write_failed { OnErr result (S.write_failed sink.old sink.new) }
 {
-    if intake.holds_octets() {
+    if intake.has_buffered_octets() {
         return Ok(());
     }
-    sink.let_out()
+    sink.flush_all()
 }
 
 /// Returns the next item for a refusal, or an error if the refusal is that of the sink.
 fn next_of_refusal(refusal: Refusal) -> Result<Next, CommandFault>
-    ensures { IsOfFault (Refused refusal) result }
+    ensures { IsNextForFault (Refused refusal) result }
 {
     if refusal.cause == Cause::SINK {
         return Err(CommandFault::CannotWrite);
@@ -54,7 +54,7 @@ fn next_of_refusal(refusal: Refusal) -> Result<Next, CommandFault>
 
 /// Returns the next item for an error of an intake, or the error of the command.
 fn next_of_fault(fault: IntakeFault) -> Result<Next, CommandFault>
-    ensures { IsOfFault fault result }
+    ensures { IsNextForFault fault result }
 {
     match fault {
         IntakeFault::Refused(refusal) => next_of_refusal(refusal),
@@ -66,25 +66,25 @@ fn next_of_fault(fault: IntakeFault) -> Result<Next, CommandFault>
 /// Resets an unpacker, and feeds it the next envelope of an input. The sink receives the text of
 /// the envelope, and is flushed before each read of the input. Errors are those of the input and
 /// the output; a refusal is an item.
-pub fn take_next<R: Source, S: Outlet>(
+pub fn next_item<R: Source, S: FlushSink>(
     intake: &mut Input<R>,
     unpacker: &mut Unpacker,
     sink: &mut S,
 ) -> Result<Next, CommandFault>
     requires alive { intake.old.failed ≡ None }
     requires limits { limits_in unpacker.old ≡ limits }
-    ensures next { IsNext S.goes S.failures S.settled S.stuck (in_line R.state intake.old, sink.old)
-        (in_line R.state intake.new, unpacker.new, sink.new) result }
-    ensures calm { IsCalm (S.failures sink.old) (S.failures sink.new) result }
-    ensures lives { CanAskForMore intake.new.failed result }
+    ensures next { IsNextItem S.goes S.failures S.is_flushed S.write_failed (input_of R.state intake.old, sink.old)
+        (input_of R.state intake.new, unpacker.new, sink.new) result }
+    ensures no_failure { CountsFailuresOfSink (S.failures sink.old) (S.failures sink.new) result }
+    ensures lives { CanReadNext intake.new.failed result }
     ensures leads { R.leads intake.old.reader intake.new.reader }
 {
-    gifts_join();
-    delivery_may_be_cut();
+    reads_join();
+    delivery_of_chunks_joins();
     place_laws();
     unpacker.again();
     'feeding: loop {
-        match let_out_before_read(intake, sink) {
+        match flush_before_read(intake, sink) {
             Ok(()) => {}
             Err(_) => return Err(CommandFault::CannotWrite),
         }

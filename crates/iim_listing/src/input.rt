@@ -1,10 +1,10 @@
 //! An input that is read only when all earlier output is written.
 
 ghost use Rattle.std.specs.Prelude.{◌≡◌, ◌↔◌, ◌<◌, [], None, IsTrue, IfOk, IfErr, OnOk, length};
-ghost use Rattle.iim_unpack.specs.States.Intakes.{FedPiece, GivesNothing, IsReady, ReadsWhereEmpty, in_line};
+ghost use Rattle.iim_unpack.specs.States.Intakes.{FedChunk, ReturnsNone, AcceptsInput, ReadsOnlyIfEmpty, input_of};
 
 use iim_dataset::Source;
-use iim_output::outlet::Outlet;
+use iim_output::flush_sink::FlushSink;
 use iim_unpack::{Fed, Intake, IntakeFault, Unpacker};
 use std::marker::Model;
 
@@ -39,28 +39,28 @@ impl<R: Source> Input<R> {
     }
 
     /// Checks whether octets were read and not consumed. Then [`Input::next_piece`] does not read.
-    pub fn holds_octets(&self) -> bool
+    pub fn has_buffered_octets(&self) -> bool
         ensures { IsTrue result ↔ (0 < length self.now.block) }
     {
-        self.intake.holds_octets()
+        self.intake.has_buffered_octets()
     }
 
     /// Feeds an unpacker the octets that were read and not consumed. If there are no such octets,
     /// reads once, as [`Intake::next_piece`] does, and feeds what it has read. The sink must have
     /// nothing buffered in that case.
-    pub fn next_piece<S: Outlet>(
+    pub fn next_piece<S: FlushSink>(
         &mut self,
         unpacker: &mut Unpacker,
         sink: &mut S,
     ) -> Result<Fed, IntakeFault>
-        requires ready { IsReady unpacker.old }
-        requires out { self.old.block ≡ [] → S.settled sink.old }
-        ensures fed { self.old.failed ≡ None → IfOk result (FedPiece S.goes
-            (in_line R.state self.old, unpacker.old, sink.old) (in_line R.state self.new, unpacker.new, sink.new)) }
-        ensures calm { OnOk result ((self.new.failed ≡ None) × (S.failures sink.new ≡ S.failures sink.old)) }
-        ensures faults { self.old.failed ≡ None → IfErr result (GivesNothing S.goes S.failures R.state
+        requires ready { AcceptsInput unpacker.old }
+        requires out { self.old.block ≡ [] → S.is_flushed sink.old }
+        ensures fed { self.old.failed ≡ None → IfOk result (FedChunk S.goes
+            (input_of R.state self.old, unpacker.old, sink.old) (input_of R.state self.new, unpacker.new, sink.new)) }
+        ensures no_failure { OnOk result ((self.new.failed ≡ None) × (S.failures sink.new ≡ S.failures sink.old)) }
+        ensures faults { self.old.failed ≡ None → IfErr result (ReturnsNone S.goes S.failures R.state
             (self.old, unpacker.old, sink.old) (self.new, unpacker.new, sink.new)) }
-        ensures reads { ReadsWhereEmpty self.old self.new unpacker.old unpacker.new sink.old sink.new result }
+        ensures reads { ReadsOnlyIfEmpty self.old self.new unpacker.old unpacker.new sink.old sink.new result }
         ensures leads { R.leads self.old.reader self.new.reader }
     {
         self.intake.next_piece(unpacker, sink)

@@ -1,7 +1,7 @@
 //! The commands `check`, `show` and `story`.
 //!
 //! [`list::list`] writes a text for each envelope of an input, up to the first refusal, and
-//! [`story::narrate`] writes the story of each. Both call [`coming::take_next`] to read an
+//! [`story::write_stories`] writes the story of each. Both call [`coming::next_item`] to read an
 //! [`input::Input`], which can be read only when all earlier output is written.
 //!
 //! Depends on `iim_unpack`, on `iim_output` for writers, on `iim_script` for escaped values, and
@@ -13,6 +13,6 @@ pub mod coming;
 pub mod input;
 pub mod laws;
 pub mod list;
-mod narrator;
 pub mod show;
 pub mod story;
+mod story_writer;

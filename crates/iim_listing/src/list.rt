@@ -1,24 +1,24 @@
 //! Listings of inputs: a text for each envelope, and a last line.
 
 ghost use Rattle.std.specs.Prelude.{◌≡◌, ◌<◌, ◌≤◌, ◌++◌, ℕ, List, length, None, Ok, Err, IfOk, IfErr, OnOk};
-ghost use Rattle.iim_unpack.specs.States.Intakes.{in_line};
-ghost use Rattle.iim_unpack.specs.Format.Pieces.{ShowsParts};
+ghost use Rattle.iim_unpack.specs.States.Intakes.{input_of};
+ghost use Rattle.iim_unpack.specs.Format.Pieces.{HasBorrowedParts};
 ghost use Rattle.iim_places.specs.Format.Admitted.{Admits};
 ghost use Rattle.iim_unpack.specs.States.Unpacking.{IsDone, IsDoneWith, limits_in};
 ghost use Rattle.iim_output.specs.Format.{limits};
 ghost use Rattle.iim_places.specs.Format.Streams.{Listed, max_envelopes};
-ghost use Rattle.iim_listing.specs.Format.{told, WritesListing, FailsListing};
-ghost use Rattle.iim_output.specs.States.Holding.{HoldsNothing, KeepsWriter, device_of};
-ghost use Rattle.iim_listing.specs.Steps.{FailsToList, Settles, ListsNext};
+ghost use Rattle.iim_listing.specs.Format.{told, WritesListing, ListingFails};
+ghost use Rattle.iim_output.specs.States.Holding.{HasEmptyBuffer, KeepsWriter, device_of};
+ghost use Rattle.iim_listing.specs.Steps.{BufferedListingFails, FlushesAfterFailure, ListsNextItem};
 
-use crate::coming::{LIMITS, Next, take_next};
+use crate::coming::{LIMITS, Next, next_item};
 use crate::input::Input;
-use iim_dataset::device_laws::{gifts_join, texts_join};
+use iim_dataset::device_laws::{reads_join, writes_join};
 use iim_dataset::{Source, Target};
 use iim_output::block_writer::BlockWriter;
 use iim_output::fault::CommandFault;
-use iim_output::lines::{TOO_MANY, add, add_last, push_refused};
-use iim_output::silent::Silent;
+use iim_output::lines::{TOO_MANY, append, append_and_flush, push_refused};
+use iim_output::null_sink::NullSink;
 use iim_output::status::{ACCEPTED, REFUSED};
 use iim_unpack::{MAX_ENVELOPES, UnpackedRef, Unpacker};
 use std::alloc::{AllocError, Global};
@@ -50,7 +50,7 @@ fn list_next<P: EnvelopeLines, R: Source, W: Target>(
     texts: &P,
     intake: &mut Input<R>,
     unpacker: &mut Unpacker,
-    silent: &mut Silent<'_, W>,
+    null_sink: &mut NullSink<'_, W>,
     text: &mut Vec<u8>,
     count: u64,
 ) -> Result<Option<u8>, CommandFault>
@@ -59,30 +59,31 @@ fn list_next<P: EnvelopeLines, R: Source, W: Target>(
     requires few { count ≤ max_envelopes }
     ensures ok { IfOk result (λ next.
         (next ≡ None → (intake.new.failed ≡ None) × (limits_in unpacker.new ≡ limits) × (count < max_envelopes))
-        × ListsNext W.state P.written (in_line R.state intake.old) (in_line R.state intake.new) silent.old.output
-        silent.new.output count (Ok next)) }
-    ensures err { IfErr result (λ fault. ListsNext W.state P.written
-        (in_line R.state intake.old) (in_line R.state intake.new)
-        silent.old.output silent.new.output count (Err fault)) }
+        × ListsNextItem W.state P.written (input_of R.state intake.old)
+        (input_of R.state intake.new) null_sink.old.output
+        null_sink.new.output count (Ok next)) }
+    ensures err { IfErr result (λ fault. ListsNextItem W.state P.written
+        (input_of R.state intake.old) (input_of R.state intake.new)
+        null_sink.old.output null_sink.new.output count (Err fault)) }
     ensures leads { R.leads intake.old.reader intake.new.reader }
 {
-    gifts_join();
-    texts_join();
+    reads_join();
+    writes_join();
     text.clear();
-    match take_next(intake, unpacker, silent)? {
+    match next_item(intake, unpacker, null_sink)? {
         Next::Envelope(octets) => {
             if count == MAX_ENVELOPES {
-                add_last(&mut silent.output, TOO_MANY.as_bytes())?;
+                append_and_flush(&mut null_sink.output, TOO_MANY.as_bytes())?;
                 return Ok(Some(REFUSED));
             }
             push_envelope(texts, text, unpacker, count + 1, octets)?;
-            add(&mut silent.output, text.as_slice())?;
+            append(&mut null_sink.output, text.as_slice())?;
             Ok(None)
         }
         Next::End => Ok(Some(ACCEPTED)),
         Next::Refused(refusal) => {
             push_refused(text, count + 1, refusal)?;
-            add_last(&mut silent.output, text.as_slice())?;
+            append_and_flush(&mut null_sink.output, text.as_slice())?;
             Ok(Some(REFUSED))
         }
     }
@@ -94,23 +95,24 @@ fn list_texts<P: EnvelopeLines, R: Source, W: Target>(
     alloc: Global,
     texts: &P,
     intake: &mut Input<R>,
-    silent: &mut Silent<'_, W>,
+    null_sink: &mut NullSink<'_, W>,
 ) -> Result<u8, CommandFault>
     requires alive { intake.old.failed ≡ None }
-    requires held { HoldsNothing silent.old.output }
-    ensures ok { IfOk result (WritesListing P.written (in_line R.state intake.old) (in_line R.state intake.new)
-        (device_of W.state silent.old.output) (device_of W.state silent.new.output)) }
-    ensures err { IfErr result (FailsToList W.state P.written (in_line R.state intake.old) (in_line R.state intake.new)
-        silent.old.output silent.new.output) }
-    ensures same { KeepsWriter silent.old.output silent.new.output }
+    requires pending { HasEmptyBuffer null_sink.old.output }
+    ensures ok { IfOk result (WritesListing P.written (input_of R.state intake.old) (input_of R.state intake.new)
+        (device_of W.state null_sink.old.output) (device_of W.state null_sink.new.output)) }
+    ensures err { IfErr result (BufferedListingFails W.state P.written (input_of R.state intake.old)
+        (input_of R.state intake.new)
+        null_sink.old.output null_sink.new.output) }
+    ensures same { KeepsWriter null_sink.old.output null_sink.new.output }
     ensures leads { R.leads intake.old.reader intake.new.reader }
 {
-    gifts_join();
+    reads_join();
     let mut count = 0;
     let mut unpacker = Unpacker::new(alloc, LIMITS)?;
     let mut text = Vec::new(alloc);
     'listing: loop {
-        match list_next(texts, intake, &mut unpacker, silent, &mut text, count) {
+        match list_next(texts, intake, &mut unpacker, null_sink, &mut text, count) {
             Ok(None) => count += 1,
             Ok(Some(status)) => return Ok(status),
             Err(fault) => return Err(fault),
@@ -119,11 +121,11 @@ fn list_texts<P: EnvelopeLines, R: Source, W: Target>(
 }
 
 /// Flushes the output if an allocation failed, and returns the result.
-fn settle<W: Target>(
+fn flush_after_failure<W: Target>(
     output: &mut BlockWriter<'_, W>,
     answer: Result<u8, CommandFault>,
 ) -> Result<u8, CommandFault>
-    ensures settles { Settles W.state output.old output.new answer result }
+    ensures settles { FlushesAfterFailure W.state output.old output.new answer result }
     ensures same { KeepsWriter output.old output.new }
 {
     match answer {
@@ -149,21 +151,21 @@ pub fn list<P: EnvelopeLines, R: Source, W: Target>(
 ) -> Result<u8, CommandFault>
     requires { intake.old.failed ≡ None }
     ensures ok { IfOk result
-        (WritesListing P.written (in_line R.state intake.old) (in_line R.state intake.new) (W.state output.old)
+        (WritesListing P.written (input_of R.state intake.old) (input_of R.state intake.new) (W.state output.old)
         (W.state output.new)) }
     ensures err { IfErr result
-        (FailsListing P.written (in_line R.state intake.old) (in_line R.state intake.new) (W.state output.old)
+        (ListingFails P.written (input_of R.state intake.old) (input_of R.state intake.new) (W.state output.old)
         (W.state output.new)) }
     ensures leads { R.leads intake.old.reader intake.new.reader }
 {
-    gifts_join();
-    texts_join();
+    reads_join();
+    writes_join();
     match BlockWriter::new(alloc, output) {
         Ok(made) => {
-            let mut silent = Silent { output: made };
-            let answer = list_texts(alloc, texts, intake, &mut silent);
-            let Silent { mut output } = silent;
-            let answer = settle(&mut output, answer);
+            let mut null_sink = NullSink { output: made };
+            let answer = list_texts(alloc, texts, intake, &mut null_sink);
+            let NullSink { mut output } = null_sink;
+            let answer = flush_after_failure(&mut output, answer);
             // No effect at run time: the proof needs this use of the returned target to know its
             // contents.
             let _ = &*output.into_writer();
@@ -190,6 +192,6 @@ pub trait EnvelopeLines {
         octets: u64,
         got: &UnpackedRef<'_>,
     ) -> Result<(), AllocError>
-        ensures { (e : Listed) → octets ≡ told (length e.octets) → ShowsParts got.now e.value
+        ensures { (e : Listed) → octets ≡ told (length e.octets) → HasBorrowedParts got.now e.value
             → OnOk result (text.new.items ≡ text.old.items ++ written number e) };
 }

@@ -3,7 +3,7 @@
 ghost use Rattle.std.specs.Prelude.{◌≡◌, ◌+◌, ◌≤◌, ◌++◌, length, drop, OnOk, codes, decimal};
 ghost use Rattle.iim_dataset.specs.Format.Datasets.{number_or_dash};
 ghost use Rattle.iim_object.specs.Format.Objects.{mode_number};
-ghost use Rattle.iim_listing.specs.Format.{number_line, shown_of, sizes_line};
+ghost use Rattle.iim_listing.specs.Format.{number_line, show_text_of, sizes_line};
 
 use crate::list::EnvelopeLines;
 use iim_object::Sizes;
@@ -17,7 +17,7 @@ use std::alloc::AllocError;
 pub struct Show;
 
 impl EnvelopeLines for Show {
-    ghost written = { shown_of };
+    ghost written = { show_text_of };
 
     fn push_text(
         &self,
@@ -38,13 +38,13 @@ impl EnvelopeLines for Show {
 fn push_number(text: &mut Vec<u8>, number: u64) -> Result<(), AllocError>
     ensures { OnOk result (text.new.items ≡ text.old.items ++ number_line number) }
 {
-    push_counted(text, b"envelope ", number)?;
+    push_word_and_number(text, b"envelope ", number)?;
     text.push(b'\n')?;
     Ok(())
 }
 
 /// Appends a word and a number.
-fn push_counted(text: &mut Vec<u8>, word: &[u8], number: u64) -> Result<(), AllocError>
+fn push_word_and_number(text: &mut Vec<u8>, word: &[u8], number: u64) -> Result<(), AllocError>
     ensures { OnOk result (text.new.items ≡ text.old.items ++ (word.now ++ decimal number)) }
 {
     text.extend_from_slice(word)?;
@@ -65,7 +65,7 @@ fn write_number(number: u64, line: &mut [u8], end: usize) -> usize
 /// Writes a number, or `-` for `None`, into a line, ending just before the offset `end`. Returns
 /// the offset at which it begins.
 #[inline(always)]
-fn write_stated(number: Option<u64>, line: &mut [u8], end: usize) -> usize
+fn write_number_or_dash(number: Option<u64>, line: &mut [u8], end: usize) -> usize
     requires { 20 ≤ end × end ≤ length line.old }
     ensures room { result ≤ end × end ≤ result + 20 }
     ensures written { drop result line.new ≡ number_or_dash number ++ drop end line.old }
@@ -109,9 +109,9 @@ fn write_bounds(sizes: Sizes, line: &mut [u8], end: usize) -> usize
         ++ (codes ", maximum " ++ (number_or_dash sizes.maximum ++ (codes "\n" ++ drop end line.old)))))) }
 {
     let end_of_line = write_word(b"\n", line, end);
-    let greatest = write_stated(sizes.maximum, line, end_of_line);
+    let greatest = write_number_or_dash(sizes.maximum, line, end_of_line);
     let maximum = write_word(b", maximum ", line, greatest);
-    let stated = write_stated(sizes.announced, line, maximum);
+    let stated = write_number_or_dash(sizes.announced, line, maximum);
     let announced = write_word(b", announced ", line, stated);
     let subfile = write_number(sizes.subfile, line, announced);
     write_word(b", limit ", line, subfile)

@@ -1,18 +1,18 @@
 //! The text of each envelope, while it is read.
 
 ghost use Rattle.std.specs.Prelude.{◌≡◌, ◌<◌, ◌≤◌, None, Ok, Err, IfOk, IfErr};
-ghost use Rattle.iim_unpack.specs.States.Intakes.{in_line};
-ghost use Rattle.iim_listing.specs.Steps.{IsSettled, KeepsTargets, errors_of, output_of, stops_of, TellsNext};
-ghost use Rattle.iim_listing.specs.Format.{FailsToNarrate, Narrated};
+ghost use Rattle.iim_unpack.specs.States.Intakes.{input_of};
+ghost use Rattle.iim_listing.specs.Steps.{StoryWriterIsFlushed, KeepsTargets, errors_of, output_of, stops_of, WritesNextStory};
+ghost use Rattle.iim_listing.specs.Format.{StoriesFail, WritesStories};
 ghost use Rattle.iim_places.specs.Format.Streams.{max_envelopes};
 ghost use Rattle.iim_unpack.specs.States.Unpacking.{limits_in};
 ghost use Rattle.iim_output.specs.Format.{limits};
 
-use crate::coming::{LIMITS, Next, take_next};
+use crate::coming::{LIMITS, Next, next_item};
 use crate::input::Input;
 use crate::laws::envelopes_are_delivered_as_lines;
-use crate::narrator::Narrator;
-use iim_dataset::device_laws::{gifts_join, texts_join};
+use crate::story_writer::StoryWriter;
+use iim_dataset::device_laws::{reads_join, writes_join};
 use iim_dataset::{Source, Target};
 use iim_output::block_writer::BlockWriter;
 use iim_output::fault::CommandFault;
@@ -25,10 +25,10 @@ use wire_story::laws::story_laws;
 /// Writes the story of the next envelope of an input, after `count` envelopes, and returns the
 /// status if there are no more.
 #[inline]
-fn tell_next<R: Source, W: Target, E: Target>(
+fn write_next_story<R: Source, W: Target, E: Target>(
     intake: &mut Input<R>,
     unpacker: &mut Unpacker,
-    narrator: &mut Narrator<'_, '_, W, E>,
+    story_writer: &mut StoryWriter<'_, '_, W, E>,
     count: u64,
 ) -> Result<Option<u8>, CommandFault>
     requires alive { intake.old.failed ≡ None }
@@ -36,28 +36,30 @@ fn tell_next<R: Source, W: Target, E: Target>(
     requires few { count ≤ max_envelopes }
     ensures ok { IfOk result (λ next.
         (next ≡ None → (intake.new.failed ≡ None) × (limits_in unpacker.new ≡ limits) × (count < max_envelopes))
-        × TellsNext W.state E.state (in_line R.state intake.old) (in_line R.state intake.new) narrator.old narrator.new
+        × WritesNextStory W.state E.state (input_of R.state intake.old)
+        (input_of R.state intake.new) story_writer.old story_writer.new
         count (Ok next)) }
-    ensures err { IfErr result (λ fault. TellsNext W.state E.state
-        (in_line R.state intake.old) (in_line R.state intake.new) narrator.old narrator.new count (Err fault)) }
+    ensures err { IfErr result (λ fault. WritesNextStory W.state E.state
+        (input_of R.state intake.old) (input_of R.state intake.new) story_writer.old story_writer.new count
+        (Err fault)) }
     ensures leads { R.leads intake.old.reader intake.new.reader }
 {
-    gifts_join();
-    texts_join();
+    reads_join();
+    writes_join();
     envelopes_are_delivered_as_lines();
     story_laws();
-    match take_next(intake, unpacker, narrator)? {
+    match next_item(intake, unpacker, story_writer)? {
         Next::Envelope(octets) => {
             if count == MAX_ENVELOPES {
-                narrator.tell_last(TOO_MANY.as_bytes())?;
+                story_writer.write_last_line(TOO_MANY.as_bytes())?;
                 return Ok(Some(REFUSED));
             }
-            narrator.end_story(count + 1, octets)?;
+            story_writer.end_story(count + 1, octets)?;
             Ok(None)
         }
         Next::End => Ok(Some(ACCEPTED)),
         Next::Refused(refusal) => {
-            narrator.tell_refusal(count + 1, refusal)?;
+            story_writer.tell_refusal(count + 1, refusal)?;
             Ok(Some(REFUSED))
         }
     }
@@ -65,29 +67,29 @@ fn tell_next<R: Source, W: Target, E: Target>(
 
 /// Writes the story of each envelope while it is read, and its line. Nothing may be buffered
 /// before. Afterwards nothing is buffered, unless a write failed.
-fn tell_stories<R: Source, W: Target, E: Target>(
+fn write_all_stories<R: Source, W: Target, E: Target>(
     alloc: Global,
     intake: &mut Input<R>,
-    narrator: &mut Narrator<'_, '_, W, E>,
+    story_writer: &mut StoryWriter<'_, '_, W, E>,
 ) -> Result<u8, CommandFault>
     requires alive { intake.old.failed ≡ None }
-    requires settled { IsSettled narrator.old }
-    requires unbroken { stops_of narrator.old ≡ 0 }
-    ensures ok { IfOk result (Narrated (in_line R.state intake.old) (in_line R.state intake.new)
-        (output_of W.state narrator.old) (output_of W.state narrator.new)
-        (errors_of E.state narrator.old) (errors_of E.state narrator.new)) }
-    ensures err { IfErr result (FailsToNarrate (in_line R.state intake.old) (in_line R.state intake.new)
-        (output_of W.state narrator.old) (output_of W.state narrator.new)
-        (errors_of E.state narrator.old) (errors_of E.state narrator.new)) }
-    ensures same { KeepsTargets narrator.old narrator.new }
+    requires is_flushed { StoryWriterIsFlushed story_writer.old }
+    requires unbroken { stops_of story_writer.old ≡ 0 }
+    ensures ok { IfOk result (WritesStories (input_of R.state intake.old) (input_of R.state intake.new)
+        (output_of W.state story_writer.old) (output_of W.state story_writer.new)
+        (errors_of E.state story_writer.old) (errors_of E.state story_writer.new)) }
+    ensures err { IfErr result (StoriesFail (input_of R.state intake.old) (input_of R.state intake.new)
+        (output_of W.state story_writer.old) (output_of W.state story_writer.new)
+        (errors_of E.state story_writer.old) (errors_of E.state story_writer.new)) }
+    ensures same { KeepsTargets story_writer.old story_writer.new }
     ensures leads { R.leads intake.old.reader intake.new.reader }
 {
-    gifts_join();
-    texts_join();
+    reads_join();
+    writes_join();
     let mut count = 0;
     let mut unpacker = Unpacker::new(alloc, LIMITS)?;
     'telling: loop {
-        match tell_next(intake, &mut unpacker, narrator, count) {
+        match write_next_story(intake, &mut unpacker, story_writer, count) {
             Ok(None) => count += 1,
             Ok(Some(status)) => return Ok(status),
             Err(fault) => return Err(fault),
@@ -102,28 +104,28 @@ fn tell_stories<R: Source, W: Target, E: Target>(
 /// All output for the octets read so far is written to both targets before the input is read
 /// again. No line is written before the text of its envelope. If a write fails, what is not
 /// written is lost on both targets.
-pub fn narrate<R: Source, W: Target, E: Target>(
+pub fn write_stories<R: Source, W: Target, E: Target>(
     alloc: Global,
     intake: &mut Input<R>,
     output: &mut W,
     errors: &mut E,
 ) -> Result<u8, CommandFault>
     requires alive { intake.old.failed ≡ None }
-    ensures ok { IfOk result (Narrated (in_line R.state intake.old) (in_line R.state intake.new)
+    ensures ok { IfOk result (WritesStories (input_of R.state intake.old) (input_of R.state intake.new)
         (W.state output.old) (W.state output.new) (E.state errors.old) (E.state errors.new)) }
-    ensures err { IfErr result (FailsToNarrate (in_line R.state intake.old) (in_line R.state intake.new)
+    ensures err { IfErr result (StoriesFail (input_of R.state intake.old) (input_of R.state intake.new)
         (W.state output.old) (W.state output.new) (E.state errors.old) (E.state errors.new)) }
     ensures leads { R.leads intake.old.reader intake.new.reader }
 {
-    gifts_join();
-    texts_join();
+    reads_join();
+    writes_join();
     match BlockWriter::new(alloc, output) {
         Ok(made) => {
-            let mut narrator = Narrator::new(alloc, made, errors);
-            let answer = tell_stories(alloc, intake, &mut narrator);
+            let mut story_writer = StoryWriter::new(alloc, made, errors);
+            let answer = write_all_stories(alloc, intake, &mut story_writer);
             // No effect at run time: the proof needs this use of the returned targets to know
             // their contents.
-            let (output, errors) = narrator.into_targets();
+            let (output, errors) = story_writer.into_targets();
             let _ = &*output;
             let _ = &*errors;
             answer

@@ -1,7 +1,7 @@
 -- How an object is divided into parts, and in how many ways.
-use Rattle.iim_object.proofs.Words.{◌≡◌, ℕ, ◌+◌, ◌*◌, ◌≤◌, inl, inr, List, [], ◌∷◌, ◌++◌, length, refl, sym, ap, ◌∙◌, arith, append_assoc, length-append, le_of_mul-le-mul_left, nil_from_length, cases_lt, joined_parts, AreFull, IsCut, ObjectsAreCutOneWay, max_subfiles}
+use Rattle.iim_object.proofs.Words.{◌≡◌, ℕ, ◌+◌, ◌*◌, ◌≤◌, inl, inr, List, [], ◌∷◌, ◌++◌, length, refl, sym, ap, ◌∙◌, arith, append_assoc, length-append, le_of_mul-le-mul_left, nil_from_length, cases_lt, joined_parts, AreFull, SplitsIntoSubfiles, ObjectsSplitUniquely, max_subfiles}
 use Rattle.std.proofs.Math.Nat.{mul-le-mul_left}
-use Rattle.iim_dataset.specs.Steps.{same_front}
+use Rattle.iim_dataset.specs.Steps.{append_cancel_same_length}
 
 -- A last part after a full one has an octet.
 pub some_octet : (size : ℕ) (first rest last : List ℕ) → 1 ≤ size → length first ≡ size → (last ≡ [] → (first ++ rest) ++ last ≡ []) → 1 ≤ length last
@@ -14,7 +14,7 @@ too_short size last first rest more fits full some e = omega (arith, length-appe
 
 -- First parts of the same length are the same, and so is what comes after them.
 pub same_first : (f g fs gs xs ys : List ℕ) → length f ≡ length g → (f ++ fs) ++ xs ≡ (g ++ gs) ++ ys → (f ≡ g) × (fs ++ xs ≡ gs ++ ys)
-same_first f g fs gs xs ys long e = same_front f g (fs ++ xs) (gs ++ ys) long (simp append_assoc at e)
+same_first f g fs gs xs ys long e = append_cancel_same_length f g (fs ++ xs) (gs ++ ys) long (simp append_assoc at e)
 
 one_way : (size : ℕ) (full others : List (List ℕ)) (last other : List ℕ) → 1 ≤ size → AreFull size full → AreFull size others → length last ≤ size
     → length other ≤ size
@@ -33,7 +33,7 @@ one_way size (f ∷ fs) (g ∷ gs) last other one full fulls short brief some an
     (λ empty. absurd (omega (arith, most, ap length empty))) parts.1 in
     λ i. parts.0 i ∷ more i
 
-pub cut_one_way : ObjectsAreCutOneWay
+pub cut_one_way : ObjectsSplitUniquely
 cut_one_way size object parts others one c d =
     c.parts_are ∙ (one_way size c.full d.full c.last d.last one c.are_full d.are_full c.fits d.fits (λ e. sym c.joined ∙ c.some e) (λ e. sym d.joined
     ∙ d.some e) (sym c.joined ∙ d.joined) ∙ sym d.parts_are)
@@ -54,22 +54,24 @@ few_full size count last most one some h = elim (cases_lt count most) [
 ]
 
 -- The number of parts of a division.
-pub count_is : (subfile : ℕ) (object : List ℕ) (parts : List (List ℕ)) (c : IsCut subfile object parts) → length parts ≡ length c.full + 1
+pub count_is : (subfile : ℕ) (object : List ℕ) (parts : List (List ℕ)) (c : SplitsIntoSubfiles subfile object parts) → length parts ≡ length c.full + 1
 count_is subfile object parts c = ap length c.parts_are ∙ length-append c.full (c.last ∷ [])
 
 -- The number of octets of a divided object.
-cut_length : (subfile : ℕ) (object : List ℕ) (parts : List (List ℕ)) (c : IsCut subfile object parts) → length object ≡ subfile * length c.full + length c.last
+cut_length : (subfile : ℕ) (object : List ℕ) (parts : List (List ℕ)) (c : SplitsIntoSubfiles subfile object parts) → length object
+    ≡ subfile * length c.full + length c.last
 cut_length subfile object parts c = omega (arith, ap length c.joined, length-append (joined_parts c.full) c.last, full_length subfile c.full c.are_full)
 
 -- At most this many parts hold no more than as many full ones.
-pub held_in_few : (subfile : ℕ) (object : List ℕ) (parts : List (List ℕ)) → IsCut subfile object parts → length parts ≤ max_subfiles
+pub held_in_few : (subfile : ℕ) (object : List ℕ) (parts : List (List ℕ)) → SplitsIntoSubfiles subfile object parts → length parts ≤ max_subfiles
     → length object ≤ subfile * max_subfiles
 held_in_few subfile object parts c few =
     let more : subfile * (length c.full + 1) ≤ subfile * max_subfiles = mul-le-mul_left subfile (omega (arith, few, count_is subfile object parts c)) in
     omega (arith, more, cut_length subfile object parts c, c.fits)
 
 -- What as many full parts hold is divided into no more.
-pub few_parts : (subfile : ℕ) (object : List ℕ) (parts : List (List ℕ)) → 1 ≤ subfile → IsCut subfile object parts → length object ≤ subfile * max_subfiles
+pub few_parts : (subfile : ℕ) (object : List ℕ) (parts : List (List ℕ)) → 1 ≤ subfile → SplitsIntoSubfiles subfile object parts
+    → length object ≤ subfile * max_subfiles
     → length parts ≤ max_subfiles
 few_parts subfile object parts one c within = elim (cases_lt 0 (length c.last)) [
   | inl some ↦

@@ -1,6 +1,6 @@
 -- The language over numbers and lengths is that of the datasets.
-use Rattle.iim_object.proofs.Words.{◌≡◌, ℕ, ◌<◌, ◌≤◌, ◌⊎◌, List, [], ◌∷◌, ◌++◌, length, map, sum, Some, refl, sym, ap, ◌∙◌, arith, inl, inr, append_assoc, append-nil, length-append, AllByRecursion, map-append, length-map, eq-eqb, same_Some, number, greatest_size, Dataset, IsAlive, nothing_of_two, all_append, all_back, all_map, Stated, InRow, number_at, mode_number, sizes_at, ObjectToken, SubfileBegun, ObjectEnded, Confirmed, ObjectLanguage, number_tokens, Place, Ended, ending_tokens, tokens_of, AreObjectRecords, numbers_of, lengths_of}
-use Rattle.iim_object.specs.Laws.{AreSized, object_tokens, TokensAreOfSizedDatasets, DatasetsLiveWithTheirTokens, DatasetsEndWithTheirTokens}
+use Rattle.iim_object.proofs.Words.{◌≡◌, ℕ, ◌<◌, ◌≤◌, ◌⊎◌, List, [], ◌∷◌, ◌++◌, length, map, sum, Some, refl, sym, ap, ◌∙◌, arith, inl, inr, append_assoc, append-nil, length-append, AllByRecursion, map-append, length-map, eq-eqb, same_Some, number, greatest_size, Dataset, IsViablePrefix, nothing_of_two, all_append, all_back, all_map, StatedNumber, IsAllowedByRow, number_at, mode_number, sizes_at, ObjectToken, SubfileBegun, ObjectEnded, Confirmed, ObjectLanguage, number_tokens, Place, Ended, ending_tokens, tokens_of, AreObjectRecords, numbers_of, lengths_of}
+use Rattle.iim_object.specs.Laws.{AreSized, object_tokens, TokensAreOfSizedDatasets, DatasetsAreViableWithTheirTokens, DatasetsEndWithTheirTokens}
 use Rattle.iim_object.specs.Format.Objects.{ending_of, place_ended}
 use Rattle.iim_object.proofs.{Numbers.in_row_at, Numbers.largest_at_most, Subfiles.numbers_front, Subfiles.parts_of, Subfiles.ended_parts}
 use Rattle.iim_object.proofs.Members.{IsMember, are_stated, descriptor_of, object_of, confirmation_of, one_confirmation, some_subfile, ten_of, stating, subfiles, confirmation}
@@ -88,9 +88,9 @@ sized_of b x y e tokens o others sevens eights nine stated lengths value = recor
 }
 
 -- Datasets with the numbers of tokens in the language.
-stating_of : (tokens : List ObjectToken) (o : ObjectLanguage tokens) (ps more : List Stated) → o.stated ≡ ps ++ more
+stating_of : (tokens : List ObjectToken) (o : ObjectLanguage tokens) (ps more : List StatedNumber) → o.stated ≡ ps ++ more
     → (ds : List Dataset) × AllByRecursion (IsMember 7) ds × (numbers_of ds ≡ more)
-stating_of tokens o ps more parts = stating more (all_back InRow ps more (rw parts at o.are_stated.each))
+stating_of tokens o ps more parts = stating more (all_back IsAllowedByRow ps more (rw parts at o.are_stated.each))
 
 subfiles_of : (tokens : List ObjectToken) (o : ObjectLanguage tokens) (ls more : List ℕ) → o.lengths ≡ ls ++ more
     → (ds : List Dataset) × AllByRecursion (IsMember 8) ds × (lengths_of ds ≡ more)
@@ -118,7 +118,7 @@ tokens_law tokens = (datasets_of tokens, λ h. rw h.2 at (member_of h.0 h.1))
 -- ---- Datasets that continue.
 
 -- A prefix of tokens in the language is a viable prefix.
-alive_by : (xs rest all : List ObjectToken) → all ≡ xs ++ rest → ObjectLanguage all → IsAlive ObjectLanguage xs
+alive_by : (xs rest all : List ObjectToken) → all ≡ xs ++ rest → ObjectLanguage all → IsViablePrefix ObjectLanguage xs
 alive_by xs rest all e o = (rest, rw e at o)
 
 numbers_begun : (x y : List Dataset) (tail : List ObjectToken) → numbers (x ++ y) ++ tail ≡ (numbers x ++ []) ++ (numbers y ++ tail)
@@ -138,7 +138,7 @@ tokens_front d7 m7 (d ∷ d8) m8 [] m9 (inl f) g = (heads m8 ++ ending_tokens (e
 tokens_front d7 m7 (d ∷ d8) m8 [] m9 (inr f) g = absurd cc
 tokens_front d7 m7 [] m8 [] m9 f g = (numbers m7 ++ (heads m8 ++ ending_tokens (ending_of m9)), numbers_begun d7 m7 _)
 
-live_datasets : (ds : List Dataset) → IsAlive AreSized ds → IsAlive ObjectLanguage (object_tokens ds)
+live_datasets : (ds : List Dataset) → IsViablePrefix AreSized ds → IsViablePrefix ObjectLanguage (object_tokens ds)
 live_datasets ds (more, sized) =
     let p = parted ds more sized.records in
     let (rest, e) = tokens_front p.d7 p.m7 p.d8 p.m8 p.d9 p.m9 p.after7 p.after8 in
@@ -149,7 +149,7 @@ live_datasets ds (more, sized) =
 continues : (ds b x y z : List Dataset) (rest : List ObjectToken) → AllByRecursion (λ d. d.rec < 7) b → AllByRecursion (IsMember 7) x
     → AllByRecursion (IsMember 8) y → AllByRecursion (IsMember 9) z
     → length z ≤ 1 → (z ≡ []) ⊎ (0 < length y) → ds ≡ b ++ (x ++ (y ++ z)) → ObjectLanguage (numbers x ++ (heads y ++ (ending_tokens (ending_of z) ++ rest)))
-    → IsAlive AreSized ds
+    → IsViablePrefix AreSized ds
 continues ds b x [] [] rest others sevens eights nines one some seen o =
     let (ps, parts, tokens) = numbers_front (numbers_of x) o.stated rest o.lengths o.confirmed o.tokens_are in
     let (more, stating, stated) = stating_of _ o (numbers_of x) ps parts in
@@ -177,7 +177,7 @@ continues ds b x y (e ∷ []) rest others sevens eights nines one (inr some) see
     ([], rw seen (simp append-nil (sized_of b x y e _ o others sevens eights nines.0 (sym stated) (sym lengths) (cc))))
 continues ds b x y (e ∷ f ∷ z) rest others sevens eights nines one some seen o = absurd (omega arith)
 
-live_tokens : (ds : List Dataset) → IsAlive AreObjectRecords ds → IsAlive ObjectLanguage (object_tokens ds) → IsAlive AreSized ds
+live_tokens : (ds : List Dataset) → IsViablePrefix AreObjectRecords ds → IsViablePrefix ObjectLanguage (object_tokens ds) → IsViablePrefix AreSized ds
 live_tokens ds (more, r) (rest, o) =
     let p = parted ds more r in
     let (e, nine, is) = one_confirmation r.r9 r.confirmation in
@@ -189,7 +189,7 @@ live_tokens ds (more, r) (rest, o) =
     (omega (arith, ap length p.whole9, ap length is, length-append p.d9 p.m9)) some p.seen
     (simp append_assoc at (rw (tokens_seen p) at o))
 
-pub datasets_law : DatasetsLiveWithTheirTokens
+pub datasets_law : DatasetsAreViableWithTheirTokens
 datasets_law ds good = (live_datasets ds, live_tokens ds good)
 
 -- ---- The end of the object.
@@ -208,7 +208,8 @@ ended_before ds e more r nine =
     let n = next_end ds e more r nine in
     ended_tokens ds n.before r.r7 r.r8 (sorted_members n.before r.r7 r.r8 [] n.others r.descriptor.each r.object.each tt) n.seen
 
-ends_live : (ds : List Dataset) → ((e : Dataset) × (e.rec ≡ 9) × IsAlive AreSized (ds ++ e ∷ [])) → IsAlive ObjectLanguage (tokens_of (place_ended ds))
+ends_live : (ds : List Dataset) → ((e : Dataset) × (e.rec ≡ 9) × IsViablePrefix AreSized (ds ++ e ∷ [])) → IsViablePrefix ObjectLanguage (tokens_of
+    (place_ended ds))
 ends_live ds (e, nine, (after, all)) =
     let sized : AreSized (ds ++ e ∷ after) = (rw append_assoc at all) in
     let q = sized.records in
@@ -222,7 +223,7 @@ ended_sized : (b x y ds : List Dataset) (e : Dataset) → ds ≡ b ++ (x ++ y) �
 ended_sized b x y ds e seen sized = rw seen (simp (append_assoc, append-nil) sized)
 
 live_ends : (ds : List Dataset) (d : Dataset) (more : List Dataset) → AreObjectRecords (ds ++ d ∷ more) → d.rec ≡ 9
-    → IsAlive ObjectLanguage (tokens_of (place_ended ds)) → (e : Dataset) × (e.rec ≡ 9) × IsAlive AreSized (ds ++ e ∷ [])
+    → IsViablePrefix ObjectLanguage (tokens_of (place_ended ds)) → (e : Dataset) × (e.rec ≡ 9) × IsViablePrefix AreSized (ds ++ e ∷ [])
 live_ends ds d more r is (rest, all) =
     let n = next_end ds d more r is in
     let o = (simp append_assoc at (rw (ended_before ds d more r is) at all)) in

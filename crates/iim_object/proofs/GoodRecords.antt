@@ -1,5 +1,5 @@
 -- The records 7, 8 and 9 that are written of an object are good.
-use Rattle.iim_object.proofs.Words.{ℕ, ◌<◌, ◌≤◌, List, [], ◌∷◌, ◌++◌, length, Some, None, refl, ap, arith, append_assoc, length-append, AllByRecursion, length-map, good_elsewhere, part_meets, greatest_size, all_front, all_back, AreOnce, mode_number, numbers_of, AreFull, joined_parts, limit_of, Size, Known, Unknown, number_dataset, is_known, size_datasets, plan_datasets, subfile_dataset, subfile_datasets}
+use Rattle.iim_object.proofs.Words.{ℕ, ◌<◌, ◌≤◌, List, [], ◌∷◌, ◌++◌, length, Some, None, refl, ap, arith, append_assoc, length-append, AllByRecursion, length-map, good_elsewhere, part_meets, greatest_size, all_front, all_back, HaveNoRepeats, mode_number, numbers_of, AreFull, joined_parts, limit_of, Size, Known, Unknown, number_dataset, is_known, size_datasets, plan_datasets, subfile_dataset, subfile_datasets}
 use Rattle.iim_dataset.specs.Format.Octets.{IsOctet, Octets}
 use Rattle.iim_object.specs.Laws.{PackedRecordsAreGood}
 use Rattle.iim_object.proofs.PlanParts.{plan_parts}
@@ -15,7 +15,7 @@ each_size (Known n) limit = ((refl, numbers_good.announced n limit), tt)
 each_size (Unknown (Some m)) limit = ((refl, numbers_good.maximum m limit), tt)
 each_size (Unknown None) limit = tt
 
-once_seven : (subfile : ℕ) (size : Size) → AreOnce (numbers_of (plan_datasets subfile size))
+once_seven : (subfile : ℕ) (size : Size) → HaveNoRepeats (numbers_of (plan_datasets subfile size))
 once_seven subfile (Known n) = (refl, (refl, (refl, tt)))
 once_seven subfile (Unknown (Some m)) = (refl, (refl, (refl, tt)))
 once_seven subfile (Unknown None) = (refl, (refl, tt))

@@ -1,5 +1,5 @@
 -- Datasets of records 7, 8 and 9 that meet their rows, and the numbers that they state.
-use Rattle.iim_object.proofs.Words.{◌≡◌, ℕ, suc, ◌<◌, ◌≤◌, true, false, ◌==◌, List, [], ◌∷◌, length, replicate, Some, None, is_some, refl, sym, ◌∙◌, arith, inl, inr, AllByRecursion, eq-eqb, number, greatest_size, Dataset, written_number, number_back, good_elsewhere, part_meets, Stated, InRow, AreOnce, AreStated, number_at, numbers_of, lengths_of, number_dataset}
+use Rattle.iim_object.proofs.Words.{◌≡◌, ℕ, suc, ◌<◌, ◌≤◌, true, false, ◌==◌, List, [], ◌∷◌, length, replicate, Some, None, is_some, refl, sym, ◌∙◌, arith, inl, inr, AllByRecursion, eq-eqb, number, greatest_size, Dataset, written_number, number_back, good_elsewhere, part_meets, StatedNumber, IsAllowedByRow, HaveNoRepeats, AreStatedNumbers, number_at, numbers_of, lengths_of, number_dataset}
 use Rattle.std.proofs.Common.{◌&&◌, nat_le}
 use Rattle.std.specs.List.{list_any}
 use Rattle.std.proofs.lemmas.List.{length-replicate}
@@ -7,7 +7,7 @@ use Rattle.std.proofs.lemmas.Bool.{and_from, le-leb}
 use Rattle.iim_dataset.specs.Format.Octets.{within}
 use Rattle.iim_dataset.proofs.{OctetLists.zeros_are, WrittenNumbers.number_octets, WrittenNumbers.some_octets, WrittenNumbers.few_octets}
 use Rattle.iim_tables.specs.Format.Kinds.{size_octets, is_mode, is_size_from}
-use Rattle.iim_tables.specs.Format.Rows.{table, row_of, Meets}
+use Rattle.iim_tables.specs.Format.Rows.{table, row_of, OctetsMeetRow}
 use Rattle.iim_tables.specs.Format.Records.{repeats, occurrences, IsGoodDataset, IsGoodRecord}
 use Rattle.iim_tables.proofs.GoodDatasets.{occurrences_cons}
 use Rattle.iim_object.specs.Laws.{NumberDatasetsAreGood}
@@ -19,10 +19,10 @@ abbrev pub IsMember : ℕ → Dataset → Type 0
 IsMember rec d = (d.rec ≡ rec) × IsGoodDataset d
 
 -- The octets meet their row.
-met : (rec : ℕ) (d : Dataset) → IsMember rec d → Meets rec d.set d.octets
+met : (rec : ℕ) (d : Dataset) → IsMember rec d → OctetsMeetRow rec d.set d.octets
 met rec d m = rw m.0 at m.1.meets
 
-abbrev pub stated_of : Dataset → Stated
+abbrev pub stated_of : Dataset → StatedNumber
 stated_of d = record { set = d.set; number = number d.octets }
 
 mode_low : (xs : List ℕ) → (within 1 1 (length xs) && is_mode xs) ≡ true → number xs ≤ 1
@@ -33,21 +33,21 @@ mode_low (b ∷ c ∷ xs) h = grind arith
 size_within : (least : ℕ) (xs : List ℕ) → (within 1 size_octets (length xs) && is_size_from least xs) ≡ true → (least ≤ number xs) × (number xs ≤ greatest_size)
 size_within least xs h = grind arith
 
-in_row : (set : ℕ) (xs : List ℕ) → Meets 7 set xs → InRow (record { set = set; number = number xs })
+in_row : (set : ℕ) (xs : List ℕ) → OctetsMeetRow 7 set xs → IsAllowedByRow (record { set = set; number = number xs })
 unfolding row_of table
 in_row set xs m = grind (arith, mode_low, size_within)
 
 -- no dataset of record 7 repeats
-at_most_one : (set : ℕ) (xs : List ℕ) (k : ℕ) → Meets 7 set xs → (repeats 7 set ≡ false → k ≤ 1) → k ≤ 1
+at_most_one : (set : ℕ) (xs : List ℕ) (k : ℕ) → OctetsMeetRow 7 set xs → (repeats 7 set ≡ false → k ≤ 1) → k ≤ 1
 unfolding row_of table
 at_most_one set xs k m h = grind arith
 
 -- Records 8 and 9 have one row.
-subfile_row : (set : ℕ) (xs : List ℕ) → Meets 8 set xs → set ≡ 10
+subfile_row : (set : ℕ) (xs : List ℕ) → OctetsMeetRow 8 set xs → set ≡ 10
 unfolding row_of table
 subfile_row set xs meets = grind arith
 
-confirmed_row : (set : ℕ) (xs : List ℕ) → Meets 9 set xs → set ≡ 10
+confirmed_row : (set : ℕ) (xs : List ℕ) → OctetsMeetRow 9 set xs → set ≡ 10
 unfolding row_of table
 confirmed_row set xs meets = grind arith
 
@@ -69,23 +69,24 @@ none_counts : (set : ℕ) (ds : List Dataset) → number_at set (numbers_of ds) 
 none_counts set [] h = refl
 none_counts set (d ∷ ds) h = let more = none_counts set ds in let c = occurrences_cons set d ds in grind arith
 
-once_counts : (set : ℕ) (ds : List Dataset) → AreOnce (numbers_of ds) → occurrences set ds ≤ 1
+once_counts : (set : ℕ) (ds : List Dataset) → HaveNoRepeats (numbers_of ds) → occurrences set ds ≤ 1
 once_counts set [] o = omega arith
 once_counts set (d ∷ ds) o = let more = once_counts set ds o.1 in let c = occurrences_cons set d ds in let none = none_counts set ds in grind arith
 
-are_once : (ds : List Dataset) → AllByRecursion (IsMember 7) ds → ((set : ℕ) (xs : List ℕ) → Meets 7 set xs → occurrences set ds ≤ 1) → AreOnce (numbers_of ds)
+are_once : (ds : List Dataset) → AllByRecursion (IsMember 7) ds → ((set : ℕ) (xs : List ℕ) → OctetsMeetRow 7 set xs → occurrences set ds ≤ 1) → HaveNoRepeats
+    (numbers_of ds)
 are_once [] h once = tt
 are_once (d ∷ ds) h once = (
   none_at d.set ds (omega (arith, once d.set d.octets (met 7 d h.0), here_counted d.set d ds refl)),
   are_once ds h.1 (λ set xs m. omega (arith, once set xs m, occurrences_cons set d ds)),
 )
 
-each_in_row : (ds : List Dataset) → AllByRecursion (IsMember 7) ds → AllByRecursion InRow (numbers_of ds)
+each_in_row : (ds : List Dataset) → AllByRecursion (IsMember 7) ds → AllByRecursion IsAllowedByRow (numbers_of ds)
 each_in_row [] h = tt
 each_in_row (d ∷ ds) h = (in_row d.set d.octets (met 7 d h.0), each_in_row ds h.1)
 
 -- the numbers of record 7 meet their rows
-pub are_stated : (ds : List Dataset) → IsGoodRecord 7 ds → AreStated (numbers_of ds)
+pub are_stated : (ds : List Dataset) → IsGoodRecord 7 ds → AreStatedNumbers (numbers_of ds)
 are_stated ds m = record {
   each = each_in_row ds m.each;
   once = are_once ds m.each (λ set xs h. at_most_one set xs (occurrences set ds) h (m.once set));
@@ -105,7 +106,7 @@ unfolding row_of table
 have_both ds m = (occurs_at 10 ds m.mandatory.0, occurs_at 20 ds m.mandatory.1.0)
 
 -- Datasets whose numbers are those of an object are a good record 7.
-pub descriptor_of : (ds : List Dataset) (mode largest : ℕ) → AllByRecursion (IsMember 7) ds → AreOnce (numbers_of ds)
+pub descriptor_of : (ds : List Dataset) (mode largest : ℕ) → AllByRecursion (IsMember 7) ds → HaveNoRepeats (numbers_of ds)
     → number_at 10 (numbers_of ds) ≡ Some mode → number_at 20 (numbers_of ds) ≡ Some largest → IsGoodRecord 7 ds
 unfolding row_of table
 descriptor_of ds mode largest each once m l = record {
@@ -173,13 +174,13 @@ unfolding row_of table
 mode_good n le = good_elsewhere refl (omega arith) (omega arith, tt) (and_from (nat_le n 1) true (le-leb n 1 le) refl)
 
 -- a dataset of record 7 that states the number
-abbrev States : Stated → Type 0
+abbrev States : StatedNumber → Type 0
 States p = (d : Dataset) × IsMember 7 d × (stated_of d ≡ p)
 
-stated_is : (p : Stated) (set n : ℕ) → p.set ≡ set → n ≡ p.number → record { set = set; number = n } ≡ p
+stated_is : (p : StatedNumber) (set n : ℕ) → p.set ≡ set → n ≡ p.number → record { set = set; number = n } ≡ p
 stated_is p set n s e = λ i. record { set = sym s i; number = e i }
 
-states : (p : Stated) → InRow p → States p
+states : (p : StatedNumber) → IsAllowedByRow p → States p
 states p (inl h) = (
   record {
     rec = 7;
@@ -199,7 +200,7 @@ states p (inr (inr h)) = elim h.0 [
   | inr is ↦ (number_dataset 7 95 p.number, (refl, numbers_good.maximum p.number h.1), stated_is p 95 _ is (number_back p.number (omega (arith, h.1))))
 ]
 
-pub stating : (ps : List Stated) → AllByRecursion InRow ps → (ds : List Dataset) × AllByRecursion (IsMember 7) ds × (numbers_of ds ≡ ps)
+pub stating : (ps : List StatedNumber) → AllByRecursion IsAllowedByRow ps → (ds : List Dataset) × AllByRecursion (IsMember 7) ds × (numbers_of ds ≡ ps)
 stating [] h = ([], tt, refl)
 stating (p ∷ ps) h =
     let first = states p h.0 in

@@ -1,27 +1,27 @@
 -- Writes one after another.
-use Rattle.iim_object.proofs.Words.{◌≡◌, ℕ, ◌+◌, List, ◌++◌, length, take, sym, subst, arith, length-append, Device, TextsJoin, Puts, Cuts, Output}
+use Rattle.iim_object.proofs.Words.{◌≡◌, ℕ, ◌+◌, List, ◌++◌, length, take, sym, subst, arith, length-append, Device, WritesJoin, OutputWrites, OutputFails, Output}
 use Rattle.std.specs.Prelude.{Result, Ok, Err, OnOk, OnErr}
 use Rattle.std.proofs.lemmas.List.{take-append-le}
 use Rattle.std.specs.Io.KnownBytes.{Appends}
 
-pub puts_more : {W : Type 0} (state : W → Device) (a b c : Output W) (xs ys : List ℕ) → TextsJoin → Puts state a b xs → Puts state b c ys
-    → Puts state a c (xs ++ ys)
+pub puts_more : {W : Type 0} (state : W → Device) (a b c : Output W) (xs ys : List ℕ) → WritesJoin → OutputWrites state a b xs → OutputWrites state b c ys
+    → OutputWrites state a c (xs ++ ys)
 puts_more state a b c xs ys join p q = record {
   wrote = join.more (state a.writer) (state b.writer) (state c.writer) xs ys p.wrote q.wrote;
   counted = omega (arith, p.counted, q.counted, length-append xs ys);
-  patience = omega (arith, p.patience, q.patience, length-append xs ys);
+  retry_limit = omega (arith, p.retry_limit, q.retry_limit, length-append xs ys);
 }
 
-pub cuts_later : {W : Type 0} (state : W → Device) (a b c : Output W) (xs ys : List ℕ) → TextsJoin → Puts state a b xs → Cuts state b c ys
-    → Cuts state a c (xs ++ ys)
+pub cuts_later : {W : Type 0} (state : W → Device) (a b c : Output W) (xs ys : List ℕ) → WritesJoin → OutputWrites state a b xs → OutputFails state b c ys
+    → OutputFails state a c (xs ++ ys)
 cuts_later state a b c xs ys join p q = record {
   out = length xs + q.out;
   stopped = join.stopped (state a.writer) (state b.writer) (state c.writer) xs ys q.out p.wrote q.stopped;
   counted = omega (arith, p.counted, q.counted);
-  patience = omega (arith, p.patience, q.patience);
+  retry_limit = omega (arith, p.retry_limit, q.retry_limit);
 }
 
-pub cuts_more : {W : Type 0} (state : W → Device) (a b : Output W) (xs ys : List ℕ) → Cuts state a b xs → Cuts state a b (xs ++ ys)
+pub cuts_more : {W : Type 0} (state : W → Device) (a b : Output W) (xs ys : List ℕ) → OutputFails state a b xs → OutputFails state a b (xs ++ ys)
 cuts_more state a b xs ys q =
     let front : take q.out (xs ++ ys) ≡ take q.out xs = take-append-le q.out xs ys (omega (arith, q.stopped.0)) in
     record {
@@ -32,7 +32,7 @@ cuts_more state a b xs ys q =
         q.stopped.2,
       );
       counted = q.counted;
-      patience = q.patience;
+      retry_limit = q.retry_limit;
     }
 
 -- ---- Results.

@@ -1,6 +1,6 @@
 -- What is written of an object by a plan has the sizes of the plan.
-use Rattle.iim_object.proofs.Words.{◌≡◌, ℕ, ◌≤◌, List, [], ◌∷◌, ◌++◌, length, map, sum, Some, None, refl, ap, arith, append_assoc, length-append, AllByRecursion, length-map, sum_cons, written_number, number_back, number, greatest_size, Agree, number_at, mode_number, announced_of, maximum_of, limit_of, Size, Known, Unknown, numbers_of, lengths_of, joined_parts, AreFull, IsCut, is_known, plan_datasets, subfile_dataset, subfile_datasets}
-use Rattle.iim_object.specs.{Format.Objects.fits, Format.Packing.IsAsKnown, Format.Packing.packed_sizes, Laws.PackedObjectsHaveSizes}
+use Rattle.iim_object.proofs.Words.{◌≡◌, ℕ, ◌≤◌, List, [], ◌∷◌, ◌++◌, length, map, sum, Some, None, refl, ap, arith, append_assoc, length-append, AllByRecursion, length-map, sum_cons, written_number, number_back, number, greatest_size, SizesAgree, number_at, mode_number, announced_of, maximum_of, limit_of, Size, Known, Unknown, numbers_of, lengths_of, joined_parts, AreFull, SplitsIntoSubfiles, is_known, plan_datasets, subfile_dataset, subfile_datasets}
+use Rattle.iim_object.specs.{Format.Objects.fits, Format.Packing.HasKnownLength, Format.Packing.packed_sizes, Laws.PackedObjectsHaveSizes}
 use Rattle.iim_object.proofs.PlanParts.{plan_parts}
 
 -- ---- Lengths.
@@ -24,18 +24,19 @@ no_longer : (size : ℕ) (full : List (List ℕ)) (last : List ℕ) → AreFull 
 no_longer size [] last h fits = (fits, tt)
 no_longer size (f ∷ fs) last h fits = (omega (arith, h.0), no_longer size fs last h.1 fits)
 
-pub total_is : (size : ℕ) (object : List ℕ) (parts : List (List ℕ)) → IsCut size object parts → sum (lengths_of (subfile_datasets parts)) ≡ length object
+pub total_is : (size : ℕ) (object : List ℕ) (parts : List (List ℕ)) → SplitsIntoSubfiles size object parts → sum (lengths_of (subfile_datasets parts))
+    ≡ length object
 total_is size object parts c = rw (lengths_are parts, c.parts_are, c.joined) (sum_of c.full c.last)
 
-pub each_fits : (size : ℕ) (object : List ℕ) (parts : List (List ℕ)) → IsCut size object parts
+pub each_fits : (size : ℕ) (object : List ℕ) (parts : List (List ℕ)) → SplitsIntoSubfiles size object parts
     → AllByRecursion (λ n. n ≤ size) (lengths_of (subfile_datasets parts))
 each_fits size object parts c = rw (lengths_are parts, c.parts_are) (no_longer size c.full c.last c.are_full c.fits)
 
 -- ---- Sizes.
 
 agree : (subfile : ℕ) (size : Size) (object : List ℕ) (parts : List (List ℕ)) (lengths : List ℕ) → limit_of size ≤ greatest_size
-    → length object ≤ limit_of size → IsAsKnown size object
-    → AllByRecursion (λ n. n ≤ subfile) lengths → Agree (packed_sizes subfile size object parts) lengths (length object)
+    → length object ≤ limit_of size → HasKnownLength size object
+    → AllByRecursion (λ n. n ≤ subfile) lengths → SizesAgree (packed_sizes subfile size object parts) lengths (length object)
 agree subfile size object parts lengths limit le exact each = grind arith
 
 -- A number that is at most the greatest size is read back as it was written.

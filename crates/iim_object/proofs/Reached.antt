@@ -1,8 +1,8 @@
 -- Tokens reach each state that satisfies the invariant, and no others.
-use Rattle.iim_object.proofs.Words.{◌≡◌, ℕ, zero, suc, ◌-◌, ◌*◌, ◌<◌, ◌≤◌, Bool, List, [], ◌∷◌, ◌++◌, length, map, sum, Option, Some, None, is_some, unwrap_or, refl, sym, ap, ◌∙◌, arith, inl, inr, append_assoc, AllByRecursion, cases_lt, nil_from_length, IsAlive, sum_cons, max_subfiles, Stated, InRow, AreOnce, AreStated, number_at, SubfileBegun, ObjectLanguage, number_tokens, NoClash, HasDuties, Fit, Place, NotEnded, HasBoth, ending_tokens, tokens_of, HasNumbers, IsState, IsStateAt, StandsAt, State}
+use Rattle.iim_object.proofs.Words.{◌≡◌, ℕ, zero, suc, ◌-◌, ◌*◌, ◌<◌, ◌≤◌, Bool, List, [], ◌∷◌, ◌++◌, length, map, sum, Option, Some, None, is_some, unwrap_or, refl, sym, ap, ◌∙◌, arith, inl, inr, append_assoc, AllByRecursion, cases_lt, nil_from_length, IsViablePrefix, sum_cons, max_subfiles, StatedNumber, IsAllowedByRow, HaveNoRepeats, AreStatedNumbers, number_at, SubfileBegun, ObjectLanguage, number_tokens, HaveNoClash, StatesModeAndLargest, SubfilesFit, Place, NotEnded, HasModeAndLargest, ending_tokens, tokens_of, HasNumbers, IsState, IsStateAt, ObjectReaderStandsAt, State}
 use Rattle.std.proofs.Common.{min, IfSome}
 use Rattle.iim_dataset.specs.Format.Octets.{greatest_size}
-use Rattle.iim_object.specs.{Format.Causes.bound, Laws.PlacesAreReached, States.Reading.HasSubfiles}
+use Rattle.iim_object.specs.{Format.Causes.bound, Laws.ObjectStatesAreReached, States.Reading.HasSubfiles}
 use Rattle.std.proofs.Math.Nat.{suc-mul}
 use Rattle.iim_dataset.proofs.Lists.{sum_fits}
 use Rattle.iim_object.proofs.{Numbers.in_row_at, Subfiles.front_lives, Subfiles.numbers_law, Subfiles.subfiles_law}
@@ -11,7 +11,7 @@ use Rattle.iim_object.proofs.Steps.{tells_of, both_of, not_ended_tokens, number_
 -- ---- The state of a place.
 
 -- Numbers that meet their rows and do not clash are those of a state.
-numbers_told : (s : State) (p : Place) → IsStateAt s p → AllByRecursion InRow p.stated → NoClash p.stated → HasNumbers s
+numbers_told : (s : State) (p : Place) → IsStateAt s p → AllByRecursion IsAllowedByRow p.stated → HaveNoClash p.stated → HasNumbers s
 numbers_told s p t each clash = grind (arith, in_row_at)
 
 -- The total is within the bound.
@@ -22,7 +22,8 @@ bound_keeps : (announced most : Option ℕ) (n : ℕ) → IfSome announced (λ a
     → n ≤ bound announced most → (n ≤ greatest_size) × IfSome announced (λ a. n ≤ a) × IfSome most (λ m. n ≤ m)
 bound_keeps announced most n least below within = grind arith
 
-subfiles_told : (s : State) (p : Place) (known : Bool) (subfile : ℕ) → IsStateAt s p → HasDuties known subfile p.stated → Fit known subfile p.stated p.lengths
+subfiles_told : (s : State) (p : Place) (known : Bool) (subfile : ℕ) → IsStateAt s p → StatesModeAndLargest known subfile p.stated
+    → SubfilesFit known subfile p.stated p.lengths
     → length p.lengths ≤ max_subfiles → HasSubfiles s
 subfiles_told s p known subfile t d fit few =
     let held = sum_fits subfile p.lengths fit.each in
@@ -38,7 +39,7 @@ subfiles_told s p known subfile t d fit few =
 no_octets : (lengths : List ℕ) → length lengths ≡ 0 → sum lengths ≡ 0
 no_octets lengths e = grind (arith, nil_from_length)
 
-subfiles_of_place : (s : State) (p : Place) → StandsAt (Some s) p → length p.lengths ≤ max_subfiles → 0 < s.subfiles → HasSubfiles s
+subfiles_of_place : (s : State) (p : Place) → ObjectReaderStandsAt (Some s) p → length p.lengths ≤ max_subfiles → 0 < s.subfiles → HasSubfiles s
 subfiles_of_place s p st few some =
     let t = tells_of s p st in
     let long : 0 < length p.lengths = omega (arith, t.subfiles) in
@@ -46,7 +47,7 @@ subfiles_of_place s p st few some =
     let alive = front_lives ObjectLanguage (number_tokens p.stated ++ map SubfileBegun p.lengths) (ending_tokens p.ending) (rw append_assoc st.alive) in
     subfiles_told s p known subfile t d ((subfiles_law known subfile p.stated p.lengths d long).0 alive) few
 
-pub state_of : (s : State) (p : Place) → StandsAt (Some s) p → length p.lengths ≤ max_subfiles → IsState s
+pub state_of : (s : State) (p : Place) → ObjectReaderStandsAt (Some s) p → length p.lengths ≤ max_subfiles → IsState s
 state_of s p st few =
     let t = tells_of s p st in
     let alive = front_lives ObjectLanguage (number_tokens p.stated) (map SubfileBegun p.lengths ++ ending_tokens p.ending) st.alive in
@@ -59,11 +60,11 @@ state_of s p st few =
 -- ---- A place of the state.
 
 -- the numbers, with one more if it is given
-abbrev pub stating : ℕ → Option ℕ → List Stated → List Stated
+abbrev pub stating : ℕ → Option ℕ → List StatedNumber → List StatedNumber
 stating set None ps = ps
 stating set (Some n) ps = record { set = set; number = n } ∷ ps
 
-abbrev pub numbers_in : State → List Stated
+abbrev pub numbers_in : State → List StatedNumber
 numbers_in s = stating 10 s.mode (stating 20 s.subfile (stating 90 s.announced (stating 95 s.maximum [])))
 
 pub mode_in : (s : State) → number_at 10 (numbers_in s) ≡ s.mode
@@ -78,16 +79,16 @@ announced_in s = grind arith
 pub maximum_in : (s : State) → number_at 95 (numbers_in s) ≡ s.maximum
 maximum_in s = grind arith
 
-each_in : (s : State) → HasNumbers s → AllByRecursion InRow (numbers_in s)
+each_in : (s : State) → HasNumbers s → AllByRecursion IsAllowedByRow (numbers_in s)
 each_in s h = grind arith
 
-once_in : (s : State) → AreOnce (numbers_in s)
+once_in : (s : State) → HaveNoRepeats (numbers_in s)
 once_in s = grind arith
 
-pub are_stated : (s : State) → HasNumbers s → AreStated (numbers_in s)
+pub are_stated : (s : State) → HasNumbers s → AreStatedNumbers (numbers_in s)
 are_stated s h = record { each = each_in s h; once = once_in s }
 
-clash_in : (s : State) → HasNumbers s → NoClash (numbers_in s)
+clash_in : (s : State) → HasNumbers s → HaveNoClash (numbers_in s)
 clash_in s h = record {
   mode = λ e. announced_in s ∙ h.not_known (sym (mode_in s) ∙ e);
   sizes = λ a m e f. h.sizes a m (sym (announced_in s) ∙ e) (sym (maximum_in s) ∙ f);
@@ -139,7 +140,7 @@ tells_in s is = record {
   total = sym (total_in s is);
 }
 
-fits_in : (s : State) (is : IsState s) (h : HasSubfiles s) → Fit (is_some s.announced) h.subfile (numbers_in s) (lengths_in s)
+fits_in : (s : State) (is : IsState s) (h : HasSubfiles s) → SubfilesFit (is_some s.announced) h.subfile (numbers_in s) (lengths_in s)
 fits_in s is h =
     let (total, announced, maximum) = bound_keeps s.announced s.maximum s.total is.numbers.announced is.numbers.maximum h.total in
     record {
@@ -151,11 +152,11 @@ fits_in s is h =
       maximum = rw (maximum_in s, total_in s is) maximum;
     }
 
-alive_in : (s : State) → IsState s → IsAlive ObjectLanguage (tokens_of (place_in s))
+alive_in : (s : State) → IsState s → IsViablePrefix ObjectLanguage (tokens_of (place_in s))
 alive_in s is = elim (cases_lt 0 s.subfiles) [
   | inl some ↦
       let h = is.some_subfiles some in
-      let d : HasDuties (is_some s.announced) h.subfile (numbers_in s) = record {
+      let d : StatesModeAndLargest (is_some s.announced) h.subfile (numbers_in s) = record {
         stated = are_stated s is.numbers;
         mode = mode_in s ∙ h.mode;
         largest = largest_in s ∙ h.largest;
@@ -167,10 +168,10 @@ alive_in s is = elim (cases_lt 0 s.subfiles) [
       rw (number_before (place_in s) empty refl) ((numbers_law (numbers_in s) (are_stated s is.numbers)).1 (clash_in s is.numbers))
 ]
 
-both_in : (s : State) → HasSubfiles s → HasBoth (numbers_in s)
+both_in : (s : State) → HasSubfiles s → HasModeAndLargest (numbers_in s)
 both_in s h = (ap is_some (mode_in s ∙ h.mode), ap is_some (largest_in s ∙ h.largest))
 
-pub stands_in : (s : State) → IsState s → StandsAt (Some s) (place_in s)
+pub stands_in : (s : State) → IsState s → ObjectReaderStandsAt (Some s) (place_in s)
 stands_in s is = record {
   state = s;
   is_state = refl;
@@ -187,5 +188,5 @@ few_in s is = elim (cases_lt 0 s.subfiles) [
   | inr none ↦ omega (arith, length_in s, none)
 ]
 
-pub reached_law : PlacesAreReached
+pub reached_law : ObjectStatesAreReached
 reached_law s = (λ is. (place_in s, stands_in s is, few_in s is), λ h. state_of s h.0 h.1 h.2)

@@ -1,11 +1,11 @@
 -- How many octets were written of an object that is divided into subfiles.
-use Rattle.iim_object.proofs.Words.{◌≡◌, ℕ, ◌+◌, ◌*◌, ◌≤◌, true, false, List, [], length, refl, arith, le_of_mul-le-mul_left, canonical_dataset, tag_octets, Device, greatest_size, dataset_length, subfile_dataset, max_subfiles, Puts, Cuts, HasRoom, Output, Cutter}
-use Rattle.iim_dataset.specs.States.Devices.{Reserved}
-use Rattle.iim_object.specs.{Steps.Becomes, Format.Objects.most_sizes}
+use Rattle.iim_object.proofs.Words.{◌≡◌, ℕ, ◌+◌, ◌*◌, ◌≤◌, true, false, List, [], length, refl, arith, le_of_mul-le-mul_left, canonical_dataset, tag_octets, Device, greatest_size, dataset_length, subfile_dataset, max_subfiles, OutputWrites, OutputFails, CutterHasCapacity, Output, Cutter}
+use Rattle.iim_dataset.specs.States.Devices.{ReservedView}
+use Rattle.iim_object.specs.{Steps.CutterBecomes, Format.Objects.most_sizes}
 use Rattle.iim_object.proofs.PlanParts.{plan_parts}
 
 -- What was written and what is buffered, while no write failed.
-pub out_fits : {W : Type 0} (c : Cutter W) → HasRoom c → c.failed ≡ false
+pub out_fits : {W : Type 0} (c : Cutter W) → CutterHasCapacity c → c.failed ≡ false
     → c.output.written + length c.held.items ≤ most_sizes + greatest_size + tag_octets * max_subfiles
 out_fits c room unfailed =
     let plan = plan_parts c.plan.subfile c.plan.size c.plan.valid in
@@ -18,10 +18,10 @@ out_fits c room unfailed =
 abbrev pub holding : {W : Type 0} → Cutter W → List ℕ → Cutter W
 holding c xs = record c { held = record { items = xs; room = c.held.room } }
 
-pub room_flushed : {W : Type 0} (state : W → Device) (old : Cutter W) (held : Reserved) (output : Output W) → HasRoom old → old.failed ≡ false
+pub room_flushed : {W : Type 0} (state : W → Device) (old : Cutter W) (held : ReservedView) (output : Output W) → CutterHasCapacity old → old.failed ≡ false
     → length old.held.items ≡ old.plan.subfile → held.items ≡ [] → held.room ≡ old.held.room
-    → Puts state old.output output (canonical_dataset (subfile_dataset old.held.items))
-    → Becomes (record old { held = held; sent = old.sent + length old.held.items; output = output })
+    → OutputWrites state old.output output (canonical_dataset (subfile_dataset old.held.items))
+    → CutterBecomes (record old { held = held; sent = old.sent + length old.held.items; output = output })
     (record (holding old []) { sent = old.sent + length old.held.items; output = output })
 room_flushed state old held output room unfailed full empty same put =
     let fits = out_fits old room unfailed in
@@ -41,8 +41,8 @@ room_flushed state old held output room unfailed full empty same put =
       };
     })
 
-pub room_halted : {W : Type 0} (state : W → Device) (old : Cutter W) (output : Output W) (text : List ℕ) → HasRoom old → old.failed ≡ false
-    → Cuts state old.output output text → length text ≤ 64 + length old.held.items → HasRoom (record old { output = output; failed = true })
+pub room_halted : {W : Type 0} (state : W → Device) (old : Cutter W) (output : Output W) (text : List ℕ) → CutterHasCapacity old → old.failed ≡ false
+    → OutputFails state old.output output text → length text ≤ 64 + length old.held.items → CutterHasCapacity (record old { output = output; failed = true })
 room_halted state old output text room unfailed cut long =
     let fits = out_fits old room unfailed in
     record {

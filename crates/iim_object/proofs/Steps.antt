@@ -1,7 +1,7 @@
 -- The state after each token, and when the tokens are no longer a viable prefix.
-use Rattle.iim_object.proofs.Words.{◌≡◌, ℕ, ◌+◌, ◌<◌, ◌≤◌, Bool, List, [], ◌∷◌, ◌++◌, length, map, sum, Option, Some, None, IfSome, unwrap_or, refl, sym, ap, ◌∙◌, arith, append_assoc, append-nil, length-append, AllByRecursion, map-append, nil_from_length, same_Some, IsAlive, greatest_size, all_append, all_last, sum_append, some_of, Stated, AreOnce, AreStated, number_at, mode_number, ObjectToken, NumberRead, SubfileBegun, ObjectEnded, Confirmed, ObjectLanguage, number_tokens, NoClash, HasDuties, Fit, MeetsAnnounced, Place, NotEnded, ConfirmedAs, tokens_of, place_after, place_start, HasBoth, MayFollow, end_cause, confirmed_cause, cause_at, IsStateAt, StandsAt, LeadsOn, Refuses, State, state_with}
-use Rattle.iim_object.specs.{Format.Objects.Sizes, Laws.TokensFollow, Format.Causes.is_given, Format.Causes.number_cause, Format.Causes.subfile_cause}
-use Rattle.iim_object.specs.States.Reading.{LivesWith, IsSizes, SizeCause, set_where, state_start}
+use Rattle.iim_object.proofs.Words.{◌≡◌, ℕ, ◌+◌, ◌<◌, ◌≤◌, Bool, List, [], ◌∷◌, ◌++◌, length, map, sum, Option, Some, None, IfSome, unwrap_or, refl, sym, ap, ◌∙◌, arith, append_assoc, append-nil, length-append, AllByRecursion, map-append, nil_from_length, same_Some, IsViablePrefix, greatest_size, all_append, all_last, sum_append, some_of, StatedNumber, HaveNoRepeats, AreStatedNumbers, number_at, mode_number, ObjectToken, NumberRead, SubfileBegun, ObjectEnded, Confirmed, ObjectLanguage, number_tokens, HaveNoClash, StatesModeAndLargest, SubfilesFit, TotalIsAnnounced, Place, NotEnded, ConfirmedAs, tokens_of, place_after, place_start, HasModeAndLargest, MayFollow, end_cause, confirmed_cause, cause_at, IsStateAt, ObjectReaderStandsAt, TokenAdvancesObject, RejectsObjectToken, State, state_with}
+use Rattle.iim_object.specs.{Format.Objects.Sizes, Laws.TokensExtendThePlace, Format.Causes.is_given, Format.Causes.number_cause, Format.Causes.subfile_cause}
+use Rattle.iim_object.specs.States.Reading.{IsViableWithToken, IsSizes, SizeCause, set_where, state_start}
 use Rattle.iim_object.proofs.{Numbers.at-append, Numbers.at_most_size, Numbers.in_row_at, Numbers.mode_at_most_one, Numbers.none-append, Bounded.mode_known}
 use Rattle.iim_object.proofs.Subfiles.{numbers_law, subfiles_law, ends_law, confirmed_law}
 
@@ -13,20 +13,20 @@ not_ended_tokens p e = rw e (simp append-nil)
 pub number_before : (p : Place) → p.lengths ≡ [] → p.ending ≡ NotEnded → tokens_of p ≡ number_tokens p.stated
 number_before p none not_ended = rw (not_ended, none) (simp append-nil)
 
-pub tokens_follow : TokensFollow
-tokens_follow p (NumberRead set number) (not_ended, none, stated) = rw (not_ended, none) (simp (append-nil, map-append))
-tokens_follow p (SubfileBegun count) (not_ended, both, few) = rw not_ended (simp (append-nil, map-append, append_assoc))
-tokens_follow p ObjectEnded (not_ended, some) = rw not_ended (simp (append-nil, append_assoc))
-tokens_follow p (Confirmed n) ended = rw ended (simp append_assoc)
+pub tokens_extend_the_place : TokensExtendThePlace
+tokens_extend_the_place p (NumberRead set number) (not_ended, none, stated) = rw (not_ended, none) (simp (append-nil, map-append))
+tokens_extend_the_place p (SubfileBegun count) (not_ended, both, few) = rw not_ended (simp (append-nil, map-append, append_assoc))
+tokens_extend_the_place p ObjectEnded (not_ended, some) = rw not_ended (simp (append-nil, append_assoc))
+tokens_extend_the_place p (Confirmed n) ended = rw ended (simp append_assoc)
 
 -- ---- What the record layer has accepted.
 
 pub record IsAdmitted (p : Place) : Type 0 where
-  pub stated : AreStated p.stated
+  pub stated : AreStatedNumbers p.stated
   pub subfiles : p.lengths ≡ [] → p.ending ≡ NotEnded
-  pub duties : 0 < length p.lengths → HasBoth p.stated
+  pub duties : 0 < length p.lengths → HasModeAndLargest p.stated
 
-pub admitted_at : {reader : Option State} {p : Place} → StandsAt reader p → IsAdmitted p
+pub admitted_at : {reader : Option State} {p : Place} → ObjectReaderStandsAt reader p → IsAdmitted p
 admitted_at st = record { stated = st.stated; subfiles = st.subfiles; duties = st.duties }
 
 -- Once the object has ended it has a subfile.
@@ -47,7 +47,7 @@ stays_admitted p (Confirmed n) a ended = record { stated = a.stated; subfiles = 
 -- ---- A token without a cause.
 
 -- The last of numbers that do not repeat did not occur before.
-pub once_last : (ps : List Stated) (q : Stated) → AreOnce (ps ++ q ∷ []) → number_at q.set ps ≡ None
+pub once_last : (ps : List StatedNumber) (q : StatedNumber) → HaveNoRepeats (ps ++ q ∷ []) → number_at q.set ps ≡ None
 once_last [] q o = refl
 once_last (p ∷ ps) q o = let rest = once_last ps q o.1 in grind (arith, at-append, none-append)
 
@@ -55,18 +55,18 @@ pub sum_more : (lengths : List ℕ) (count : ℕ) → sum (lengths ++ count ∷ 
 sum_more lengths count = grind (arith, sum_append)
 
 -- The announced size is at most the greatest.
-pub announced_small : (ps : List Stated) → AreStated ps → IfSome (number_at 90 ps) (λ a. a ≤ greatest_size)
+pub announced_small : (ps : List StatedNumber) → AreStatedNumbers ps → IfSome (number_at 90 ps) (λ a. a ≤ greatest_size)
 announced_small ps stated = grind (arith, in_row_at, at_most_size)
 
 -- If there is no cause, there is no clash.
-pub clear_numbers : (ps : List Stated) → number_cause (number_at 10 ps) (number_at 90 ps) (number_at 95 ps) ≡ None → NoClash ps
+pub clear_numbers : (ps : List StatedNumber) → number_cause (number_at 10 ps) (number_at 90 ps) (number_at 95 ps) ≡ None → HaveNoClash ps
 clear_numbers ps e = grind arith
 
-no_number_cause : (ps : List Stated) → NoClash ps → number_cause (number_at 10 ps) (number_at 90 ps) (number_at 95 ps) ≡ None
+no_number_cause : (ps : List StatedNumber) → HaveNoClash ps → number_cause (number_at 10 ps) (number_at 90 ps) (number_at 95 ps) ≡ None
 no_number_cause ps clash = grind arith
 
 -- Mode and largest subfile are stated.
-pub both_of : (ps : List Stated) → AreStated ps → HasBoth ps → (known : Bool) × (subfile : ℕ) × HasDuties known subfile ps
+pub both_of : (ps : List StatedNumber) → AreStatedNumbers ps → HasModeAndLargest ps → (known : Bool) × (subfile : ℕ) × StatesModeAndLargest known subfile ps
 both_of ps stated both =
     let mode = some_of (number_at 10 ps) both.0 in
     let largest = some_of (number_at 20 ps) both.1 in
@@ -74,36 +74,36 @@ both_of ps stated both =
     (known.0, largest.0, record { stated = stated; mode = mode.1 ∙ ap (λ (n : ℕ). Some n) known.1; largest = largest.1 })
 
 -- The numbers do not clash, and no subfile is too long.
-so_far : (known : Bool) (subfile : ℕ) (ps : List Stated) (lengths : List ℕ) → HasDuties known subfile ps
-    → IsAlive ObjectLanguage (number_tokens ps ++ map SubfileBegun lengths)
-    → NoClash ps × AllByRecursion (λ n. n ≤ subfile) lengths
+so_far : (known : Bool) (subfile : ℕ) (ps : List StatedNumber) (lengths : List ℕ) → StatesModeAndLargest known subfile ps
+    → IsViablePrefix ObjectLanguage (number_tokens ps ++ map SubfileBegun lengths)
+    → HaveNoClash ps × AllByRecursion (λ n. n ≤ subfile) lengths
 so_far known subfile ps [] d alive = ((numbers_law ps d.stated).0 (rw append-nil at alive), tt)
 so_far known subfile ps (l ∷ lengths) d alive = let fit = (subfiles_law known subfile ps (l ∷ lengths) d (omega arith)).0 alive in (fit.clash, fit.each)
 
 -- If there is no cause, one more subfile fits.
-subfile_fits : (known : Bool) (subfile : ℕ) (ps : List Stated) (lengths : List ℕ) (count : ℕ) → HasDuties known subfile ps → NoClash ps
+subfile_fits : (known : Bool) (subfile : ℕ) (ps : List StatedNumber) (lengths : List ℕ) (count : ℕ) → StatesModeAndLargest known subfile ps → HaveNoClash ps
     → AllByRecursion (λ n. n ≤ subfile) lengths
     → IfSome (number_at 90 ps) (λ a. a ≤ greatest_size)
     → subfile_cause (number_at 10 ps) (number_at 20 ps) (number_at 90 ps) (number_at 95 ps) (sum lengths) count ≡ None
-    → Fit known subfile ps (lengths ++ count ∷ [])
+    → SubfilesFit known subfile ps (lengths ++ count ∷ [])
 subfile_fits known subfile ps lengths count d clash each small clear = grind (arith, sum_more, all_append)
 
-no_subfile_cause : (known : Bool) (subfile : ℕ) (ps : List Stated) (lengths : List ℕ) (count : ℕ) → HasDuties known subfile ps
-    → Fit known subfile ps (lengths ++ count ∷ [])
+no_subfile_cause : (known : Bool) (subfile : ℕ) (ps : List StatedNumber) (lengths : List ℕ) (count : ℕ) → StatesModeAndLargest known subfile ps
+    → SubfilesFit known subfile ps (lengths ++ count ∷ [])
     → subfile_cause (number_at 10 ps) (number_at 20 ps) (number_at 90 ps) (number_at 95 ps) (sum lengths) count ≡ None
 no_subfile_cause known subfile ps lengths count d fit = grind (arith, sum_more, all_last)
 
-whole_of : (ps : List Stated) (lengths : List ℕ) → IfSome (number_at 90 ps) (λ a. sum lengths ≤ a) → end_cause (number_at 90 ps) (sum lengths) ≡ None
-    → MeetsAnnounced ps lengths
+whole_of : (ps : List StatedNumber) (lengths : List ℕ) → IfSome (number_at 90 ps) (λ a. sum lengths ≤ a) → end_cause (number_at 90 ps) (sum lengths) ≡ None
+    → TotalIsAnnounced ps lengths
 whole_of ps lengths fits e = grind arith
 
-no_end_cause : (ps : List Stated) (lengths : List ℕ) → MeetsAnnounced ps lengths → end_cause (number_at 90 ps) (sum lengths) ≡ None
+no_end_cause : (ps : List StatedNumber) (lengths : List ℕ) → TotalIsAnnounced ps lengths → end_cause (number_at 90 ps) (sum lengths) ≡ None
 no_end_cause ps lengths whole = grind arith
 
 -- With a token the tokens are a viable prefix exactly if it has no cause.
-pub lives_on : {reader : Option State} (p : Place) (token : ObjectToken) → StandsAt reader p → MayFollow p token
-    → (IsAlive ObjectLanguage (tokens_of (place_after p token)) → cause_at p token ≡ None)
-    × (cause_at p token ≡ None → IsAlive ObjectLanguage (tokens_of (place_after p token)))
+pub lives_on : {reader : Option State} (p : Place) (token : ObjectToken) → ObjectReaderStandsAt reader p → MayFollow p token
+    → (IsViablePrefix ObjectLanguage (tokens_of (place_after p token)) → cause_at p token ≡ None)
+    × (cause_at p token ≡ None → IsViablePrefix ObjectLanguage (tokens_of (place_after p token)))
 lives_on p (NumberRead set n) st (not_ended, none, stated) =
     let law = numbers_law (place_after p (NumberRead set n)).stated stated in
     rw (number_before (place_after p (NumberRead set n)) none not_ended) (λ alive. no_number_cause _ (law.0 alive), λ e. law.1 (clear_numbers _ e))
@@ -143,10 +143,10 @@ cause_in s ObjectEnded = end_cause s.announced s.total
 cause_in s (Confirmed n) = confirmed_cause s.total n
 
 -- The state of the reader is that of the place.
-pub tells_of : (s : State) (p : Place) → StandsAt (Some s) p → IsStateAt s p
+pub tells_of : (s : State) (p : Place) → ObjectReaderStandsAt (Some s) p → IsStateAt s p
 tells_of s p st = rw (same_Some s st.state st.is_state) st.tells
 
-at_set : (wanted set number : ℕ) (ps : List Stated) → number_at set ps ≡ None
+at_set : (wanted set number : ℕ) (ps : List StatedNumber) → number_at set ps ≡ None
     → set_where wanted set number (number_at wanted ps) ≡ number_at wanted (ps ++ record { set = set; number = number } ∷ [])
 at_set wanted set number ps none = grind (arith, at-append, none-append)
 
@@ -177,7 +177,7 @@ cause_is s p (NumberRead set n) t may = let u = tells_next s p (NumberRead set n
 cause_is s p token t may = cc
 
 -- A token without a cause reaches the next state, and one with a cause is rejected.
-pub leads_on : (s : State) (token : ObjectToken) → cause_in s token ≡ None → LeadsOn (Some s) token (Some (next s token))
+pub leads_on : (s : State) (token : ObjectToken) → cause_in s token ≡ None → TokenAdvancesObject (Some s) token (Some (next s token))
 leads_on s token e p st may =
     let t = tells_of s p st in
     let a = stays_admitted p token (admitted_at st) may in
@@ -191,18 +191,18 @@ leads_on s token e p st may =
       alive = (lives_on p token st may).1 (sym (cause_is s p token t may) ∙ e);
     }
 
-pub refused : (s : State) (token : ObjectToken) (c : SizeCause) → cause_in s token ≡ Some c → Refuses (Some s) token c
+pub refused : (s : State) (token : ObjectToken) (c : SizeCause) → cause_in s token ≡ Some c → RejectsObjectToken (Some s) token c
 refused s token c e p st may =
     let cause = sym (cause_is s p token (tells_of s p st) may) ∙ e in
-    ((st.alive, λ alive. let none = (lives_on p token st may).0 (rw (tokens_follow p token may) alive) in cc), cause)
+    ((st.alive, λ alive. let none = (lives_on p token st may).0 (rw (tokens_extend_the_place p token may) alive) in cc), cause)
 
 -- With a token that reaches the next state, the tokens are a viable prefix.
-pub lives_with : (old new : Option State) (token : ObjectToken) → LeadsOn old token new → LivesWith old token
-lives_with old new token goes p st may = rw (tokens_follow p token may) at (goes p st may).alive
+pub lives_with : (old new : Option State) (token : ObjectToken) → TokenAdvancesObject old token new → IsViableWithToken old token
+lives_with old new token goes p st may = rw (tokens_extend_the_place p token may) at (goes p st may).alive
 
 -- ---- The beginning, and the sizes at the end.
 
-pub starts : StandsAt (Some state_start) place_start
+pub starts : ObjectReaderStandsAt (Some state_start) place_start
 starts = record {
   state = state_start;
   is_state = refl;
@@ -227,7 +227,7 @@ sizes_in s = record {
   total = s.total;
 }
 
-pub sizes_are : (s : State) (p : Place) (n : ℕ) → StandsAt (Some s) p → p.ending ≡ ConfirmedAs n → IsSizes p (sizes_in s)
+pub sizes_are : (s : State) (p : Place) (n : ℕ) → ObjectReaderStandsAt (Some s) p → p.ending ≡ ConfirmedAs n → IsSizes p (sizes_in s)
 sizes_are s p n st e =
     let t = tells_of s p st in
     let (known, subfile, d) = both_of p.stated st.stated (st.duties (some_lengths p (admitted_at st) (λ f. let clash = sym f ∙ e in cc))) in

@@ -3,16 +3,16 @@ pub use Rattle.iim_dataset.proofs.Each.{all_append, all_back, all_front, all_las
 pub use Rattle.iim_dataset.proofs.Lists.{nothing_of_two, some_of, sum_append, sum_cons}
 pub use Rattle.iim_dataset.proofs.WrittenNumbers.{dataset_length, number_back}
 pub use Rattle.iim_dataset.specs.Format.Datasets.{Dataset, canonical_dataset, canonical_stream, of_record, tag_octets, written_number}
-pub use Rattle.iim_dataset.specs.Format.Octets.{IsAlive, greatest_size, number}
-pub use Rattle.iim_dataset.specs.Laws.{TextsJoin}
+pub use Rattle.iim_dataset.specs.Format.Octets.{IsViablePrefix, greatest_size, number}
+pub use Rattle.iim_dataset.specs.Laws.{WritesJoin}
 pub use Rattle.iim_dataset.specs.States.Devices.{Device}
-pub use Rattle.iim_object.specs.Steps.{HasRoom, writing_of, Cuts, Puts}
+pub use Rattle.iim_object.specs.Steps.{CutterHasCapacity, writing_of, OutputFails, OutputWrites}
 pub use Rattle.iim_object.specs.Format.Causes.{cause_at, confirmed_cause, end_cause}
-pub use Rattle.iim_object.specs.Format.Packing.{AreFull, IsCut, joined_parts, is_known, number_dataset, plan_datasets, size_datasets, subfile_dataset, subfile_datasets}
-pub use Rattle.iim_object.specs.Format.Objects.{place_after_datasets, Confirmed, NumberRead, ObjectEnded, ObjectLanguage, ObjectToken, SubfileBegun, number_tokens, ConfirmedAs, Ended, Ending, HasBoth, MayFollow, NotEnded, Place, ending_tokens, place_after, place_start, tokens_of, Known, Size, Unknown, announced_of, limit_of, max_subfiles, maximum_of, AreObjectRecords, lengths_of, numbers_of, Agree, AreOnce, AreStated, InRow, Stated, mode_number, number_at, sizes_at, LanguageWithin, TokensWithin}
-pub use Rattle.iim_object.specs.Laws.{Fit, HasDuties, MeetsAnnounced, NoClash, ObjectsAreCutOneWay, TokensLead}
-pub use Rattle.iim_object.specs.States.Reading.{TakesSubfile, state_with, HasNumbers, IsState, IsStateAt, LeadsOn, Refuses, StandsAt, State, IsPossible}
-pub use Rattle.iim_object.specs.States.Writing.{Lengthens, finish_cause, octets_out, total_of, write_cause}
+pub use Rattle.iim_object.specs.Format.Packing.{AreFull, SplitsIntoSubfiles, joined_parts, is_known, number_dataset, plan_datasets, size_datasets, subfile_dataset, subfile_datasets}
+pub use Rattle.iim_object.specs.Format.Objects.{place_after_datasets, Confirmed, NumberRead, ObjectEnded, ObjectLanguage, ObjectToken, SubfileBegun, number_tokens, ConfirmedAs, Ended, Ending, HasModeAndLargest, MayFollow, NotEnded, Place, ending_tokens, place_after, place_start, tokens_of, Known, Size, Unknown, announced_of, limit_of, max_subfiles, maximum_of, AreObjectRecords, lengths_of, numbers_of, SizesAgree, HaveNoRepeats, AreStatedNumbers, IsAllowedByRow, StatedNumber, mode_number, number_at, sizes_at, LanguageWithin, TokensAreWithin}
+pub use Rattle.iim_object.specs.Laws.{SubfilesFit, StatesModeAndLargest, TotalIsAnnounced, HaveNoClash, ObjectsSplitUniquely, TokensReachPlace}
+pub use Rattle.iim_object.specs.States.Reading.{SubfileMayCome, state_with, HasNumbers, IsState, IsStateAt, TokenAdvancesObject, RejectsObjectToken, ObjectReaderStandsAt, State, IsPossible}
+pub use Rattle.iim_object.specs.States.Writing.{WriterAccepts, finish_cause, octets_written, total_of, write_cause}
 pub use Rattle.iim_object.specs.declared.plan.Plan.{Plan}
 pub use Rattle.iim_object.specs.declared.writing.cutter.Cutter.{Cutter}
 pub use Rattle.iim_object.specs.declared.writing.output.Output.{Output}

@@ -1,10 +1,10 @@
 -- How a writer of subfiles continues, fails and finishes.
-use Rattle.iim_object.proofs.Words.{◌≡◌, ℕ, ◌+◌, ◌<◌, ◌≤◌, Bool, true, false, Option, Some, None, List, [], ◌∷◌, ◌++◌, length, take, drop, refl, sym, ap, ◌∙◌, arith, append_assoc, append-nil, length-append, length-take, map-append, all_append, Device, TextsJoin, Dataset, canonical_dataset, canonical_stream, joined_parts, AreFull, IsCut, ObjectsAreCutOneWay, plan_datasets, subfile_dataset, subfile_datasets, number_dataset, Puts, Cuts, total_of, octets_out, Lengthens, write_cause, finish_cause, writing_of, Plan, Output, Cutter}
+use Rattle.iim_object.proofs.Words.{◌≡◌, ℕ, ◌+◌, ◌<◌, ◌≤◌, Bool, true, false, Option, Some, None, List, [], ◌∷◌, ◌++◌, length, take, drop, refl, sym, ap, ◌∙◌, arith, append_assoc, append-nil, length-append, length-take, map-append, all_append, Device, WritesJoin, Dataset, canonical_dataset, canonical_stream, joined_parts, AreFull, SplitsIntoSubfiles, ObjectsSplitUniquely, plan_datasets, subfile_dataset, subfile_datasets, number_dataset, OutputWrites, OutputFails, total_of, octets_written, WriterAccepts, write_cause, finish_cause, writing_of, Plan, Output, Cutter}
 use Rattle.std.proofs.Common.{cond}
 use Rattle.std.specs.Prelude.{IfNone}
 use Rattle.std.proofs.lemmas.List.{take-append-drop}
-use Rattle.iim_object.specs.{Format.Packing.confirmed_datasets, Format.Packing.object_datasets, Steps.Becomes}
-use Rattle.iim_object.specs.States.Writing.{Writing, HasWritten, Begins, BreaksOff, ContinuesWith, IsTheWhole, Finishes}
+use Rattle.iim_object.specs.{Format.Packing.confirmed_datasets, Format.Packing.object_datasets, Steps.CutterBecomes}
+use Rattle.iim_object.specs.States.Writing.{Writing, HasWritten, IsPrefix, WriterFails, IsWrittenOfMore, IsWrittenOf, WriterFinishes}
 use Rattle.iim_object.proofs.{Rooms.holding, PlanParts.plan_parts, Cutting.same_first, Cutting.some_octet, Cutting.too_short}
 
 -- ---- Streams.
@@ -17,7 +17,7 @@ stream_append (x ∷ xs) ys = ap (λ (t : List ℕ). canonical_dataset x ++ t) (
 stream_more : (ds xs ys : List Dataset) → canonical_stream (ds ++ (xs ++ ys)) ≡ canonical_stream (ds ++ xs) ++ canonical_stream ys
 stream_more ds xs ys = simp (stream_append, append_assoc)
 
-begun_more : (plan : Plan) (ps qs : List (List ℕ)) → octets_out plan (ps ++ qs) ≡ octets_out plan ps ++ canonical_stream (subfile_datasets qs)
+begun_more : (plan : Plan) (ps qs : List (List ℕ)) → octets_written plan (ps ++ qs) ≡ octets_written plan ps ++ canonical_stream (subfile_datasets qs)
 begun_more plan ps qs =
     let ds = plan_datasets plan.subfile plan.size in
     ap (λ (t : List Dataset). canonical_stream (ds ++ t)) (map-append subfile_dataset ps qs) ∙ stream_more ds (subfile_datasets ps) (subfile_datasets qs)
@@ -49,18 +49,18 @@ first_parts size (p ∷ ps) (g ∷ gs) last more one pf f short some long e =
 -- ---- Prefixes.
 
 -- What was written and a prefix of what follows are a prefix of the whole.
-pub begins_by : (out text rest whole : List ℕ) (n : ℕ) → whole ≡ out ++ (text ++ rest) → Begins (out ++ take n text) whole
+pub begins_by : (out text rest whole : List ℕ) (n : ℕ) → whole ≡ out ++ (text ++ rest) → IsPrefix (out ++ take n text) whole
 begins_by out text rest whole n e =
     let text_is : take n text ++ (drop n text ++ rest) ≡ text ++ rest = simp (← append_assoc, take-append-drop) in
     (drop n text ++ rest, rw (e, ← text_is) (simp append_assoc))
 
 -- ---- A writer continues.
 
-pub goes_nowhere : {W : Type 0} (state : W → Device) (w : Writing W) → TextsJoin → w.failed ≡ false → Lengthens state w w []
+pub goes_nowhere : {W : Type 0} (state : W → Device) (w : Writing W) → WritesJoin → w.failed ≡ false → WriterAccepts state w w []
 goes_nowhere state w join unfailed = record {
   more = [];
   wrote = join.none (state w.writer);
-  patience = omega arith;
+  retry_limit = omega arith;
   plan = refl;
   unfailed = unfailed;
   counted = omega arith;
@@ -68,12 +68,12 @@ goes_nowhere state w join unfailed = record {
   stands = λ object out s. simp append-nil s;
 }
 
-pub leads_on : {W : Type 0} (state : W → Device) (a b c : Writing W) (xs ys : List ℕ) → TextsJoin → Lengthens state a b xs → Lengthens state b c ys
-    → Lengthens state a c (xs ++ ys)
+pub leads_on : {W : Type 0} (state : W → Device) (a b c : Writing W) (xs ys : List ℕ) → WritesJoin → WriterAccepts state a b xs → WriterAccepts state b c ys
+    → WriterAccepts state a c (xs ++ ys)
 leads_on state a b c xs ys join l m = record {
   more = l.more ++ m.more;
   wrote = join.more (state a.writer) (state b.writer) (state c.writer) l.more m.more l.wrote m.wrote;
-  patience = omega (arith, l.patience, m.patience, length-append l.more m.more);
+  retry_limit = omega (arith, l.retry_limit, m.retry_limit, length-append l.more m.more);
   plan = m.plan ∙ l.plan;
   unfailed = m.unfailed;
   counted = omega (arith, l.counted, m.counted, length-append l.more m.more);
@@ -85,14 +85,14 @@ no_less : (xs ys : List ℕ) → 1 ≤ length ys → xs ++ ys ≡ [] → ⊥
 no_less xs ys some e = omega (arith, some, length-append xs ys, ap length e)
 
 -- Octets are buffered.
-pub filled : {W : Type 0} (state : W → Device) (old new : Cutter W) (xs : List ℕ) → TextsJoin → old.failed ≡ false → 1 ≤ length xs
-    → Becomes new (holding old (old.held.items ++ xs)) → Lengthens state (writing_of old) (writing_of new) xs
+pub filled : {W : Type 0} (state : W → Device) (old new : Cutter W) (xs : List ℕ) → WritesJoin → old.failed ≡ false → 1 ≤ length xs
+    → CutterBecomes new (holding old (old.held.items ++ xs)) → WriterAccepts state (writing_of old) (writing_of new) xs
 filled state old new xs join unfailed some is =
     let room = rw is.same at is.room in rw is.same (
     record {
       more = [];
       wrote = join.none (state old.output.writer);
-      patience = omega arith;
+      retry_limit = omega arith;
       plan = refl;
       unfailed = unfailed;
       counted = omega arith;
@@ -111,16 +111,17 @@ filled state old new xs join unfailed some is =
     })
 
 -- A full subfile is written, and octets are buffered after it.
-pub flushed : {W : Type 0} (state : W → Device) (old mid new : Cutter W) (xs : List ℕ) → TextsJoin → old.failed ≡ false
-    → length old.held.items ≡ old.plan.subfile → 1 ≤ length xs → Puts state old.output mid.output (canonical_dataset (subfile_dataset old.held.items))
-    → Becomes mid (record (holding old []) { sent = old.sent + length old.held.items; output = mid.output }) → Becomes new (holding mid (mid.held.items ++ xs))
-    → Lengthens state (writing_of old) (writing_of new) xs
+pub flushed : {W : Type 0} (state : W → Device) (old mid new : Cutter W) (xs : List ℕ) → WritesJoin → old.failed ≡ false
+    → length old.held.items ≡ old.plan.subfile → 1 ≤ length xs → OutputWrites state old.output mid.output (canonical_dataset (subfile_dataset old.held.items))
+    → CutterBecomes mid (record (holding old []) { sent = old.sent + length old.held.items; output = mid.output }) → CutterBecomes new (holding mid
+    (mid.held.items ++ xs))
+    → WriterAccepts state (writing_of old) (writing_of new) xs
 flushed state old mid new xs join unfailed full some put out is =
     let text : List ℕ = canonical_dataset (subfile_dataset old.held.items) in
     let room = rw (is.same, out.same) at is.room in rw (is.same, out.same) (record {
       more = text;
       wrote = put.wrote;
-      patience = put.patience;
+      retry_limit = put.retry_limit;
       plan = refl;
       unfailed = unfailed;
       counted = put.counted;
@@ -153,14 +154,14 @@ parted ds last ps others p =
 
 -- A write of this text failed, with which all that may be written continues.
 breaks_off : {W : Type 0} (state : W → Device) (May : List ℕ → List ℕ → Type 0) (old : Cutter W) (output : Output W) (text : List ℕ)
-    → Cuts state old.output output text
+    → OutputFails state old.output output text
     → ((object out whole : List ℕ) → HasWritten (writing_of old) object out → May object whole → (rest : List ℕ) × (whole ≡ out ++ (text ++ rest)))
-    → BreaksOff state May (writing_of old) (writing_of (record old { output = output; failed = true }))
+    → WriterFails state May (writing_of old) (writing_of (record old { output = output; failed = true }))
 breaks_off state May old output text cut continues = record {
   more = take cut.out text;
   appends = cut.stopped.1;
   broke = cut.stopped.2;
-  patience = omega (arith, cut.patience, front_length cut.out text cut.stopped.0);
+  retry_limit = omega (arith, cut.retry_limit, front_length cut.out text cut.stopped.0);
   plan = refl;
   failed = refl;
   counted = omega (arith, cut.counted, front_length cut.out text cut.stopped.0);
@@ -169,12 +170,13 @@ breaks_off state May old output text cut continues = record {
 
 -- A full subfile could not be written, and octets remained after it.
 pub halted : {W : Type 0} (state : W → Device) (old new : Cutter W) (octets : List ℕ) → length old.held.items ≡ old.plan.subfile → 1 ≤ length octets
-    → Cuts state old.output new.output (canonical_dataset (subfile_dataset old.held.items))
-    → Becomes new (record old { output = new.output; failed = true }) → BreaksOff state (ContinuesWith old.plan octets) (writing_of old) (writing_of new)
+    → OutputFails state old.output new.output (canonical_dataset (subfile_dataset old.held.items))
+    → CutterBecomes new (record old { output = new.output; failed = true }) → WriterFails state (IsWrittenOfMore old.plan octets) (writing_of old)
+    (writing_of new)
 halted state old new octets full some cut is =
     let plan = old.plan in
     let held : List ℕ = old.held.items in
-    rw is.same (breaks_off state (ContinuesWith plan octets) old new.output (canonical_dataset (subfile_dataset held)) cut (λ object out whole s (rest, w).
+    rw is.same (breaks_off state (IsWrittenOfMore plan octets) old new.output (canonical_dataset (subfile_dataset held)) cut (λ object out whole s (rest, w).
     let cut = w.cut in
     let joins : joined_parts (s.parts ++ held ∷ []) ++ (octets ++ rest) ≡ joined_parts cut.full ++ cut.last =
     rw (joined_append s.parts held, ← s.object_is) (simp append_assoc at cut.joined) in
@@ -189,13 +191,14 @@ halted state old new octets full some cut is =
 
 -- A failure after octets that were accepted is a failure of both together, for whatever may be
 -- written.
-pub breaks_on : {W : Type 0} (state : W → Device) (Now May : List ℕ → List ℕ → Type 0) (a b c : Writing W) (xs : List ℕ) → TextsJoin → Lengthens state a b xs
-    → ((object whole : List ℕ) → May object whole → Now (object ++ xs) whole) → BreaksOff state Now b c → BreaksOff state May a c
+pub breaks_on : {W : Type 0} (state : W → Device) (Now May : List ℕ → List ℕ → Type 0) (a b c : Writing W) (xs : List ℕ) → WritesJoin
+    → WriterAccepts state a b xs
+    → ((object whole : List ℕ) → May object whole → Now (object ++ xs) whole) → WriterFails state Now b c → WriterFails state May a c
 breaks_on state Now May a b c xs join l may k = record {
   more = l.more ++ k.more;
   appends = (join.broke (state a.writer) (state b.writer) (state c.writer) l.more k.more l.wrote (k.appends, k.broke)).0;
   broke = (join.broke (state a.writer) (state b.writer) (state c.writer) l.more k.more l.wrote (k.appends, k.broke)).1;
-  patience = omega (arith, l.patience, k.patience, length-append l.more k.more);
+  retry_limit = omega (arith, l.retry_limit, k.retry_limit, length-append l.more k.more);
   plan = k.plan ∙ l.plan;
   failed = k.failed;
   counted = omega (arith, k.counted, l.counted, length-append l.more k.more);
@@ -203,11 +206,11 @@ breaks_on state Now May a b c xs join l may k = record {
       rw append_assoc at (k.begins (object ++ xs) (out ++ l.more) whole (l.stands object out s) (may object whole w));
 }
 
-pub breaks_later : {W : Type 0} (state : W → Device) (a b c : Writing W) (xs ys : List ℕ) → TextsJoin → Lengthens state a b xs
-    → BreaksOff state (ContinuesWith b.plan ys) b c
-    → BreaksOff state (ContinuesWith a.plan (xs ++ ys)) a c
+pub breaks_later : {W : Type 0} (state : W → Device) (a b c : Writing W) (xs ys : List ℕ) → WritesJoin → WriterAccepts state a b xs
+    → WriterFails state (IsWrittenOfMore b.plan ys) b c
+    → WriterFails state (IsWrittenOfMore a.plan (xs ++ ys)) a c
 breaks_later state a b c xs ys join l k =
-    breaks_on state (ContinuesWith b.plan ys) (ContinuesWith a.plan (xs ++ ys)) a b c xs join l
+    breaks_on state (IsWrittenOfMore b.plan ys) (IsWrittenOfMore a.plan (xs ++ ys)) a b c xs join l
     (λ object whole w. (w.0, rw (l.plan, append_assoc object xs ys) w.1)) k
 
 -- ---- A writer finishes.
@@ -220,7 +223,7 @@ total_is : {W : Type 0} (w : Writing W) (object out : List ℕ) → HasWritten w
 total_is w object out s = omega (arith, ap length s.object_is, s.sent, length-append (joined_parts s.parts) w.held)
 
 -- The parts that were written and the last one are the division of the object.
-cut_here : {W : Type 0} (w : Writing W) (object out : List ℕ) (s : HasWritten w object out) → IsCut w.plan.subfile object (s.parts ++ w.held ∷ [])
+cut_here : {W : Type 0} (w : Writing W) (object out : List ℕ) (s : HasWritten w object out) → SplitsIntoSubfiles w.plan.subfile object (s.parts ++ w.held ∷ [])
 cut_here w object out s = record {
   full = s.parts;
   last = w.held;
@@ -239,12 +242,12 @@ ended w object out s =
     rw (s.out_is, ← total_is w object out s)
     (rw (append-nil (s.parts ++ w.held ∷ []), append-nil (canonical_dataset (number_dataset 9 10 (length object)))) at all)
 
-pub finished : {W : Type 0} (state : W → Device) (old : Cutter W) (last : Output W) → Puts state old.output last (ending_of (writing_of old))
-    → Finishes state (writing_of old) last.writer
+pub finished : {W : Type 0} (state : W → Device) (old : Cutter W) (last : Output W) → OutputWrites state old.output last (ending_of (writing_of old))
+    → WriterFinishes state (writing_of old) last.writer
 finished state old last p = record {
   more = ending_of (writing_of old);
   wrote = p.wrote;
-  patience = p.patience;
+  retry_limit = p.retry_limit;
   whole = λ object out s. record {
     parts = s.parts ++ old.held.items ∷ [];
     cut = cut_here (writing_of old) object out s;
@@ -252,11 +255,11 @@ finished state old last p = record {
   };
 }
 
-pub unfinished : {W : Type 0} (state : W → Device) (old : Cutter W) (output : Output W) → ObjectsAreCutOneWay
-    → Cuts state old.output output (ending_of (writing_of old))
-    → BreaksOff state (IsTheWhole old.plan) (writing_of old) (writing_of (record old { output = output; failed = true }))
+pub unfinished : {W : Type 0} (state : W → Device) (old : Cutter W) (output : Output W) → ObjectsSplitUniquely
+    → OutputFails state old.output output (ending_of (writing_of old))
+    → WriterFails state (IsWrittenOf old.plan) (writing_of old) (writing_of (record old { output = output; failed = true }))
 unfinished state old output one cut =
-    breaks_off state (IsTheWhole old.plan) old output (ending_of (writing_of old)) cut (λ object out whole s w.
+    breaks_off state (IsWrittenOf old.plan) old output (ending_of (writing_of old)) cut (λ object out whole s w.
     let same : w.parts ≡ s.parts ++ old.held.items ∷ [] =
     one old.plan.subfile object w.parts (s.parts ++ old.held.items ∷ []) (plan_parts old.plan.subfile old.plan.size old.plan.valid).least w.cut
     (cut_here (writing_of old) object out s) in

@@ -2,9 +2,9 @@
 use Rattle.std.specs.Prelude.{◌≡◌, ℕ, ◌+◌, ◌*◌, ◌<◌, ◌≤◌, false, length, List}
 use Rattle.iim_dataset.specs.Format.Datasets.{tag_octets}
 use Rattle.iim_object.specs.Format.Objects.{most_out, most_sizes}
-use Rattle.iim_object.specs.States.Writing.{Writing, most_of, room_of, total_of}
+use Rattle.iim_object.specs.States.Writing.{Writing, plan_bound, plan_capacity, total_of}
 use Rattle.iim_object.specs.declared.writing.{cutter.Cutter.Cutter, output.Output.Output}
-use Rattle.iim_dataset.specs.States.Devices.{Device, Wrote, Stopped, WithinInterruptionLimit}
+use Rattle.iim_dataset.specs.States.Devices.{Device, WroteAllOf, WroteOnlyPrefixOf, WithinInterruptionLimit}
 
 -- the cutter as a writer of subfiles
 abbrev pub writing_of : {W : Type 0} → Cutter W → Writing W
@@ -12,10 +12,10 @@ writing_of c = record { plan = c.plan; held = c.held.items; room = c.held.room; 
 
 -- The cutter has capacity for what the plan allows. It has written record 7 and `parts` full
 -- subfiles with their tags, so its numbers are small.
-pub record HasRoom {W : Type 0} (c : Cutter W) : Type 0 where
-  pub capacity : room_of c.plan ≤ c.held.room
+pub record CutterHasCapacity {W : Type 0} (c : Cutter W) : Type 0 where
+  pub capacity : plan_capacity c.plan ≤ c.held.room
   pub within : length c.held.items ≤ c.plan.subfile
-  pub bound : c.sent + length c.held.items ≤ most_of c.plan
+  pub bound : c.sent + length c.held.items ≤ plan_bound c.plan
   pub parts : ℕ
   pub sent : c.sent ≡ c.plan.subfile * parts
   pub count : c.failed ≡ false → c.output.written ≤ most_sizes + c.sent + tag_octets * parts
@@ -23,27 +23,27 @@ pub record HasRoom {W : Type 0} (c : Cutter W) : Type 0 where
 
 -- The cutter may accept these octets: it has capacity for what the plan allows, no write failed,
 -- there is at least one octet, and the plan allows them.
-pub record MayTake {W : Type 0} (c : Cutter W) (octets : List ℕ) : Type 0 where
-  pub room : HasRoom c
+pub record CutterMayAccept {W : Type 0} (c : Cutter W) (octets : List ℕ) : Type 0 where
+  pub room : CutterHasCapacity c
   pub unfailed : c.failed ≡ false
   pub some : 0 < length octets
-  pub within : total_of (writing_of c) + length octets ≤ most_of c.plan
+  pub within : total_of (writing_of c) + length octets ≤ plan_bound c.plan
 
 -- After a call the cutter equals `is`, and has capacity for what the plan allows.
-pub record Becomes {W : Type 0} (new is : Cutter W) : Type 0 where
+pub record CutterBecomes {W : Type 0} (new is : Cutter W) : Type 0 where
   pub same : new ≡ is
-  pub room : HasRoom new
+  pub room : CutterHasCapacity new
 
 -- The text was written and counted, with at most a million interruptions in a row for each octet.
-pub record Puts {W : Type 0} (state : W → Device) (old new : Output W) (text : List ℕ) : Type 0 where
-  pub wrote : Wrote (state old.writer) (state new.writer) text
+pub record OutputWrites {W : Type 0} (state : W → Device) (old new : Output W) (text : List ℕ) : Type 0 where
+  pub wrote : WroteAllOf (state old.writer) (state new.writer) text
   pub counted : new.written ≡ old.written + length text
-  pub patience : WithinInterruptionLimit (length text) (state old.writer) (state new.writer)
+  pub retry_limit : WithinInterruptionLimit (length text) (state old.writer) (state new.writer)
 
 -- A write failed. The octets of the text that were written were counted, with at most a million
 -- interruptions in a row for each and for the next.
-pub record Cuts {W : Type 0} (state : W → Device) (old new : Output W) (text : List ℕ) : Type 0 where
+pub record OutputFails {W : Type 0} (state : W → Device) (old new : Output W) (text : List ℕ) : Type 0 where
   pub out : ℕ
-  pub stopped : Stopped (state old.writer) (state new.writer) text out
+  pub stopped : WroteOnlyPrefixOf (state old.writer) (state new.writer) text out
   pub counted : new.written ≡ old.written + out
-  pub patience : WithinInterruptionLimit (out + 1) (state old.writer) (state new.writer)
+  pub retry_limit : WithinInterruptionLimit (out + 1) (state old.writer) (state new.writer)

@@ -3,10 +3,10 @@ use Rattle.std.proofs.Common.{◌≡◌, ℕ, ◌+◌, ◌≤◌, List, [], ◌�
 use Rattle.std.proofs.Math.Seq.{take-append_seam}
 use Rattle.std.proofs.lemmas.List.{drop-append-le, drop-drop, length-drop, take-append-drop}
 use Rattle.std.specs.Borrow.{MutBor}
-use Rattle.iim_dataset.specs.States.Devices.{Device, Broke, Stopped, WithinInterruptionLimit, Wrote}
-use Rattle.iim_dataset.specs.{Format.Octets.Rose, Laws.TextsJoin}
-use Rattle.wire_story.specs.{Format.Texts.LineOctet, States.Reading.HasBroken, Steps.octets_of_line}
-use Rattle.iim_output.specs.States.Holding.{HasPut, HasStuck, HoldsNothing, KeepsWriter, PutsOn, PutsLines, StaysStuck, device_of, held_of, stops_of, IsCutShort}
+use Rattle.iim_dataset.specs.States.Devices.{Device, FailedOrInterrupted, WroteOnlyPrefixOf, WithinInterruptionLimit, WroteAllOf}
+use Rattle.iim_dataset.specs.{Format.Octets.CounterRose, Laws.WritesJoin}
+use Rattle.wire_story.specs.{Format.Texts.LineOctet, States.Reading.TargetFailed, Steps.octets_of_line}
+use Rattle.iim_output.specs.States.Holding.{HasBuffered, HasBufferedInPart, HasEmptyBuffer, KeepsWriter, BuffersText, BuffersEvents, FlushFails, device_of, buffered_octets, stops_of, IsWrittenInPart}
 use Rattle.iim_output.specs.HoldingLaws.{parts_on}
 use Rattle.iim_dataset.specs.declared.stop.Stop.{Stop}
 use Rattle.iim_output.specs.declared.block_writer.BlockWriter.{BlockWriter}
@@ -25,25 +25,25 @@ few_out out k room items octets is le within few whole = omega (arith, le, ap le
 
 -- ---- counts
 
-rose_le : (i j : ℕ) → Rose i j → i ≤ j
+rose_le : (i j : ℕ) → CounterRose i j → i ≤ j
 rose_le i j (inl e) = omega (arith, e)
 rose_le i j (inr r) = r.1
 
-rose_not : (i j : ℕ) → Rose i j → j ≡ i → j + 1 < 2 ^ 64 → ⊥
+rose_not : (i j : ℕ) → CounterRose i j → j ≡ i → j + 1 < 2 ^ 64 → ⊥
 rose_not i j (inl e) same few = absurd (omega (arith, e, same))
 rose_not i j (inr r) same few = absurd (omega (arith, r.0, few))
 
 -- the counts that rose if a reader or writer failed
-broke : (a b : Device) → Broke a b → (a.failures ≤ b.failures) × (a.interruptions ≤ b.interruptions) × HasBroken a b
+broke : (a b : Device) → FailedOrInterrupted a b → (a.failures ≤ b.failures) × (a.interruptions ≤ b.interruptions) × TargetFailed a b
 broke a b (inl (inl e, still)) = (omega (arith, e), still, inl (inl (omega (arith, e))))
 broke a b (inl (inr r, still)) = (r.1, still, inl (inr r.0))
 broke a b (inr i) = (omega (arith, i.0), i.1, inr i.2)
 
 -- ---- what was passed to a writer
 
-pub puts_of_put : {W : Type 0} (state : W → Device) (a b : BlockWriter W) (text : List ℕ) → HasPut state a b text → stops_of b ≡ stops_of a
-    → PutsOn state a b text
-puts_of_put state a b text h same = record {
+pub buffers_of_buffered : {W : Type 0} (state : W → Device) (a b : BlockWriter W) (text : List ℕ) → HasBuffered state a b text → stops_of b ≡ stops_of a
+    → BuffersText state a b text
+buffers_of_buffered state a b text h same = record {
   out = h.out;
   same = h.same;
   parts = h.parts;
@@ -57,9 +57,10 @@ puts_of_put state a b text h same = record {
   };
 }
 
-pub puts_of_stuck : {W : Type 0} (state : W → Device) (a b : BlockWriter W) (text : List ℕ) → HasStuck state a b text → Rose (stops_of a) (stops_of b)
-    → PutsOn state a b text
-puts_of_stuck state a b text h rose =
+pub buffers_of_failed : {W : Type 0} (state : W → Device) (a b : BlockWriter W) (text : List ℕ) → HasBufferedInPart state a b text → CounterRose (stops_of a)
+    (stops_of b)
+    → BuffersText state a b text
+buffers_of_failed state a b text h rose =
     let (failures, interruptions, broken) = broke (device_of state a) (device_of state b) h.broke.1 in
     record {
       out = h.out;
@@ -76,140 +77,154 @@ puts_of_stuck state a b text h rose =
     }
 
 -- the octets of a line are passed as events
-pub told_line : {W : Type 0} (state : W → Device) (a b : BlockWriter W) (xs : List ℕ) → PutsOn state a b xs → PutsLines state a (map LineOctet xs) b
-told_line state a b xs p = rw (octets_of_line xs) p
+pub events_of_line : {W : Type 0} (state : W → Device) (a b : BlockWriter W) (xs : List ℕ) → BuffersText state a b xs → BuffersEvents state a
+    (map LineOctet xs) b
+events_of_line state a b xs p = rw (octets_of_line xs) p
 
 -- ---- what is buffered and flushed
 
-pub holds : {W : Type 0} (state : W → Device) → TextsJoin → (a b : BlockWriter W) (text : List ℕ) → KeepsWriter a b → held_of b ≡ held_of a ++ text
-    → device_of state b ≡ device_of state a → HasPut state a b text
+pub holds : {W : Type 0} (state : W → Device) → WritesJoin → (a b : BlockWriter W) (text : List ℕ) → KeepsWriter a b → buffered_octets b
+    ≡ buffered_octets a ++ text
+    → device_of state b ≡ device_of state a → HasBuffered state a b text
 holds state texts a b text keeps is same = record {
   out = [];
   same = keeps;
   parts = sym is;
   wrote = rw same (texts.none (device_of state a));
-  patience = omega (arith, ap (λ (d : Device). d.interruptions) same);
+  retry_limit = omega (arith, ap (λ (d : Device). d.interruptions) same);
 }
 
-pub lets_out : {W : Type 0} (state : W → Device) (a b : BlockWriter W) (octets : List ℕ) → KeepsWriter a b → octets ≡ held_of a → held_of b ≡ []
-    → Wrote (device_of state a) (device_of state b) octets
-    → WithinInterruptionLimit (length octets) (device_of state a) (device_of state b) → HasPut state a b []
-lets_out state a b octets same is none wrote limit = record {
+pub flush_empties_buffer : {W : Type 0} (state : W → Device) (a b : BlockWriter W) (octets : List ℕ) → KeepsWriter a b → octets ≡ buffered_octets a
+    → buffered_octets b ≡ []
+    → WroteAllOf (device_of state a) (device_of state b) octets
+    → WithinInterruptionLimit (length octets) (device_of state a) (device_of state b) → HasBuffered state a b []
+flush_empties_buffer state a b octets same is none wrote limit = record {
   out = octets;
   same = same;
   parts = rw (none, is) refl;
   wrote = wrote;
-  patience = limit;
+  retry_limit = limit;
 }
 
-pub stays_stuck : {W : Type 0} (state : W → Device) (a b : BlockWriter W) (octets : List ℕ) (n : ℕ) → KeepsWriter a b → octets ≡ held_of a
-    → held_of b ≡ drop n (held_of a) → Stopped (device_of state a) (device_of state b) octets n
-    → WithinInterruptionLimit (n + 1) (device_of state a) (device_of state b) → Rose (stops_of a) (stops_of b) → StaysStuck state a b
-stays_stuck state a b octets n same is rest stopped limit rose = (
+pub flush_fails : {W : Type 0} (state : W → Device) (a b : BlockWriter W) (octets : List ℕ) (n : ℕ) → KeepsWriter a b → octets ≡ buffered_octets a
+    → buffered_octets b ≡ drop n (buffered_octets a) → WroteOnlyPrefixOf (device_of state a) (device_of state b) octets n
+    → WithinInterruptionLimit (n + 1) (device_of state a) (device_of state b) → CounterRose (stops_of a) (stops_of b) → FlushFails state a b
+flush_fails state a b octets n same is rest stopped limit rose = (
   record {
     out = take n octets;
     same = same;
     parts = rw (rest, ← is, take-append-drop n octets) (append-nil octets);
     broke = (stopped.1, stopped.2);
-    patience = omega (arith, limit, stopped.0, length-take n octets);
+    retry_limit = omega (arith, limit, stopped.0, length-take n octets);
   },
   rw (rest, ← is) (omega (arith, stopped.0, length-drop n octets)),
   rose,
 )
 
 -- a text that is longer than a block, with an empty buffer
-pub passes_through : {W : Type 0} (state : W → Device) (a b : BlockWriter W) (text : List ℕ) → KeepsWriter a b → HoldsNothing a → held_of b ≡ held_of a
-    → Wrote (device_of state a) (device_of state b) text
-    → WithinInterruptionLimit (length text) (device_of state a) (device_of state b) → HasPut state a b text
+pub passes_through : {W : Type 0} (state : W → Device) (a b : BlockWriter W) (text : List ℕ) → KeepsWriter a b → HasEmptyBuffer a → buffered_octets b
+    ≡ buffered_octets a
+    → WroteAllOf (device_of state a) (device_of state b) text
+    → WithinInterruptionLimit (length text) (device_of state a) (device_of state b) → HasBuffered state a b text
 passes_through state a b text keeps none same wrote limit = record {
   out = text;
   same = keeps;
   parts = rw (same, none) (sym (append-nil text));
   wrote = wrote;
-  patience = limit;
+  retry_limit = limit;
 }
 
-pub breaks_through : {W : Type 0} (state : W → Device) (a b : BlockWriter W) (text : List ℕ) (n : ℕ) → KeepsWriter a b → HoldsNothing a
-    → held_of b ≡ held_of a → Stopped (device_of state a) (device_of state b) text n
-    → WithinInterruptionLimit (n + 1) (device_of state a) (device_of state b) → HasStuck state a b (take n text)
+pub breaks_through : {W : Type 0} (state : W → Device) (a b : BlockWriter W) (text : List ℕ) (n : ℕ) → KeepsWriter a b → HasEmptyBuffer a
+    → buffered_octets b ≡ buffered_octets a → WroteOnlyPrefixOf (device_of state a) (device_of state b) text n
+    → WithinInterruptionLimit (n + 1) (device_of state a) (device_of state b) → HasBufferedInPart state a b (take n text)
 breaks_through state a b text n keeps none same stopped limit = record {
   out = take n text;
   same = keeps;
   parts = rw (same, none) (sym (append-nil (take n text)));
   broke = (stopped.1, stopped.2);
-  patience = omega (arith, limit, stopped.0, length-take n text);
+  retry_limit = omega (arith, limit, stopped.0, length-take n text);
 }
 
-pub stuck_on : {W : Type 0} (state : W → Device) → TextsJoin → (a b c : BlockWriter W) (xs ys : List ℕ) → HasPut state a b xs → HasStuck state b c ys
-    → HasStuck state a c (xs ++ ys)
-stuck_on state texts a b c xs ys first then = record {
+pub buffered_in_part_later : {W : Type 0} (state : W → Device) → WritesJoin → (a b c : BlockWriter W) (xs ys : List ℕ) → HasBuffered state a b xs
+    → HasBufferedInPart state b c ys
+    → HasBufferedInPart state a c (xs ++ ys)
+buffered_in_part_later state texts a b c xs ys first then = record {
   out = first.out ++ then.out;
   same = then.same ∙ first.same;
-  parts = parts_on (held_of a) (held_of b) (held_of c) xs ys first.out then.out first.parts then.parts;
+  parts = parts_on (buffered_octets a) (buffered_octets b) (buffered_octets c) xs ys first.out then.out first.parts then.parts;
   broke = texts.broke (device_of state a) (device_of state b) (device_of state c) first.out then.out first.wrote then.broke;
-  patience = omega (arith, first.patience, then.patience, length-append first.out then.out);
+  retry_limit = omega (arith, first.retry_limit, then.retry_limit, length-append first.out then.out);
 }
 
 -- ---- texts that are written, or in part
 
 -- the buffer was empty before: the parts are those of the text
-front_of : {W : Type 0} (a : BlockWriter W) (text out rest : List ℕ) → HoldsNothing a → held_of a ++ text ≡ out ++ rest → text ≡ out ++ rest
+front_of : {W : Type 0} (a : BlockWriter W) (text out rest : List ℕ) → HasEmptyBuffer a → buffered_octets a ++ text ≡ out ++ rest → text ≡ out ++ rest
 front_of a text out rest before parts = rw before at parts
 
 -- the buffer is empty before and after
-pub all_out : {W : Type 0} (state : W → Device) (a b : BlockWriter W) (text : List ℕ) → HoldsNothing a → HoldsNothing b → HasPut state a b text
-    → Wrote (device_of state a) (device_of state b) text
+pub all_out : {W : Type 0} (state : W → Device) (a b : BlockWriter W) (text : List ℕ) → HasEmptyBuffer a → HasEmptyBuffer b → HasBuffered state a b text
+    → WroteAllOf (device_of state a) (device_of state b) text
 all_out state a b text before after put =
-    let is : text ≡ put.out = front_of a text put.out (held_of b) before put.parts ∙ ap (λ (t : List ℕ). put.out ++ t) after ∙ append-nil put.out in
+    let is : text ≡ put.out = front_of a text put.out (buffered_octets b) before put.parts ∙ ap (λ (t : List ℕ). put.out ++ t) after ∙ append-nil put.out in
     rw is put.wrote
 
-pub stopped_in : {W : Type 0} (state : W → Device) (a b : BlockWriter W) (text : List ℕ) → HoldsNothing a → (cut : IsCutShort state a b text)
-    → Stopped (device_of state a) (device_of state b) text (length cut.out)
+pub stopped_in : {W : Type 0} (state : W → Device) (a b : BlockWriter W) (text : List ℕ) → HasEmptyBuffer a → (cut : IsWrittenInPart state a b text)
+    → WroteOnlyPrefixOf (device_of state a) (device_of state b) text (length cut.out)
 stopped_in state a b text before cut =
     let is = front_of a text cut.out cut.rest before cut.parts in
     (omega (arith, cut.some, ap length is, length-append cut.out cut.rest), rw (is, take-append_seam cut.out cut.rest) cut.broke.0, cut.broke.1)
 
 -- a text was consumed, and the flush failed
-pub cut_by_stuck : {W : Type 0} (state : W → Device) → TextsJoin → (a b c : BlockWriter W) (text : List ℕ) → HasPut state a b text → StaysStuck state b c
-    → IsCutShort state a c text
-cut_by_stuck state texts a b c text put stuck =
-    let both = stuck_on state texts a b c text [] put stuck.0 in
+pub partly_written_by_flush : {W : Type 0} (state : W → Device) → WritesJoin → (a b c : BlockWriter W) (text : List ℕ) → HasBuffered state a b text
+    → FlushFails state b c
+    → IsWrittenInPart state a c text
+partly_written_by_flush state texts a b c text put write_failed =
+    let both = buffered_in_part_later state texts a b c text [] put write_failed.0 in
     record {
       out = both.out;
-      rest = held_of c;
+      rest = buffered_octets c;
       same = both.same;
       parts = rw (append-nil text) at both.parts;
-      some = stuck.1;
+      some = write_failed.1;
       broke = both.broke;
-      patience = both.patience;
+      retry_limit = both.retry_limit;
     }
 
 -- a text was consumed in part
-pub cut_by_put : {W : Type 0} (state : W → Device) (a b : BlockWriter W) (text : List ℕ) (n : ℕ) → n < length text → HasStuck state a b (take n text)
-    → IsCutShort state a b text
-cut_by_put state a b text n within stuck = record {
-  out = stuck.out;
-  rest = held_of b ++ drop n text;
-  same = stuck.same;
+pub partly_written_by_write : {W : Type 0} (state : W → Device) (a b : BlockWriter W) (text : List ℕ) (n : ℕ) → n < length text → HasBufferedInPart state a b
+    (take n text)
+    → IsWrittenInPart state a b text
+partly_written_by_write state a b text n within write_failed = record {
+  out = write_failed.out;
+  rest = buffered_octets b ++ drop n text;
+  same = write_failed.same;
   parts =
-      rw (← append_assoc stuck.out (held_of b) (drop n text), ← stuck.parts, append_assoc (held_of a) (take n text) (drop n text), take-append-drop n text)
+      rw (
+        ← append_assoc write_failed.out (buffered_octets b) (drop n text),
+        ← write_failed.parts,
+        append_assoc (buffered_octets a) (take n text)
+            (drop n text),
+        take-append-drop n text,
+      )
       refl;
-  some = omega (arith, within, length-append (held_of b) (drop n text), length-drop n text);
-  broke = stuck.broke;
-  patience = stuck.patience;
+  some = omega (arith, within, length-append (buffered_octets b) (drop n text), length-drop n text);
+  broke = write_failed.broke;
+  retry_limit = write_failed.retry_limit;
 }
 
 -- a text was consumed, and then another in part
-pub cut_on : {W : Type 0} (state : W → Device) → TextsJoin → (a b c : BlockWriter W) (xs ys : List ℕ) → HasPut state a b xs → IsCutShort state b c ys
-    → IsCutShort state a c (xs ++ ys)
-cut_on state texts a b c xs ys put cut = record {
+pub partly_written_later : {W : Type 0} (state : W → Device) → WritesJoin → (a b c : BlockWriter W) (xs ys : List ℕ) → HasBuffered state a b xs
+    → IsWrittenInPart state b c ys
+    → IsWrittenInPart state a c (xs ++ ys)
+partly_written_later state texts a b c xs ys put cut = record {
   out = put.out ++ cut.out;
   rest = cut.rest;
   same = cut.same ∙ put.same;
-  parts = parts_on (held_of a) (held_of b) cut.rest xs ys put.out cut.out put.parts cut.parts;
+  parts = parts_on (buffered_octets a) (buffered_octets b) cut.rest xs ys put.out cut.out put.parts cut.parts;
   some = cut.some;
   broke = texts.broke (device_of state a) (device_of state b) (device_of state c) put.out cut.out put.wrote cut.broke;
-  patience = omega (arith, put.patience, cut.patience, length-append put.out cut.out);
+  retry_limit = omega (arith, put.retry_limit, cut.retry_limit, length-append put.out cut.out);
 }
 
 -- ---- results

@@ -2,7 +2,7 @@
 use Rattle.std.specs.Prelude.{ℕ, List, ◌++◌, codes, decimal, ◌≡◌, ◌⊎◌}
 use Rattle.iim_fields.specs.{Format.Records.wire_limits, declared.limits.Limits.Limits}
 use Rattle.iim_places.specs.{Format.Causes.refusal_text, declared.refusal.Refusal.Refusal}
-use Rattle.iim_dataset.specs.States.Devices.{Device, Wrote, Stopped}
+use Rattle.iim_dataset.specs.States.Devices.{Device, WroteAllOf, WroteOnlyPrefixOf}
 pub use Rattle.iim_output.specs.declared.fault.CommandFault.{CommandFault}
 pub use Rattle.iim_output.specs.declared.fault.CommandFault.TheVariants.{CannotRead, CannotWrite, OutOfMemory}
 
@@ -48,9 +48,9 @@ status_failed = 3
 
 -- The text is written, and the status is the requested one; or a write failed inside it, and the
 -- status is 3.
-abbrev pub IsSaid : Device → Device → List ℕ → ℕ → ℕ → Type 0
-IsSaid old new text want status = (Wrote old new text × (status ≡ want)) ⊎ ((n : ℕ) × Stopped old new text n × (status ≡ status_failed))
+abbrev pub IsPrinted : Device → Device → List ℕ → ℕ → ℕ → Type 0
+IsPrinted old new text want status = (WroteAllOf old new text × (status ≡ want)) ⊎ ((n : ℕ) × WroteOnlyPrefixOf old new text n × (status ≡ status_failed))
 
 -- A write failed inside the text.
-abbrev pub FailsToSay : Device → Device → List ℕ → CommandFault → Type 0
-FailsToSay old new text fault = (fault ≡ CannotWrite) × (n : ℕ) × Stopped old new text n
+abbrev pub WriteFails : Device → Device → List ℕ → CommandFault → Type 0
+WriteFails old new text fault = (fault ≡ CannotWrite) × (n : ℕ) × WroteOnlyPrefixOf old new text n

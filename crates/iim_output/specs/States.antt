@@ -1,3 +1,3 @@
 pub mod Devices
-pub mod Held
+pub mod PendingOctets
 pub mod Holding

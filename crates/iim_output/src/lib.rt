@@ -1,6 +1,6 @@
 //! Output of the commands: lines, buffered output, errors and exit statuses.
 //!
-//! [`block_writer::BlockWriter`] buffers octets up to a block, and [`outlet::Outlet`] is a sink
+//! [`block_writer::BlockWriter`] buffers octets up to a block, and [`flush_sink::FlushSink`] is a sink
 //! that can be flushed. [`lines`] has the lines that all commands print, [`fault::CommandFault`]
 //! the errors of a command, and [`limits::LIMITS`] the limits on an envelope.
 //!
@@ -11,9 +11,9 @@
 
 pub mod block_writer;
 pub mod fault;
-mod held;
+pub mod flush_sink;
 pub mod limits;
 pub mod lines;
-pub mod outlet;
-pub mod silent;
+pub mod null_sink;
+mod pending;
 pub mod status;

@@ -1,17 +1,17 @@
 //! The lines of `check`.
 
 ghost use Rattle.std.specs.Prelude.{◌≡◌, ◌++◌, length, IfErr, OnOk};
-ghost use Rattle.iim_dataset.specs.States.Devices.{Wrote, WithinInterruptionLimit};
-ghost use Rattle.iim_output.specs.Format.{IsSaid, FailsToSay, accepted_line, refused_line};
-ghost use Rattle.iim_output.specs.States.Holding.{HasPut, HoldsNothing, FailsToAdd};
+ghost use Rattle.iim_dataset.specs.States.Devices.{WroteAllOf, WithinInterruptionLimit};
+ghost use Rattle.iim_output.specs.Format.{IsPrinted, WriteFails, accepted_line, refused_line};
+ghost use Rattle.iim_output.specs.States.Holding.{HasBuffered, HasEmptyBuffer, AppendFails};
 
 use crate::block_writer::BlockWriter;
 use crate::fault::CommandFault;
 use crate::status::FAILED;
-use iim_dataset::device_laws::texts_join;
+use iim_dataset::device_laws::writes_join;
 use iim_dataset::{Target, put};
 use iim_places::Refusal;
-use iim_script::{push_printed, write_word};
+use iim_script::{push_display, write_word};
 use itoa::write_digits;
 use std::alloc::AllocError;
 
@@ -19,11 +19,11 @@ use std::alloc::AllocError;
 pub const TOO_MANY: &str = "too many envelopes\n";
 
 /// Writes a text to a target, unbuffered.
-pub fn say<W: Target>(output: &mut W, text: &[u8]) -> Result<(), CommandFault>
-    ensures ok { OnOk result (Wrote (W.state output.old) (W.state output.new) text.now) }
-    ensures err { IfErr result (FailsToSay (W.state output.old) (W.state output.new) text.now) }
+pub fn write_text<W: Target>(output: &mut W, text: &[u8]) -> Result<(), CommandFault>
+    ensures ok { OnOk result (WroteAllOf (W.state output.old) (W.state output.new) text.now) }
+    ensures err { IfErr result (WriteFails (W.state output.old) (W.state output.new) text.now) }
     // At most a million interruptions for each octet of the text.
-    ensures patience { WithinInterruptionLimit (length text.now) (W.state output.old) (W.state output.new) }
+    ensures retry_limit { WithinInterruptionLimit (length text.now) (W.state output.old) (W.state output.new) }
 {
     match put(output, text) {
         Ok(()) => Ok(()),
@@ -32,9 +32,9 @@ pub fn say<W: Target>(output: &mut W, text: &[u8]) -> Result<(), CommandFault>
 }
 
 /// Appends a text to buffered output.
-pub fn add<W: Target>(output: &mut BlockWriter<'_, W>, text: &[u8]) -> Result<(), CommandFault>
-    ensures ok { OnOk result (HasPut W.state output.old output.new text.now) }
-    ensures err { IfErr result (FailsToAdd W.state output.old output.new text.now) }
+pub fn append<W: Target>(output: &mut BlockWriter<'_, W>, text: &[u8]) -> Result<(), CommandFault>
+    ensures ok { OnOk result (HasBuffered W.state output.old output.new text.now) }
+    ensures err { IfErr result (AppendFails W.state output.old output.new text.now) }
 {
     match output.put(text) {
         Ok(()) => Ok(()),
@@ -43,13 +43,16 @@ pub fn add<W: Target>(output: &mut BlockWriter<'_, W>, text: &[u8]) -> Result<()
 }
 
 /// Appends a text to buffered output, and flushes it.
-pub fn add_last<W: Target>(output: &mut BlockWriter<'_, W>, text: &[u8]) -> Result<(), CommandFault>
-    ensures ok { OnOk result (HasPut W.state output.old output.new text.now) }
-    ensures held { OnOk result (HoldsNothing output.new) }
-    ensures err { IfErr result (FailsToAdd W.state output.old output.new text.now) }
+pub fn append_and_flush<W: Target>(
+    output: &mut BlockWriter<'_, W>,
+    text: &[u8],
+) -> Result<(), CommandFault>
+    ensures ok { OnOk result (HasBuffered W.state output.old output.new text.now) }
+    ensures pending { OnOk result (HasEmptyBuffer output.new) }
+    ensures err { IfErr result (AppendFails W.state output.old output.new text.now) }
 {
-    texts_join();
-    add(output, text)?;
+    writes_join();
+    append(output, text)?;
     match output.flush() {
         Ok(()) => Ok(()),
         Err(_) => Err(CommandFault::CannotWrite),
@@ -58,10 +61,10 @@ pub fn add_last<W: Target>(output: &mut BlockWriter<'_, W>, text: &[u8]) -> Resu
 
 /// Writes a text to a target. Returns `status`, or the status of a failure if the text cannot be
 /// written.
-pub fn tell<E: Target>(errors: &mut E, text: &[u8], status: u8) -> u8
-    ensures said { IsSaid (E.state errors.old) (E.state errors.new) text.now status result }
-    // As for `say`.
-    ensures patience { WithinInterruptionLimit (length text.now) (E.state errors.old) (E.state errors.new) }
+pub fn write_with_status<E: Target>(errors: &mut E, text: &[u8], status: u8) -> u8
+    ensures said { IsPrinted (E.state errors.old) (E.state errors.new) text.now status result }
+    // As for `write_text`.
+    ensures retry_limit { WithinInterruptionLimit (length text.now) (E.state errors.old) (E.state errors.new) }
 {
     match put(errors, text) {
         Ok(()) => status,
@@ -89,5 +92,5 @@ pub fn push_accepted(text: &mut Vec<u8>, number: u64, used: u64) -> Result<(), A
 pub fn push_refused(text: &mut Vec<u8>, number: u64, refusal: Refusal) -> Result<(), AllocError>
     ensures { OnOk result (text.new.items ≡ text.old.items ++ refused_line number refusal) }
 {
-    push_printed(text, format_args!("{number} {refusal}\n"))
+    push_display(text, format_args!("{number} {refusal}\n"))
 }

@@ -1,12 +1,12 @@
 -- Packed octets encode the fields, the object and the sizes of the plan.
-use Rattle.iim_pack.proofs.Words.{◌≡◌, ℕ, ◌≤◌, List, [], ◌++◌, length, refl, sym, ap, subst, ◌∙◌, arith, append_assoc, append-nil, AllByRecursion, greatest_size, Dataset, canonical_stream, count_octets, of_record, HasSpellings, all_append, all_map, IsGoodDataset, kept, joined, bound_of, plan_datasets, subfile_datasets, confirmed_datasets, plan_parts, stream_append, canonical}
-use Rattle.iim_dataset.specs.{Format.Octets.Octets, Format.Datasets.SpellsStream, Laws.CanonicalStreamsAreSpelled}
+use Rattle.iim_pack.proofs.Words.{◌≡◌, ℕ, ◌≤◌, List, [], ◌++◌, length, refl, sym, ap, subst, ◌∙◌, arith, append_assoc, append-nil, AllByRecursion, greatest_size, Dataset, canonical_stream, count_octets, of_record, IsEncodable, all_append, all_map, IsGoodDataset, kept, joined, bound_of, plan_datasets, subfile_datasets, confirmed_datasets, plan_parts, stream_append, canonical}
+use Rattle.iim_dataset.specs.{Format.Octets.Octets, Format.Datasets.EncodesStream, Laws.CanonicalStreamsAreEncodings}
 use Rattle.iim_fields.specs.Format.Records.{AreSections}
 use Rattle.iim_tables.specs.Format.Records.{IsGoodRecord}
 use Rattle.iim_object.specs.{Format.Objects.HaveSizes, Format.Packing.packed_sizes, Laws.PackedObjectsHaveSizes, Laws.PackedRecordsAreGood}
-use Rattle.iim_pack.specs.Laws.{PackedOctetsCarryTheValue}
+use Rattle.iim_pack.specs.Laws.{PackedOctetsEncodeTheValue}
 use Rattle.wire_message.proofs.MessageOctets.{message_octets}
-use Rattle.iim_pack.proofs.Spelling.{record_spelled}
+use Rattle.iim_pack.proofs.Spelling.{record_encoded}
 use Rattle.iim_pack.proofs.Sorting.{AreInOrder, AreOf, kept_are, sevens_are, eights_are, nines_are, object_joined}
 
 -- ---- records
@@ -41,7 +41,7 @@ sections r1 r2 r7 r8 r9 g = (
   (r2, r7 ++ (r8 ++ r9), refl, g.two, (r7, r8 ++ r9, refl, g.seven, (r8, r9, refl, g.eight, (r9, [], sym (append-nil r9), g.nine, refl)))),
 )
 
-pub carried : CanonicalStreamsAreSpelled → PackedRecordsAreGood → PackedObjectsHaveSizes → PackedOctetsCarryTheValue
+pub carried : CanonicalStreamsAreEncodings → PackedRecordsAreGood → PackedObjectsHaveSizes → PackedOctetsEncodeTheValue
 carried spell good have fields head lines trailer plan octets p =
     let object = canonical head lines trailer in
     let is_plan = plan_parts plan.subfile plan.size plan.valid in
@@ -64,16 +64,16 @@ carried spell good have fields head lines trailer plan octets p =
     } in
     let order = in_order r1 r2 r7 r8 r9 g in
     let all : (r1 ++ r2) ++ (r7 ++ (r8 ++ r9)) ≡ fields ++ (r7 ++ (r8 ++ r9)) = ap (λ (t : List Dataset). t ++ (r7 ++ (r8 ++ r9))) (sym p.may.envelope.parts) in
-    let spelled : AllByRecursion HasSpellings ((r1 ++ r2) ++ (r7 ++ (r8 ++ r9))) =
-    all_append HasSpellings (r1 ++ r2) (r7 ++ (r8 ++ r9))
-    (all_append HasSpellings r1 r2 (record_spelled 1 r1 (omega arith) g.one.each) (record_spelled 2 r2 (omega arith) g.two.each))
-    (all_append HasSpellings r7 (r8 ++ r9) (record_spelled 7 r7 (omega arith) g.seven.each)
-    (all_append HasSpellings r8 r9 (record_spelled 8 r8 (omega arith) g.eight.each) (record_spelled 9 r9 (omega arith) g.nine.each))) in
+    let spelled : AllByRecursion IsEncodable ((r1 ++ r2) ++ (r7 ++ (r8 ++ r9))) =
+    all_append IsEncodable (r1 ++ r2) (r7 ++ (r8 ++ r9))
+    (all_append IsEncodable r1 r2 (record_encoded 1 r1 (omega arith) g.one.each) (record_encoded 2 r2 (omega arith) g.two.each))
+    (all_append IsEncodable r7 (r8 ++ r9) (record_encoded 7 r7 (omega arith) g.seven.each)
+    (all_append IsEncodable r8 r9 (record_encoded 8 r8 (omega arith) g.eight.each) (record_encoded 9 r9 (omega arith) g.nine.each))) in
     let joined_is : joined r8 ≡ object = ap (λ (ps : List (List ℕ)). joined (subfile_datasets ps)) cut.parts_are
     ∙ (object_joined cut.full cut.last ∙ sym cut.joined) in
     let whole : octets ≡ canonical_stream (fields ++ (r7 ++ (r8 ++ r9))) = p.octets_are
     ∙ (ap (λ (t : List ℕ). canonical_stream fields ++ t) p.written.octets_are ∙ sym (stream_append fields (r7 ++ (r8 ++ r9)))) in
-    let Is : List Dataset → Type 0 = λ ds. (SpellsStream count_octets ds (canonical_stream ds)) × AreSections ds × (kept ds ≡ r1 ++ r2)
+    let Is : List Dataset → Type 0 = λ ds. (EncodesStream count_octets ds (canonical_stream ds)) × AreSections ds × (kept ds ≡ r1 ++ r2)
     × (joined (of_record 8 ds) ≡ object)
     × HaveSizes (of_record 7 ds) (of_record 8 ds) (of_record 9 ds) (packed_sizes plan.subfile plan.size object p.written.parts) in
     let sizes = have plan.subfile plan.size object p.written.parts plan.valid o cut p.may.suits in
@@ -93,7 +93,7 @@ carried spell good have fields head lines trailer plan octets p =
     ) in
     let there = subst Is all here in
     record {
-      spelled = subst (SpellsStream count_octets (fields ++ (r7 ++ (r8 ++ r9)))) (sym whole) there.0;
+      spelled = subst (EncodesStream count_octets (fields ++ (r7 ++ (r8 ++ r9)))) (sym whole) there.0;
       sections = there.1;
       fields_are = there.2 ∙ sym p.may.envelope.parts;
       object_is = there.3;

@@ -1,7 +1,7 @@
 -- Finishing a packer, by the writer of its object.
-use Rattle.iim_pack.proofs.Words.{◌≡◌, ℕ, ◌+◌, ◌≤◌, false, None, List, ◌++◌, length, sym, ap, subst, ◌∙◌, arith, append_assoc, length-append, ltb-false, Device, canonical_stream, bound_of, is_short, IsWritten, Writing, most_of, total_of, Plan, Size, Known, Unknown, packed_text, StoryEvent, packed_events, lines_of, Header, IsTrailer, packed_head, packed_tail, canonical}
+use Rattle.iim_pack.proofs.Words.{◌≡◌, ℕ, ◌+◌, ◌≤◌, false, None, List, ◌++◌, length, sym, ap, subst, ◌∙◌, arith, append_assoc, length-append, ltb-false, Device, canonical_stream, bound_of, is_short, IsWrittenObject, Writing, plan_bound, total_of, Plan, Size, Known, Unknown, packed_text, StoryEvent, packed_events, lines_of, Header, IsTrailer, packed_head, packed_tail, canonical}
 use Rattle.std.proofs.lemmas.Bool.Decides.{nat_tests}
-use Rattle.iim_object.specs.Format.Packing.{IsAsKnown}
+use Rattle.iim_object.specs.Format.Packing.{HasKnownLength}
 use Rattle.iim_object.specs.States.Writing as object
 use Rattle.wire_story.specs.Laws.{EventsArePackedAsLines}
 use Rattle.wire_message.specs.Laws.{CanonicalObjectsAreMessages}
@@ -12,7 +12,7 @@ use Rattle.iim_pack.proofs.{Endings.Ends, Endings.EndsWithTail, Goings.breaks, O
 
 pub record MayEnd (plan : Plan) (total : ℕ) (trailer : List ℕ) : Type 0 where
   pub trailer_is : IsTrailer trailer
-  pub fits : total + length (packed_tail trailer) ≤ most_of plan
+  pub fits : total + length (packed_tail trailer) ≤ plan_bound plan
   pub whole : is_short plan.size (total + length (packed_tail trailer)) ≡ false
 
 pub may_end : (plan : Plan) (total : ℕ) (trailer : List ℕ) → ending_cause plan (total + length (packed_tail trailer)) trailer ≡ None → MayEnd plan total trailer
@@ -24,7 +24,8 @@ may_end plan total trailer e = record {
 
 -- ---- objects
 
-as_known : (subfile : ℕ) (size : Size) (object : List ℕ) → length object ≤ bound_of subfile size → is_short size (length object) ≡ false → IsAsKnown size object
+as_known : (subfile : ℕ) (size : Size) (object : List ℕ) → length object ≤ bound_of subfile size → is_short size (length object) ≡ false
+    → HasKnownLength size object
 as_known subfile (Known n) object fits whole = let least : n ≤ length object = ltb-false (length object) n whole in omega (arith, fits, least)
 as_known subfile (Unknown m) object fits whole = tt
 
@@ -40,7 +41,7 @@ pub finished : {W : Type 0} (state : W → Device) (before : ℕ) (old : Writing
 finished state before old trailer writer lines messages may ends = record {
   more = ends.more;
   wrote = ends.wrote;
-  patience = ends.patience;
+  retry_limit = ends.retry_limit;
   whole = λ fields head events plan out s.
       let lined = lines events s.events_are in
       let message = messages head (lines_of events) trailer s.header lined.make may.trailer_is in
@@ -51,7 +52,7 @@ finished state before old trailer writer lines messages may ends = record {
         length-append (packed_head head ++ packed_events events) (packed_tail trailer),
         total_is old (packed_head head ++ packed_events events) s.object_out s.stands,
       ) in
-      let fits : length (canonical head (lines_of events) trailer) ≤ most_of plan = rw (← s.is_plan, total) may.fits in
+      let fits : length (canonical head (lines_of events) trailer) ≤ plan_bound plan = rw (← s.is_plan, total) may.fits in
       let whole : is_short plan.size (length (canonical head (lines_of events) trailer)) ≡ false = rw (← s.is_plan, total) may.whole in
       record {
         may = record {
@@ -68,7 +69,7 @@ finished state before old trailer writer lines messages may ends = record {
 }
 
 pub unfinished : {W : Type 0} (state : W → Device) (before : ℕ) (old new : Writing W) (trailer : List ℕ) → EventsArePackedAsLines
-    → object.BreaksOff state (EndsWithTail old.plan (packed_tail trailer)) old new
+    → object.WriterFails state (EndsWithTail old.plan (packed_tail trailer)) old new
     → BreaksOff state (λ fields head before. Packed fields head (lines_of before) trailer) (record { before = before; object = old })
     (record { before = before; object = new })
 unfinished state before old new trailer lines k =
@@ -76,6 +77,6 @@ unfinished state before old new trailer lines k =
     (λ fields head events whole are p. (
       p.object,
       p.octets_are,
-      subst (λ (o : List ℕ). IsWritten old.plan.subfile old.plan.size o p.object) (canonical_is head events trailer (lines events are).text) p.written,
+      subst (λ (o : List ℕ). IsWrittenObject old.plan.subfile old.plan.size o p.object) (canonical_is head events trailer (lines events are).text) p.written,
     ))
     k

@@ -1,12 +1,12 @@
 -- The length of a packed form.
 use Rattle.iim_pack.proofs.Words.{◌≡◌, ℕ, ◌+◌, ◌*◌, ◌≤◌, List, [], ◌++◌, length, sym, ap, ◌∙◌, arith, length-append, canonical_dataset, canonical_stream, tag_octets, greatest_size, joined, plan_datasets, subfile_datasets, confirmed_datasets, object_datasets, SubfilesAreFew, plan_octets, plan_parts, Plan, canonical, stream_append}
 use Rattle.std.proofs.lemmas.List.{length-map}
-use Rattle.iim_object.specs.Format.Packing.{IsCut, number_dataset, subfile_dataset}
+use Rattle.iim_object.specs.Format.Packing.{SplitsIntoSubfiles, number_dataset, subfile_dataset}
 use Rattle.iim_object.proofs.PlanParts.{number_length}
-use Rattle.iim_pack.specs.Laws.{PackedOctetsAreFew}
+use Rattle.iim_pack.specs.Laws.{PackedFormIsBounded}
 use Rattle.iim_pack.proofs.{FieldsOut.stream_length, Ones.few_subfiles, Openings.plan_small, Sorting.object_joined}
 
-subfiles_length : (size : ℕ) (object : List ℕ) (parts : List (List ℕ)) → (cut : IsCut size object parts)
+subfiles_length : (size : ℕ) (object : List ℕ) (parts : List (List ℕ)) → (cut : SplitsIntoSubfiles size object parts)
     → length (canonical_stream (subfile_datasets parts)) ≤ tag_octets * length parts + length object
 subfiles_length size object parts cut =
     let is : joined (subfile_datasets parts) ≡ object = ap (λ (ps : List (List ℕ)). joined (subfile_datasets ps)) cut.parts_are
@@ -18,7 +18,7 @@ subfiles_length size object parts cut =
 confirmed_length : (object : List ℕ) → length (canonical_stream (confirmed_datasets object)) ≤ tag_octets
 confirmed_length object = omega (arith, number_length 9 10 (length object), length-append (canonical_dataset (number_dataset 9 10 (length object))) [])
 
-object_length : (plan : Plan) (object : List ℕ) (parts : List (List ℕ)) → IsCut plan.subfile object parts
+object_length : (plan : Plan) (object : List ℕ) (parts : List (List ℕ)) → SplitsIntoSubfiles plan.subfile object parts
     → length (canonical_stream (object_datasets plan.subfile plan.size object parts)) ≤ 6 + 3 * tag_octets + (tag_octets * length parts + length object)
 object_length plan object parts cut =
     let subfiles = subfiles_length plan.subfile object parts cut in
@@ -36,7 +36,7 @@ object_length plan object parts cut =
       length-append (canonical_stream (subfile_datasets parts)) (canonical_stream (confirmed_datasets object)),
     )
 
-pub few_octets : SubfilesAreFew → PackedOctetsAreFew
+pub few_octets : SubfilesAreFew → PackedFormIsBounded
 few_octets bounds fields head lines trailer plan octets p few =
     let object : List ℕ = canonical head lines trailer in
     let of_fields = stream_length fields in

@@ -1,12 +1,12 @@
 -- Packing lines one after another.
-use Rattle.iim_pack.proofs.Words.{◌≡◌, ℕ, ◌+◌, ◌≤◌, Bool, true, false, None, List, [], ◌∷◌, ◌++◌, length, map, refl, sym, ap, subst, ◌∙◌, arith, append_assoc, append-nil, length-append, le-leb, Device, TextsJoin, most_of, total_of, Begins, IsLine, StoryEvent, LineOctet, LineEnd, events_of_lines, packed_events, events_append, Packing, FormWith, text_cause, line_end_cause}
+use Rattle.iim_pack.proofs.Words.{◌≡◌, ℕ, ◌+◌, ◌≤◌, Bool, true, false, None, List, [], ◌∷◌, ◌++◌, length, map, refl, sym, ap, subst, ◌∙◌, arith, append_assoc, append-nil, length-append, le-leb, Device, WritesJoin, plan_bound, total_of, IsPrefix, IsLine, StoryEvent, LineOctet, LineEnd, events_of_lines, packed_events, events_append, Packing, FormWith, text_cause, line_end_cause}
 use Rattle.iim_pack.specs.{States.Packing.Lengthens, States.Packing.BreaksOff, States.Packing.ContinuesWith, Steps.line_events}
 
-pub goes_nowhere : {W : Type 0} (state : W → Device) (k : Packing W) → TextsJoin → k.object.failed ≡ false → Lengthens state k k []
+pub goes_nowhere : {W : Type 0} (state : W → Device) (k : Packing W) → WritesJoin → k.object.failed ≡ false → Lengthens state k k []
 goes_nowhere state k join unfailed = record {
   more = [];
   wrote = join.none (state k.object.writer);
-  patience = omega arith;
+  retry_limit = omega arith;
   counted = omega arith;
   total = omega arith;
   unfailed = unfailed;
@@ -14,12 +14,12 @@ goes_nowhere state k join unfailed = record {
   stands = λ fields head evs plan out s. rw (append-nil evs, append-nil out) s;
 }
 
-pub leads_on : {W : Type 0} (state : W → Device) (a b c : Packing W) (xs ys : List StoryEvent) → TextsJoin → Lengthens state a b xs → Lengthens state b c ys
+pub leads_on : {W : Type 0} (state : W → Device) (a b c : Packing W) (xs ys : List StoryEvent) → WritesJoin → Lengthens state a b xs → Lengthens state b c ys
     → Lengthens state a c (xs ++ ys)
 leads_on state a b c xs ys join l m = record {
   more = l.more ++ m.more;
   wrote = join.more (state a.object.writer) (state b.object.writer) (state c.object.writer) l.more m.more l.wrote m.wrote;
-  patience = omega (arith, l.patience, m.patience, length-append l.more m.more);
+  retry_limit = omega (arith, l.retry_limit, m.retry_limit, length-append l.more m.more);
   counted = omega (arith, l.counted, m.counted, length-append l.more m.more);
   total = omega (arith, l.total, m.total, ap length (events_append xs ys), length-append (packed_events xs) (packed_events ys));
   unfailed = m.unfailed;
@@ -29,17 +29,17 @@ leads_on state a b c xs ys join l m = record {
       (m.stands fields head (evs ++ xs) plan (out ++ l.more) (l.stands fields head evs plan out s));
 }
 
-pub breaks_later : {W : Type 0} (state : W → Device) (a b c : Packing W) (xs ys : List StoryEvent) → TextsJoin → Lengthens state a b xs
+pub breaks_later : {W : Type 0} (state : W → Device) (a b c : Packing W) (xs ys : List StoryEvent) → WritesJoin → Lengthens state a b xs
     → BreaksOff state (ContinuesWith ys) b c → BreaksOff state (ContinuesWith (xs ++ ys)) a c
 breaks_later state a b c xs ys join l k = record {
   more = l.more ++ k.more;
   appends = (join.broke (state a.object.writer) (state b.object.writer) (state c.object.writer) l.more k.more l.wrote (k.appends, k.broke)).0;
   broke = (join.broke (state a.object.writer) (state b.object.writer) (state c.object.writer) l.more k.more l.wrote (k.appends, k.broke)).1;
-  patience = omega (arith, l.patience, k.patience, length-append l.more k.more);
+  retry_limit = omega (arith, l.retry_limit, k.retry_limit, length-append l.more k.more);
   failed = k.failed;
   counted = omega (arith, k.counted, l.counted, length-append l.more k.more);
   begins = λ fields head evs plan out whole s form.
-      subst (λ (t : List ℕ). Begins t whole) (append_assoc out l.more k.more)
+      subst (λ (t : List ℕ). IsPrefix t whole) (append_assoc out l.more k.more)
       (k.begins fields head (evs ++ xs) plan (out ++ l.more) whole (l.stands fields head evs plan out s)
       (subst (λ (e : List StoryEvent). FormWith fields head plan e whole) (sym (append_assoc evs xs ys)) form));
 }
@@ -51,7 +51,7 @@ breaks_before state a c xs ys k = record {
   more = k.more;
   appends = k.appends;
   broke = k.broke;
-  patience = k.patience;
+  retry_limit = k.retry_limit;
   failed = k.failed;
   counted = k.counted;
   begins = λ fields head evs plan out whole s form.
@@ -65,11 +65,11 @@ breaks_before state a c xs ys k = record {
 }
 
 pub may_text : {W : Type 0} (k : Packing W) (line : List ℕ) → IsLine line → k.object.failed ≡ false
-    → total_of k.object + (length line + 2) ≤ most_of k.object.plan → text_cause k line ≡ None
-may_text k line is unfailed fits = rw (unfailed, is, le-leb (total_of k.object + (length line + 2)) (most_of k.object.plan) fits) refl
+    → total_of k.object + (length line + 2) ≤ plan_bound k.object.plan → text_cause k line ≡ None
+may_text k line is unfailed fits = rw (unfailed, is, le-leb (total_of k.object + (length line + 2)) (plan_bound k.object.plan) fits) refl
 
-pub may_end_line : {W : Type 0} (k : Packing W) → k.object.failed ≡ false → total_of k.object + 4 ≤ most_of k.object.plan → line_end_cause k ≡ None
-may_end_line k unfailed fits = rw (unfailed, le-leb (total_of k.object + 4) (most_of k.object.plan) fits) refl
+pub may_end_line : {W : Type 0} (k : Packing W) → k.object.failed ≡ false → total_of k.object + 4 ≤ plan_bound k.object.plan → line_end_cause k ≡ None
+may_end_line k unfailed fits = rw (unfailed, le-leb (total_of k.object + 4) (plan_bound k.object.plan) fits) refl
 
 -- the events of the remaining lines
 abbrev pub events_left : Bool → List (List ℕ) → List StoryEvent

@@ -1,11 +1,11 @@
 -- Valid datasets can be encoded: no row allows more octets than a count can encode.
-use Rattle.iim_pack.proofs.Words.{◌≡◌, ℕ, ◌<◌, ◌≤◌, ◌^◌, true, ◌&&◌, nat_eq, nat_le, List, [], ◌∷◌, length, Option, Some, None, arith, AllByRecursion, list_all, and_parts, leb-true, greatest_size, Dataset, count_octets, HasSpellings, IsGoodDataset}
+use Rattle.iim_pack.proofs.Words.{◌≡◌, ℕ, ◌<◌, ◌≤◌, ◌^◌, true, ◌&&◌, nat_eq, nat_le, List, [], ◌∷◌, length, Option, Some, None, arith, AllByRecursion, list_all, and_parts, leb-true, greatest_size, Dataset, count_octets, IsEncodable, IsGoodDataset}
 use Rattle.std.proofs.Common.{◌||◌, IfSome, IsSomeAnd}
 use Rattle.std.specs.List.{find}
 use Rattle.std.specs.Option.{option_map, option_or}
 use Rattle.std.proofs.lemmas.Bool.{cond_both}
 use Rattle.iim_dataset.specs.Format.Octets.{IsOctet, within}
-use Rattle.iim_tables.specs.Format.Rows.{table, row_of, row_in, row_of_others, is_admitted}
+use Rattle.iim_tables.specs.Format.Rows.{table, row_of, row_in, row_of_unread, is_admitted}
 use Rattle.iim_tables.specs.declared.shape.Row.{Row}
 use Rattle.iim_tables.proofs.GoodDatasets.{table_bounded}
 
@@ -22,7 +22,7 @@ in_lines rec_of set_of row_at (e ∷ es) rec set h =
     (λ o. IsBounded (option_map row_at o))
     (λ t. leb-true (row_at e).max greatest_size p.0) (λ f. in_lines rec_of set_of row_at es rec set p.1)
 
-others_bounded : (rec : ℕ) → IsBounded (row_of_others rec)
+others_bounded : (rec : ℕ) → IsBounded (row_of_unread rec)
 others_bounded rec = cond_both (nat_eq rec 1 || nat_eq rec 2) (Some _) None IsBounded (λ t. omega arith) (λ f. tt)
 
 either : (a b : Option Row) → IsBounded a → IsBounded b → IsBounded (option_or a b)
@@ -31,7 +31,7 @@ either (Some r) b h k = h
 
 row_bounded : (rec set : ℕ) → IsBounded (row_of rec set)
 unfolding row_of
-row_bounded rec set = either (row_in table rec set) (row_of_others rec) (in_lines (λ e. e.rec) (λ e. e.set) (λ e. e.row) table rec set table_bounded)
+row_bounded rec set = either (row_in table rec set) (row_of_unread rec) (in_lines (λ e. e.rec) (λ e. e.set) (λ e. e.row) table rec set table_bounded)
     (others_bounded rec)
 
 within_row : (o : Option Row) (xs : List ℕ) → IsBounded o → IsSomeAnd o (λ r. is_admitted r xs ≡ true) → length xs ≤ greatest_size
@@ -44,9 +44,9 @@ within_row (Some r) xs h m =
 pub few : (d : Dataset) → IsGoodDataset d → length d.octets < 256 ^ count_octets
 few d good = let le = within_row (row_of d.rec d.set) d.octets (row_bounded d.rec d.set) good.meets in omega (arith, le)
 
-pub has_spellings : (d : Dataset) → IsOctet d.rec → IsGoodDataset d → HasSpellings d
-has_spellings d r good = record { rec = r; set = good.numbered; octets = good.octets; few = few d good }
+pub has_encodings : (d : Dataset) → IsOctet d.rec → IsGoodDataset d → IsEncodable d
+has_encodings d r good = record { rec = r; set = good.numbered; octets = good.octets; few = few d good }
 
-pub record_spelled : (rec : ℕ) (ds : List Dataset) → rec < 256 → AllByRecursion (λ d. (d.rec ≡ rec) × IsGoodDataset d) ds → AllByRecursion HasSpellings ds
-record_spelled rec [] r h = tt
-record_spelled rec (d ∷ ds) r h = (has_spellings d (omega (arith, h.0.0, r)) h.0.1, record_spelled rec ds r h.1)
+pub record_encoded : (rec : ℕ) (ds : List Dataset) → rec < 256 → AllByRecursion (λ d. (d.rec ≡ rec) × IsGoodDataset d) ds → AllByRecursion IsEncodable ds
+record_encoded rec [] r h = tt
+record_encoded rec (d ∷ ds) r h = (has_encodings d (omega (arith, h.0.0, r)) h.0.1, record_encoded rec ds r h.1)

@@ -1,7 +1,7 @@
 -- The parts of a packed envelope, in the order in which they are written. (Private to proofs.)
 use Rattle.std.specs.Prelude.{ℕ, Bool, true, false, List, ◌∷◌, map, ◌≡◌, length}
 use Rattle.wire_story.specs.Format.Texts.{StoryEvent, LineOctet, LineEnd}
-use Rattle.iim_dataset.specs.States.Devices.{Device, Wrote, WithinInterruptionLimit}
+use Rattle.iim_dataset.specs.States.Devices.{Device, WroteAllOf, WithinInterruptionLimit}
 use Rattle.iim_object.specs.{States.Writing.Writing, declared.plan.Plan.Plan}
 use Rattle.iim_object.specs.States.Writing as object
 
@@ -13,9 +13,9 @@ line_events false line = LineEnd ∷ map LineOctet line
 
 -- The object begins with these octets. There were at most a million interruptions per octet
 -- written.
-pub record Opens {W : Type 0} (state : W → Device) (writer : W) (plan : Plan) (front : List ℕ) (w : Writing W) : Type 0 where
+pub record OpensObject {W : Type 0} (state : W → Device) (writer : W) (plan : Plan) (front : List ℕ) (w : Writing W) : Type 0 where
   pub out : List ℕ
-  pub wrote : Wrote (state writer) (state w.writer) out
-  pub patience : WithinInterruptionLimit (length out) (state writer) (state w.writer)
+  pub wrote : WroteAllOf (state writer) (state w.writer) out
+  pub retry_limit : WithinInterruptionLimit (length out) (state writer) (state w.writer)
   pub is_plan : w.plan ≡ plan
   pub stands : object.HasWritten w front out

@@ -14,8 +14,8 @@ use wire_message::is_trailer;
 pub(crate) const LEAST_ENDING: u64 = 2;
 
 /// Checks whether `octets` octets after the first `total` exceed the plan's bound.
-pub(crate) fn passes_plan(plan: Plan, total: u64, octets: u64) -> bool
-    ensures { result ≡ object.passes_plan plan (total + octets) }
+pub(crate) fn exceeds_plan(plan: Plan, total: u64, octets: u64) -> bool
+    ensures { result ≡ object.exceeds_plan plan (total + octets) }
 {
     total.saturating_add(octets) > plan.bound()
 }
@@ -29,7 +29,7 @@ pub(crate) fn ending_cause(plan: Plan, total: u64, trailer: &[u8]) -> Option<Pac
         return Some(PackCause::BadTrailer);
     }
     let tail = trailer.len() as u64 + LEAST_ENDING;
-    if passes_plan(plan, total, tail) {
+    if exceeds_plan(plan, total, tail) {
         return Some(PackCause::PastAnnounced);
     }
     if plan.is_short(total + tail) {

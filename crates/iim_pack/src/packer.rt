@@ -2,20 +2,20 @@
 
 ghost use Rattle.std.specs.Prelude.{◌≡◌, ◌+◌, ◌<◌, ◌^◌, [], ◌∷◌, false, length, map, IfOk, IfErr, OnOk, OnErr, IfSome, IfNone, MatchResult, Err};
 ghost use Rattle.wire_story.specs.Format.Texts.{LineOctet, LineEnd, IsLine};
-ghost use Rattle.iim_pack.specs.States.Packing.{Lengthens, BreaksOff, ContinuesWith, Finishes, FormWith, least_ending, start_cause, text_cause, line_end_cause, finish_cause, written_of, Starts, StartIsRefused, IsStartFault, HasBegun, ContinuesBegun, EndsBegun};
-ghost use Rattle.iim_pack.specs.Format.Orders.{IsFirstOf, Against};
+ghost use Rattle.iim_pack.specs.States.Packing.{Lengthens, BreaksOff, ContinuesWith, Finishes, FormWith, least_ending, start_cause, text_cause, line_end_cause, finish_cause, written_of, StartsPacking, RejectsStart, IsStartFault, HasPackedSoFar, KeepsPacking, WritesPackedForm};
+ghost use Rattle.iim_pack.specs.Format.Orders.{IsFirstInOrder, CauseHolds};
 ghost use Rattle.iim_pack.specs.Format.Packed.{Packed};
 ghost use Rattle.wire_message.specs.Format.Messages.{packed_head};
 ghost use Rattle.wire_story.specs.Format.Packing.{lines_of};
-ghost use Rattle.iim_object.specs.States.Writing.{room_of, total_of};
+ghost use Rattle.iim_object.specs.States.Writing.{plan_capacity, total_of};
 ghost use Rattle.iim_object.specs.declared.writing.cause.PackCause.TheVariants as causes;
 
-use crate::cause::{LEAST_ENDING, ending_cause, passes_plan};
+use crate::cause::{LEAST_ENDING, ending_cause, exceeds_plan};
 use crate::ending::end_object;
 use crate::fields::put_fields;
 use crate::opening::open_object;
 use iim_dataset::Target;
-use iim_dataset::device_laws::texts_join;
+use iim_dataset::device_laws::writes_join;
 use iim_fields::Envelope;
 use iim_object::{PackCause, Plan, StartFault, SubfileBuffer, SubfileWriter};
 use std::alloc::Global;
@@ -34,7 +34,7 @@ use wire_story::{LINE_END, is_text};
 /// no later call allocates. Everything else has a fixed size, less than 256 octets: the plan, four
 /// counts, whether a write failed, and the writer.
 ///
-/// Contracts view it as the length of records 1 and 2, and the writer of its object. `HasBegun`
+/// Contracts view it as the length of records 1 and 2, and the writer of its object. `HasPackedSoFar`
 /// (`specs/States/Packing.antt`) relates it to what it has consumed and written.
 #[derive(Drop)]
 pub struct Packer<W> {
@@ -55,7 +55,7 @@ impl<W> Model for Packer<W> {
 
 /// Returns the error of a packer that could not be started: the cause, the writer, and how many
 /// octets were written.
-fn unbegun<W>(cause: PackCause, writer: W, written: u64) -> StartFault<W>
+fn start_fault<W>(cause: PackCause, writer: W, written: u64) -> StartFault<W>
     ensures { result ≡ record { cause = cause; writer = writer; written = written } }
 {
     StartFault {
@@ -81,33 +81,33 @@ impl<W: Target> Packer<W> {
         mut writer: W,
     ) -> Result<Packer<W>, StartFault<W>>
         ensures refused { IfSome (start_cause head.now plan)
-            (λ cause. MatchResult result (λ _. ⊥) (StartIsRefused cause writer)) }
-        ensures order { IsFirstOf (Against false [] [] plan (length (packed_head head.now) + least_ending))
+            (λ cause. MatchResult result (λ _. ⊥) (RejectsStart cause writer)) }
+        ensures order { IsFirstInOrder (CauseHolds false [] [] plan (length (packed_head head.now) + least_ending))
             (causes.PastAnnounced ∷ []) (start_cause head.now plan) }
-        ensures ok { IfOk result (Starts W.state writer envelope.now head.now plan) }
-        ensures begun { IfOk result (λ k. HasBegun W.state (W.state writer) k envelope.now head.now [] plan) }
+        ensures ok { IfOk result (StartsPacking W.state writer envelope.now head.now plan) }
+        ensures begun { IfOk result (λ k. HasPackedSoFar W.state (W.state writer) k envelope.now head.now [] plan) }
         ensures fault { IfNone (start_cause head.now plan)
             (IfErr result (IsStartFault W.state (FormWith envelope.now head.now plan []) writer)) }
-        ensures room { IfOk result (λ k. k.object.room ≡ room_of plan) }
+        ensures room { IfOk result (λ k. k.object.room ≡ plan_capacity plan) }
     {
         lines_are_packed_as_their_events();
-        texts_join();
+        writes_join();
         let text = head_text(head);
         let front = text.as_slice();
-        if passes_plan(plan, front.len() as u64, LEAST_ENDING) {
-            return Err(unbegun(PackCause::PastAnnounced, writer, 0));
+        if exceeds_plan(plan, front.len() as u64, LEAST_ENDING) {
+            return Err(start_fault(PackCause::PastAnnounced, writer, 0));
         }
         let buffer = match SubfileBuffer::reserve(alloc, plan) {
             Ok(buffer) => buffer,
-            Err(_) => return Err(unbegun(PackCause::OutOfMemory, writer, 0)),
+            Err(_) => return Err(start_fault(PackCause::OutOfMemory, writer, 0)),
         };
         let before = match put_fields(&mut writer, envelope) {
             Ok(before) => before,
-            Err(written) => return Err(unbegun(PackCause::Write, writer, written)),
+            Err(written) => return Err(start_fault(PackCause::Write, writer, written)),
         };
         match open_object(buffer, front, writer) {
             Ok(object) => Ok(Packer { before, object }),
-            Err(fault) => Err(unbegun(fault.cause, fault.writer, before + fault.written)),
+            Err(fault) => Err(start_fault(fault.cause, fault.writer, before + fault.written)),
         }
     }
 
@@ -121,11 +121,11 @@ impl<W: Target> Packer<W> {
     pub fn text(&mut self, octets: &[u8]) -> Result<(), PackCause>
         ensures refused { IfSome (text_cause self.old octets.now)
             (λ cause. (result ≡ Err cause) × (self.new ≡ self.old)) }
-        ensures order { IsFirstOf (Against self.old.object.failed octets.now [] self.old.object.plan
+        ensures order { IsFirstInOrder (CauseHolds self.old.object.failed octets.now [] self.old.object.plan
             (total_of self.old.object + (length octets.now + least_ending)))
             (causes.Failed ∷ causes.BadTextOctet ∷ causes.PastAnnounced ∷ []) (text_cause self.old octets.now) }
         ensures ok { OnOk result (Lengthens W.state self.old self.new (map LineOctet octets.now)) }
-        ensures begun { OnOk result (ContinuesBegun W.state self.old self.new (map LineOctet octets.now)) }
+        ensures begun { OnOk result (KeepsPacking W.state self.old self.new (map LineOctet octets.now)) }
         ensures cause { IfNone (text_cause self.old octets.now) (IfErr result (λ cause. cause ≡ causes.Write)) }
         ensures broke { IfNone (text_cause self.old octets.now)
             (OnErr result (BreaksOff W.state (ContinuesWith (map LineOctet octets.now)) self.old self.new)) }
@@ -137,7 +137,7 @@ impl<W: Target> Packer<W> {
         if !is_text(octets) {
             return Err(PackCause::BadTextOctet);
         }
-        self.known_text(octets)
+        self.text_unchecked(octets)
     }
 
     /// Appends octets to the current line like [`Packer::text`], if the caller guarantees that each
@@ -146,26 +146,26 @@ impl<W: Target> Packer<W> {
     /// **Errors**, in this order: `Failed` after a failed write; `PastAnnounced` if the object so
     /// far, these octets and the least ending exceed the plan's bound; `Write` if a write fails.
     /// Except for `Write`, nothing is written and nothing changes.
-    pub fn known_text(&mut self, octets: &[u8]) -> Result<(), PackCause>
+    pub fn text_unchecked(&mut self, octets: &[u8]) -> Result<(), PackCause>
         requires { IsLine octets.now }
         ensures refused { IfSome (text_cause self.old octets.now)
             (λ cause. (result ≡ Err cause) × (self.new ≡ self.old)) }
-        ensures order { IsFirstOf (Against self.old.object.failed octets.now [] self.old.object.plan
+        ensures order { IsFirstInOrder (CauseHolds self.old.object.failed octets.now [] self.old.object.plan
             (total_of self.old.object + (length octets.now + least_ending)))
             (causes.Failed ∷ causes.BadTextOctet ∷ causes.PastAnnounced ∷ []) (text_cause self.old octets.now) }
         ensures ok { OnOk result (Lengthens W.state self.old self.new (map LineOctet octets.now)) }
-        ensures begun { OnOk result (ContinuesBegun W.state self.old self.new (map LineOctet octets.now)) }
+        ensures begun { OnOk result (KeepsPacking W.state self.old self.new (map LineOctet octets.now)) }
         ensures cause { IfNone (text_cause self.old octets.now) (IfErr result (λ cause. cause ≡ causes.Write)) }
         ensures broke { IfNone (text_cause self.old octets.now)
             (OnErr result (BreaksOff W.state (ContinuesWith (map LineOctet octets.now)) self.old self.new)) }
         ensures room { self.new.object.room ≡ self.old.object.room }
     {
-        texts_join();
+        writes_join();
         lines_are_packed_as_their_events();
         if self.object.is_failed() {
             return Err(PackCause::Failed);
         }
-        if passes_plan(
+        if exceeds_plan(
             self.object.plan(),
             self.object.total(),
             octets.len() as u64 + LEAST_ENDING,
@@ -182,23 +182,23 @@ impl<W: Target> Packer<W> {
     /// Except for `Write`, nothing is written and nothing changes.
     pub fn line_end(&mut self) -> Result<(), PackCause>
         ensures refused { IfSome (line_end_cause self.old) (λ cause. (result ≡ Err cause) × (self.new ≡ self.old)) }
-        ensures order { IsFirstOf (Against self.old.object.failed [] [] self.old.object.plan
+        ensures order { IsFirstInOrder (CauseHolds self.old.object.failed [] [] self.old.object.plan
             (total_of self.old.object + (2 + least_ending)))
             (causes.Failed ∷ causes.PastAnnounced ∷ []) (line_end_cause self.old) }
         ensures ok { OnOk result (Lengthens W.state self.old self.new (LineEnd ∷ [])) }
-        ensures begun { OnOk result (ContinuesBegun W.state self.old self.new (LineEnd ∷ [])) }
+        ensures begun { OnOk result (KeepsPacking W.state self.old self.new (LineEnd ∷ [])) }
         ensures cause { IfNone (line_end_cause self.old) (IfErr result (λ cause. cause ≡ causes.Write)) }
         ensures broke { IfNone (line_end_cause self.old)
             (OnErr result (BreaksOff W.state (ContinuesWith (LineEnd ∷ [])) self.old self.new)) }
         ensures room { self.new.object.room ≡ self.old.object.room }
     {
-        texts_join();
+        writes_join();
         lines_are_packed_as_their_events();
         line_ends_are_packed_as_return_and_feed();
         if self.object.is_failed() {
             return Err(PackCause::Failed);
         }
-        if passes_plan(self.object.plan(), self.object.total(), 2 + LEAST_ENDING) {
+        if exceeds_plan(self.object.plan(), self.object.total(), 2 + LEAST_ENDING) {
             return Err(PackCause::PastAnnounced);
         }
         self.object.write(&LINE_END)
@@ -214,19 +214,19 @@ impl<W: Target> Packer<W> {
     /// changes.
     pub fn finish(self, trailer: &[u8]) -> Result<W, (Packer<W>, PackCause)>
         ensures refused { IfSome (finish_cause self trailer.now) (λ cause. result ≡ Err (self, cause)) }
-        ensures order { IsFirstOf (Against self.object.failed [] trailer.now self.object.plan
+        ensures order { IsFirstInOrder (CauseHolds self.object.failed [] trailer.now self.object.plan
             (total_of self.object + (length trailer.now + least_ending)))
             (causes.Failed ∷ causes.BadTrailer ∷ causes.PastAnnounced ∷ causes.ShortOfAnnounced ∷ [])
             (finish_cause self trailer.now) }
         ensures ok { IfOk result (λ writer. Finishes W.state self trailer.now writer) }
-        ensures begun { IfOk result (EndsBegun W.state self trailer.now) }
+        ensures begun { IfOk result (WritesPackedForm W.state self trailer.now) }
         ensures cause { IfNone (finish_cause self trailer.now) (IfErr result (λ refused. refused.1 ≡ causes.Write)) }
         ensures broke { IfNone (finish_cause self trailer.now)
             (IfErr result (λ refused. BreaksOff W.state
             (λ fields head before. Packed fields head (lines_of before) trailer.now) self refused.0)) }
         ensures room { IfErr result (λ refused. refused.0.object.room ≡ self.object.room) }
     {
-        texts_join();
+        writes_join();
         story_laws();
         message_laws();
         if self.object.is_failed() {

@@ -1,10 +1,10 @@
 //! Packs a complete envelope in one call.
 
 ghost use Rattle.std.specs.Prelude.{◌≡◌, [], ◌∷◌, false, length, IfOk, IfErr, IfSome, IfNone, MatchResult};
-ghost use Rattle.iim_pack.specs.States.Packing.{written_of, StartIsRefused, Packs, IsStartFault};
+ghost use Rattle.iim_pack.specs.States.Packing.{written_of, RejectsStart, Packs, IsStartFault};
 ghost use Rattle.iim_pack.specs.States.Packing as words;
 ghost use Rattle.iim_object.specs.declared.writing.cause.PackCause.TheVariants as causes;
-ghost use Rattle.iim_pack.specs.Format.Orders.{IsFirstOf, Against};
+ghost use Rattle.iim_pack.specs.Format.Orders.{IsFirstInOrder, CauseHolds};
 ghost use Rattle.iim_pack.specs.Format.Packed.{Packed};
 ghost use Rattle.wire_message.specs.Format.Messages.{canonical};
 
@@ -12,7 +12,7 @@ use crate::lines::put_lines;
 use crate::packer::Packer;
 use crate::size::packed_size;
 use iim_dataset::Target;
-use iim_dataset::device_laws::texts_join;
+use iim_dataset::device_laws::writes_join;
 use iim_fields::Envelope;
 use iim_object::{PackCause, Plan, StartFault};
 use std::alloc::Global;
@@ -42,7 +42,7 @@ fn pack_cause(head: &MessageHead, lines: &Lines, trailer: &[u8], plan: Plan) -> 
 }
 
 /// Converts a packer whose write failed to an error.
-fn given_back<W: Target>(packer: Packer<W>, cause: PackCause) -> StartFault<W>
+fn write_fault<W: Target>(packer: Packer<W>, cause: PackCause) -> StartFault<W>
     ensures cause { result.cause ≡ cause }
     ensures writer { result.writer ≡ packer.object.writer }
     ensures written { result.written ≡ written_of packer }
@@ -74,16 +74,16 @@ pub fn pack<W: Target>(
     writer: W,
 ) -> Result<W, StartFault<W>>
     ensures refused { IfSome (words.pack_cause head.now lines.now.lines trailer.now plan)
-        (λ cause. MatchResult result (λ _. ⊥) (StartIsRefused cause writer)) }
-    ensures order { IsFirstOf
-        (Against false [] trailer.now plan (length (canonical head.now lines.now.lines trailer.now)))
+        (λ cause. MatchResult result (λ _. ⊥) (RejectsStart cause writer)) }
+    ensures order { IsFirstInOrder
+        (CauseHolds false [] trailer.now plan (length (canonical head.now lines.now.lines trailer.now)))
         (causes.BadTrailer ∷ causes.PastAnnounced ∷ causes.ShortOfAnnounced ∷ [])
         (words.pack_cause head.now lines.now.lines trailer.now plan) }
     ensures ok { IfOk result (Packs W.state writer envelope.now head.now lines.now.lines trailer.now plan) }
     ensures fault { IfNone (words.pack_cause head.now lines.now.lines trailer.now plan)
         (IfErr result (IsStartFault W.state (Packed envelope.now head.now lines.now.lines trailer.now plan) writer)) }
 {
-    texts_join();
+    writes_join();
     lines_are_packed_as_their_events();
     story_laws();
     texts_are_delivered_as_lines();
@@ -100,10 +100,10 @@ pub fn pack<W: Target>(
     };
     match put_lines(&mut packer, lines) {
         Ok(()) => {}
-        Err(cause) => return Err(given_back(packer, cause)),
+        Err(cause) => return Err(write_fault(packer, cause)),
     }
     match packer.finish(trailer) {
         Ok(writer) => Ok(writer),
-        Err((packer, cause)) => Err(given_back(packer, cause)),
+        Err((packer, cause)) => Err(write_fault(packer, cause)),
     }
 }

@@ -1,5 +1,5 @@
 -- A target with a buffer of one block: its steps, and their effects.
-use Rattle.iim_pack_script.proofs.Words.{◌≡◌, ℕ, ◌+◌, ◌-◌, ◌<◌, ◌≤◌, ◌⊎◌, inl, inr, take, take-append-drop, length-drop, nat_le, Bool, true, false, cond, List, [], ◌∷◌, ◌++◌, length, drop, Option, Some, None, refl, sym, ap, ◌∙◌, arith, append_assoc, append-nil, length-append, Accepted, Calm, CountedFailure, Device, Faulted, Begins, octets_behind}
+use Rattle.iim_pack_script.proofs.Words.{◌≡◌, ℕ, ◌+◌, ◌-◌, ◌<◌, ◌≤◌, ◌⊎◌, inl, inr, take, take-append-drop, length-drop, nat_le, Bool, true, false, cond, List, [], ◌∷◌, ◌++◌, length, drop, Option, Some, None, refl, sym, ap, ◌∙◌, arith, append_assoc, append-nil, length-append, WriteAccepted, CountedNoFault, CountedFailure, Device, CountedFault, IsPrefix, octets_from}
 use Rattle.std.proofs.lemmas.Bool.{leb-true, le-leb, true≢false}
 use Rattle.std.proofs.lemmas.List.{drop-take}
 use Rattle.std.proofs.lemmas.List.Edits.{take-paste}
@@ -24,7 +24,7 @@ passes_by true false n now held after rest on e = absurd (true≢false (sym (on 
 
 -- some of the buffered octets were written
 pub passes : (first now after : Option (List ℕ)) (held out rest : List ℕ) → held ≡ out ++ rest → Appends now after out
-    → Keeps (octets_behind first held now) (octets_behind first rest after)
+    → Keeps (octets_from first held now) (octets_from first rest after)
 passes None now after held out rest e h = tt
 passes (Some first) None after held out rest e h = tt
 passes (Some first) (Some now) None held out rest e h = absurd h
@@ -49,13 +49,13 @@ moved block new used count left sum fits made =
 
 -- the target after the first octets, with the buffered ones
 abbrev pub behind : Option (List ℕ) → List ℕ → Device → Device
-behind first held d = record { octets = octets_behind first held d.octets; failures = d.failures; interruptions = d.interruptions }
+behind first held d = record { octets = octets_from first held d.octets; failures = d.failures; interruptions = d.interruptions }
 
 -- one write of the buffered octets
-pub passed_on : (first : Option (List ℕ)) (held rest : List ℕ) (old new : Device) (count room : ℕ) → Accepted old new held count → rest ≡ drop count held
+pub passed_on : (first : Option (List ℕ)) (held rest : List ℕ) (old new : Device) (count room : ℕ) → WriteAccepted old new held count → rest ≡ drop count held
     → 0 < length held → (0 < count → 0 < room)
     → Keeps (behind first held old).octets (behind first rest new).octets
-    × (((0 < count) × (0 < room) × Calm (behind first held old) (behind first rest new))
+    × (((0 < count) × (0 < room) × CountedNoFault (behind first held old) (behind first rest new))
     ⊎ ((count ≡ 0) × CountedFailure (behind first held old) (behind first rest new)))
 passed_on first held rest old new count room h is some makes_room = (
   passes first old.octets new.octets held (take count held) rest (sym (take-append-drop count held) ∙ ap (λ (t : List ℕ). take count held ++ t) (sym is)) h.1,
@@ -66,8 +66,8 @@ passed_on first held rest old new count room h is some makes_room = (
 )
 
 -- a write that wrote nothing
-pub faulted_behind : (first : Option (List ℕ)) (held same : List ℕ) (old new : Device) (fault : IoFault) → held ≡ same → Faulted old new fault
-    → Faulted (behind first held old) (behind first same new) fault
+pub faulted_behind : (first : Option (List ℕ)) (held same : List ℕ) (old new : Device) (fault : IoFault) → held ≡ same → CountedFault old new fault
+    → CountedFault (behind first held old) (behind first same new) fault
 faulted_behind first held same old new Failed is h = (passes first old.octets new.octets held [] same is (keeps_nothing old.octets new.octets h.0), h.1)
 faulted_behind first held same old new Interrupted is h = (passes first old.octets new.octets held [] same is (keeps_nothing old.octets new.octets h.0), h.1)
 
@@ -94,18 +94,18 @@ went_by true n first now held out le h =
     went first now held out (rw append-nil at parts) (omega (arith, same, le refl))
 
 went_behind : (first : List ℕ) (begun now : Option (List ℕ)) (held out : List ℕ)
-    → Appends (Some (length first ∷ (first ++ []))) (octets_behind begun held now) out
+    → Appends (Some (length first ∷ (first ++ []))) (octets_from begun held now) out
     → (octets : List ℕ) × (now ≡ Some octets) × Went first octets held out
 went_behind first None now held out h = absurd h
 went_behind first (Some begun) None held out h = absurd h
 went_behind first (Some begun) (Some now) held out h =
     (now, refl, went_by (nat_le (length begun) (length now)) (length begun) first now held out (leb-true (length begun) (length now)) h)
 
-fresh_octets : (first : List ℕ) → octets_behind (Some first) [] (Some first) ≡ Some (length first ∷ (first ++ []))
+fresh_octets : (first : List ℕ) → octets_from (Some first) [] (Some first) ≡ Some (length first ∷ (first ++ []))
 fresh_octets first = rw (le-leb (length first) (length first) (omega arith)) refl
 
 -- everything accepted was written, if the buffered octets were finally written
-pub finished : (old begun mid last : Option (List ℕ)) (held out : List ℕ) → Appends (octets_behind old [] old) (octets_behind begun held mid) out
+pub finished : (old begun mid last : Option (List ℕ)) (held out : List ℕ) → Appends (octets_from old [] old) (octets_from begun held mid) out
     → Appends mid last held → Appends old last out
 finished None begun mid last held out h k = tt
 finished (Some first) begun mid last held out h k =
@@ -118,8 +118,8 @@ finished (Some first) begun mid last held out h k =
     finished_by first now (Some last) held out w k = rw (k, w.wrote, w.parts) (append_assoc first w.gone held)
 
 -- only a prefix of what was accepted was written, if the buffered octets were not all written
-pub broken_off : (old begun mid last : Option (List ℕ)) (held front rest out : List ℕ) → Appends (octets_behind old [] old) (octets_behind begun held mid) out
-    → held ≡ front ++ rest → Appends mid last front → (gone : List ℕ) × Appends old last gone × Begins gone out
+pub broken_off : (old begun mid last : Option (List ℕ)) (held front rest out : List ℕ) → Appends (octets_from old [] old) (octets_from begun held mid) out
+    → held ≡ front ++ rest → Appends mid last front → (gone : List ℕ) × Appends old last gone × IsPrefix gone out
 broken_off None begun mid last held front rest out h e k = ([], tt, (out, refl))
 broken_off (Some first) begun mid last held front rest out h e k =
     let (now, is, through) = went_behind first begun mid held out (rw (fresh_octets first) at h) in
@@ -127,7 +127,7 @@ broken_off (Some first) begun mid last held front rest out h e k =
   where
     broken_by : (first now : List ℕ) (last : Option (List ℕ)) (held front rest out : List ℕ) → Went first now held out → held ≡ front ++ rest
         → Appends (Some now) last front
-        → (gone : List ℕ) × Appends (Some first) last gone × Begins gone out
+        → (gone : List ℕ) × Appends (Some first) last gone × IsPrefix gone out
     broken_by first now None held front rest out w e k = absurd k
     broken_by first now (Some last) held front rest out w e k =
         (w.gone ++ front, rw (k, w.wrote) (append_assoc first w.gone front), (rest, rw (w.parts, e) (append_assoc w.gone front rest)))

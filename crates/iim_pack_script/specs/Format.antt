@@ -2,21 +2,21 @@
 use Rattle.std.specs.Prelude.{◌≡◌, ◌≢◌, ℕ, min, ◌+◌, ◌<◌, ◌≤◌, ◌⊎◌, Bool, if◌then◌else◌, List, ◌++◌, length, codes, decimal, Option}
 use Rattle.std.specs.{Option.unwrap_or, Io.KnownBytes.IsAtEnd}
 use Rattle.iim_dataset.specs.Format.{Octets.greatest_size, Datasets.Dataset}
-use Rattle.iim_dataset.specs.States.Devices.{Device, Wrote, BrokeAfter, HasGiven, MissedAfter}
+use Rattle.iim_dataset.specs.States.Devices.{Device, WroteAllOf, WriteFailedAfter, ReadsGave, ReadFailedAfter}
 pub use Rattle.iim_dataset.specs.declared.device.IoFault.{IoFault}
-use Rattle.iim_object.specs.{Format.Objects.most_in, Format.Causes.pack_number, States.Writing.Begins}
+use Rattle.iim_object.specs.{Format.Objects.most_in, Format.Causes.pack_number, States.Writing.IsPrefix}
 use Rattle.iim_object.specs.declared.{size.Size.TheVariants.Known, size.Size.TheVariants.Unknown, plan.Plan.Plan}
 use Rattle.iim_object.specs.declared.writing.cause.PackCause.TheVariants as causes
 use Rattle.wire_message.specs.Format.Messages.{Header, canonical}
 use Rattle.iim_pack.specs.Format.Packed.{Packed}
-use Rattle.iim_script.specs.Format.Causes.{cause_name, cause_number, IsScriptFault}
+use Rattle.iim_script.specs.Format.Causes.{script_cause_name, script_cause_number, IsScriptFault}
 use Rattle.iim_script.specs.{declared.fault.ScriptCause.ScriptCause, Format.Scripts.IsScript, Format.Scripts.max_script}
 use Rattle.iim_script.specs.declared.fault.ScriptCause.TheVariants as script
 pub use Rattle.iim_output.specs.declared.fault.CommandFault.{CommandFault}
 pub use Rattle.iim_output.specs.declared.fault.CommandFault.TheVariants.{CannotRead, CannotWrite, OutOfMemory}
 pub use Rattle.iim_pack_script.specs.declared.packing.PackFault.{PackFault, TheVariants.Refused, TheVariants.Around}
 use Rattle.iim_output.specs.States.Devices.{Devices}
-use Rattle.iim_output.specs.Format.{limits, IsSaid, status_accepted, status_refused}
+use Rattle.iim_output.specs.Format.{limits, IsPrinted, status_accepted, status_refused}
 
 -- A request: the size of a full subfile in octets; whether the size is left unknown, and if so the
 -- maximum size of the object.
@@ -30,12 +30,12 @@ asked subfile unknown max = record { subfile = subfile; unknown = unknown; max =
 
 -- The maximum size of an object: the maximum of an unknown size, otherwise the greatest size; and
 -- at most what the maximum number of subfiles contains.
-abbrev pub most_for : Asked → ℕ
-most_for a = min (if a.unknown then unwrap_or a.max greatest_size else greatest_size) (most_in a.subfile)
+abbrev pub max_object_size : Asked → ℕ
+max_object_size a = min (if a.unknown then unwrap_or a.max greatest_size else greatest_size) (most_in a.subfile)
 
 -- The plan is the requested one for this object: its size is the requested maximum, or the object's
 -- own.
-pub record IsPlanOf (a : Asked) (object : List ℕ) (plan : Plan) : Type 0 where
+pub record IsRequestedPlan (a : Asked) (object : List ℕ) (plan : Plan) : Type 0 where
   pub subfile_is : plan.subfile ≡ a.subfile
   pub size_is : plan.size ≡ (if a.unknown then Unknown a.max else Known (length object))
 
@@ -54,16 +54,16 @@ object_of t = canonical t.head t.lines t.trailer
 
 -- The object exceeds the requested size.
 abbrev pub IsPast : Asked → ScriptContent → Type 0
-IsPast a t = most_for a < length (object_of t)
+IsPast a t = max_object_size a < length (object_of t)
 
 -- The octets are a script, within the program's limits, with these contents.
 abbrev pub IsScriptOf : List ℕ → ScriptContent → Type 0
 IsScriptOf octets t = IsScript limits octets t.fields t.head t.trailer t.lines t.text_line
 
 -- The form is the packed form of the contents, as requested.
-pub record IsFormOf (a : Asked) (t : ScriptContent) (form : List ℕ) : Type 0 where
+pub record IsRequestedForm (a : Asked) (t : ScriptContent) (form : List ℕ) : Type 0 where
   pub plan : Plan
-  pub is_plan : IsPlanOf a (object_of t) plan
+  pub is_plan : IsRequestedPlan a (object_of t) plan
   pub packed : Packed t.fields t.head t.lines t.trailer plan form
 
 -- the line that reports a refusal: the number of a line of the script, and a cause's number and
@@ -77,7 +77,7 @@ refusal_line line number name =
 -- line `text`.
 abbrev pub IsScriptRefusal : Asked → List ℕ → List ℕ → Type 0
 IsScriptRefusal a octets text = ((line : ℕ) × (cause : ScriptCause) × IsScriptFault limits octets line cause × (cause ≢ script.OutOfMemory)
-    × (text ≡ refusal_line line (cause_number cause) (cause_name cause)))
+    × (text ≡ refusal_line line (script_cause_number cause) (script_cause_name cause)))
     ⊎ ((t : ScriptContent) × IsScriptOf octets t × IsPast a t
     × (text ≡ refusal_line t.text_line (pack_number causes.PastAnnounced) (codes "PastAnnounced")))
 
@@ -85,49 +85,49 @@ IsScriptRefusal a octets text = ((line : ℕ) × (cause : ScriptCause) × IsScri
 
 -- These octets were read, and no read failed: the complete input, or one octet more than a script
 -- may have.
-abbrev pub IsRead : Device → Device → List ℕ → Type 0
-IsRead old new octets = HasGiven old new octets × ((IsAtEnd new.octets × (length octets ≤ max_script)) ⊎ (length octets ≡ max_script + 1))
+abbrev pub IsReadInput : Device → Device → List ℕ → Type 0
+IsReadInput old new octets = ReadsGave old new octets × ((IsAtEnd new.octets × (length octets ≤ max_script)) ⊎ (length octets ≡ max_script + 1))
 
 -- Why there is no script: a read failed after at most as many octets as a script may have; or an
 -- allocation failed, for octets that were read or at the end of the input. Nothing is allocated
 -- before the first octet or the end of the input.
 abbrev pub FailsToRead : Device → Device → CommandFault → Type 0
-FailsToRead old new CannotRead = (octets : List ℕ) × (fault : IoFault) × (length octets ≤ max_script) × MissedAfter old new octets fault
+FailsToRead old new CannotRead = (octets : List ℕ) × (fault : IoFault) × (length octets ≤ max_script) × ReadFailedAfter old new octets fault
 FailsToRead old new CannotWrite = ⊥
-FailsToRead old new OutOfMemory = (octets : List ℕ) × (length octets ≤ max_script + 1) × HasGiven old new octets
+FailsToRead old new OutOfMemory = (octets : List ℕ) × (length octets ≤ max_script + 1) × ReadsGave old new octets
     × ((0 < length octets) ⊎ IsAtEnd new.octets)
 
 -- ---- the output
 
 -- The octets are a script, and the requested packed form of its contents was written.
-abbrev pub IsPacked : Asked → List ℕ → Device → Device → Type 0
-IsPacked a octets old new = (t : ScriptContent) × (form : List ℕ) × IsScriptOf octets t × IsFormOf a t form × Wrote old new form
+abbrev pub WritesForm : Asked → List ℕ → Device → Device → Type 0
+WritesForm a octets old new = (t : ScriptContent) × (form : List ℕ) × IsScriptOf octets t × IsRequestedForm a t form × WroteAllOf old new form
 
 -- The octets are a script whose object is within the requested size, and a write failed after
 -- octets that are a prefix of the packed form by the requested plan.
-abbrev pub IsBrokenOff : Asked → List ℕ → Device → Device → Type 0
-IsBrokenOff a octets old new = (t : ScriptContent) × (plan : Plan) × (out : List ℕ) × IsScriptOf octets t × (IsPast a t → ⊥)
-    × IsPlanOf a (object_of t) plan × BrokeAfter old new out × ((form : List ℕ) → Packed t.fields t.head t.lines t.trailer plan form → Begins out form)
+abbrev pub BreaksOffPacking : Asked → List ℕ → Device → Device → Type 0
+BreaksOffPacking a octets old new = (t : ScriptContent) × (plan : Plan) × (out : List ℕ) × IsScriptOf octets t × (IsPast a t → ⊥)
+    × IsRequestedPlan a (object_of t) plan × WriteFailedAfter old new out × ((form : List ℕ) → Packed t.fields t.head t.lines t.trailer plan form → IsPrefix out form)
 
 -- Why the octets are not packed: they are rejected, and this is the line that reports it; or a
 -- write failed; or an allocation failed. Only if a write failed, anything is written.
-abbrev pub IsNotPacked : Asked → List ℕ → Device → Device → PackFault → Type 0
-IsNotPacked a octets old new (Refused line number name) = (new ≡ old) × IsScriptRefusal a octets (refusal_line line number name.now)
-IsNotPacked a octets old new (Around CannotRead) = ⊥
-IsNotPacked a octets old new (Around CannotWrite) = IsBrokenOff a octets old new
-IsNotPacked a octets old new (Around OutOfMemory) = new ≡ old
+abbrev pub FailsToPack : Asked → List ℕ → Device → Device → PackFault → Type 0
+FailsToPack a octets old new (Refused line number name) = (new ≡ old) × IsScriptRefusal a octets (refusal_line line number name.now)
+FailsToPack a octets old new (Around CannotRead) = ⊥
+FailsToPack a octets old new (Around CannotWrite) = BreaksOffPacking a octets old new
+FailsToPack a octets old new (Around OutOfMemory) = new ≡ old
 
 -- ---- the effect
 
 -- The envelope of the script is packed, and nothing is printed; or the script is rejected, nothing
 -- is written to the output, and the errors report it.
-abbrev pub Answered : Asked → Devices → Devices → ℕ → Type 0
-Answered a old new status = (octets : List ℕ) × IsRead old.input new.input octets
-    × ((IsPacked a octets old.output new.output × (new.errors ≡ old.errors) × (status ≡ status_accepted))
-    ⊎ ((text : List ℕ) × IsScriptRefusal a octets text × (new.output ≡ old.output) × IsSaid old.errors new.errors text status_refused status))
+abbrev pub CompletesPack : Asked → Devices → Devices → ℕ → Type 0
+CompletesPack a old new status = (octets : List ℕ) × IsReadInput old.input new.input octets
+    × ((WritesForm a octets old.output new.output × (new.errors ≡ old.errors) × (status ≡ status_accepted))
+    ⊎ ((text : List ℕ) × IsScriptRefusal a octets text × (new.output ≡ old.output) × IsPrinted old.errors new.errors text status_refused status))
 
 -- Why no status is returned: the input was not read; or an allocation failed; or a write failed.
 -- Only in the last case anything is written.
-abbrev pub FailsToAnswer : Asked → Devices → Devices → CommandFault → Type 0
-FailsToAnswer a old new CannotWrite = (octets : List ℕ) × IsRead old.input new.input octets × IsBrokenOff a octets old.output new.output
-FailsToAnswer a old new fault = FailsToRead old.input new.input fault × (new.output ≡ old.output)
+abbrev pub FailsToComplete : Asked → Devices → Devices → CommandFault → Type 0
+FailsToComplete a old new CannotWrite = (octets : List ℕ) × IsReadInput old.input new.input octets × BreaksOffPacking a octets old.output new.output
+FailsToComplete a old new fault = FailsToRead old.input new.input fault × (new.output ≡ old.output)

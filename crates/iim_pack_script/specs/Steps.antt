@@ -1,9 +1,9 @@
 -- The effects of the parts of `pack`, and a target with a buffer of one block. (Private to proofs.)
 use Rattle.std.specs.Prelude.{◌≡◌, ◌<◌, ℕ, ◌-◌, cond, nat_le, List, ◌∷◌, ◌++◌, length, take, Option, Some, None, ◌≢◌, ◌≤◌, codes}
 use Rattle.std.specs.Io.KnownBytes.{IsAtEnd}
-use Rattle.iim_dataset.specs.States.Devices.{Device, Missed, HasGiven}
+use Rattle.iim_dataset.specs.States.Devices.{Device, ReadFailed, ReadsGave}
 use Rattle.iim_object.specs.{Format.Causes.pack_number, declared.writing.cause.PackCause.PackCause}
-use Rattle.iim_script.specs.Format.{Scripts.text_lines, Causes.cause_name, Causes.cause_number}
+use Rattle.iim_script.specs.Format.{Scripts.text_lines, Causes.script_cause_name, Causes.script_cause_number}
 use Rattle.iim_script.specs.declared.{fault.ScriptFault.ScriptFault, script.Script.Script}
 use Rattle.iim_pack_script.specs.Format.{ScriptContent, CommandFault, CannotRead, CannotWrite, OutOfMemory, PackFault, Refused, Around, IoFault}
 use Rattle.iim_pack_script.specs.declared.blocks.BlockTarget.{BlockTarget}
@@ -11,25 +11,25 @@ use Rattle.iim_object.specs.declared.writing.cause.PackCause.TheVariants as caus
 use Rattle.iim_script.specs.declared.fault.ScriptCause.TheVariants as script
 
 -- the buffered octets
-abbrev pub held_in : {W : Type 0} → BlockTarget W → List ℕ
-held_in b = take b.used b.block.now
+abbrev pub buffer_of : {W : Type 0} → BlockTarget W → List ℕ
+buffer_of b = take b.used b.block.now
 
 -- the remaining capacity of the block
-abbrev pub room_in : {W : Type 0} → BlockTarget W → ℕ
-room_in b = length b.block.now - b.used
+abbrev pub remaining_capacity : {W : Type 0} → BlockTarget W → ℕ
+remaining_capacity b = length b.block.now - b.used
 
 -- The octets of a target that first had `first`, and then those that are buffered. The number of
 -- the first octets precedes them, so that two targets that agree started from the same number. They
 -- are known if the first octets were, and are no fewer.
-abbrev pub octets_behind : Option (List ℕ) → List ℕ → Option (List ℕ) → Option (List ℕ)
-octets_behind None held now = None
-octets_behind (Some first) held None = None
-octets_behind (Some first) held (Some now) = cond (nat_le (length first) (length now)) (Some (length first ∷ (now ++ held))) None
+abbrev pub octets_from : Option (List ℕ) → List ℕ → Option (List ℕ) → Option (List ℕ)
+octets_from None held now = None
+octets_from (Some first) held None = None
+octets_from (Some first) held (Some now) = cond (nat_le (length first) (length now)) (Some (length first ∷ (now ++ held))) None
 
 -- the block target, viewed as a plain target
 abbrev pub block_device : {W : Type 0} → (W → Device) → BlockTarget W → Device
 block_device state b = record {
-  octets = octets_behind (state b.first.value).octets (held_in b) (state b.writer).octets;
+  octets = octets_from (state b.first.value).octets (buffer_of b) (state b.writer).octets;
   failures = (state b.writer).failures;
   interruptions = (state b.writer).interruptions;
 }
@@ -40,9 +40,9 @@ pub record IsFresh {W : Type 0} (b : BlockTarget W) : Type 0 where
   pub empty : b.used ≡ 0
 
 -- One read, retried after interruptions, added `count` octets: 0 only at the end.
-pub record GotSome (old new : Device) (before after : List ℕ) (count : ℕ) : Type 0 where
+pub record ReadsSome (old new : Device) (before after : List ℕ) (count : ℕ) : Type 0 where
   pub more : List ℕ
-  pub given : HasGiven old new more
+  pub given : ReadsGave old new more
   pub added : after ≡ before ++ more
   pub counted : count ≡ length more
   pub at_end : count ≡ 0 → IsAtEnd new.octets
@@ -50,23 +50,23 @@ pub record GotSome (old new : Device) (before after : List ℕ) (count : ℕ) : 
 -- A read failed; or it returned octets, at most as many as fit into the buffer, and the allocation
 -- for them failed.
 abbrev pub IsFailedRead : Device → Device → ℕ → CommandFault → Type 0
-IsFailedRead old new room CannotRead = (fault : IoFault) × Missed old new fault
+IsFailedRead old new room CannotRead = (fault : IoFault) × ReadFailed old new fault
 IsFailedRead old new room CannotWrite = ⊥
-IsFailedRead old new room OutOfMemory = (more : List ℕ) × (0 < length more) × (length more ≤ room) × HasGiven old new more
+IsFailedRead old new room OutOfMemory = (more : List ℕ) × (0 < length more) × (length more ≤ room) × ReadsGave old new more
 
 -- the contents of a parsed script
-abbrev pub told_by : Script → ScriptContent
-told_by s = record { fields = s.envelope; head = s.head; trailer = s.trailer.items; lines = text_lines s.text.now; text_line = s.text_line }
+abbrev pub content_of : Script → ScriptContent
+content_of s = record { fields = s.envelope; head = s.head; trailer = s.trailer.items; lines = text_lines s.text.now; text_line = s.text_line }
 
 -- The error is reported by its line, or is an allocation failure.
-abbrev pub TellsFault : ScriptFault → PackFault → Type 0
-TellsFault f (Refused line number name) = (f.cause ≢ script.OutOfMemory) × (line ≡ f.line) × (number ≡ cause_number f.cause) × (name.now ≡ cause_name f.cause)
-TellsFault f (Around OutOfMemory) = f.cause ≡ script.OutOfMemory
-TellsFault f (Around _) = ⊥
+abbrev pub IsFaultOfScript : ScriptFault → PackFault → Type 0
+IsFaultOfScript f (Refused line number name) = (f.cause ≢ script.OutOfMemory) × (line ≡ f.line) × (number ≡ script_cause_number f.cause) × (name.now ≡ script_cause_name f.cause)
+IsFaultOfScript f (Around OutOfMemory) = f.cause ≡ script.OutOfMemory
+IsFaultOfScript f (Around _) = ⊥
 
 -- The error for a cause of the packer, for a script whose line `text` has that number.
-abbrev pub ComesTo : PackCause → ℕ → PackFault → Type 0
-ComesTo causes.PastAnnounced text_line (Refused line number name) = (line ≡ text_line) × (number ≡ pack_number causes.PastAnnounced) × (name.now ≡ codes "PastAnnounced")
-ComesTo causes.OutOfMemory text_line (Around OutOfMemory) = Unit {0}
-ComesTo causes.Write text_line (Around CannotWrite) = Unit {0}
-ComesTo _ text_line _ = ⊥
+abbrev pub IsFaultFor : PackCause → ℕ → PackFault → Type 0
+IsFaultFor causes.PastAnnounced text_line (Refused line number name) = (line ≡ text_line) × (number ≡ pack_number causes.PastAnnounced) × (name.now ≡ codes "PastAnnounced")
+IsFaultFor causes.OutOfMemory text_line (Around OutOfMemory) = Unit {0}
+IsFaultFor causes.Write text_line (Around CannotWrite) = Unit {0}
+IsFaultFor _ text_line _ = ⊥

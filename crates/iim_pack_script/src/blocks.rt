@@ -1,7 +1,7 @@
 //! A target with a buffer of one block.
 
 ghost use Rattle.std.specs.Prelude.{◌≡◌, ℕ, ◌<◌, ◌≤◌, ◌+◌, ◌-◌, ◌⊎◌, [], ◌++◌, length, min, take, drop, IfOk, IfErr, OnErr};
-ghost use Rattle.iim_dataset.specs.States.Devices.{Accepted, Faulted};
+ghost use Rattle.iim_dataset.specs.States.Devices.{WriteAccepted, CountedFault};
 
 use iim_dataset::{IoFault, Target, put};
 use std::snapshot::Snapshot;
@@ -10,10 +10,10 @@ use std::snapshot::Snapshot;
 /// start.
 fn write_front<W: Target>(writer: &mut W, block: &mut [u8], used: usize) -> Result<usize, IoFault>
     requires { used ≤ length block.old }
-    ensures ok { IfOk result (Accepted (W.state writer.old) (W.state writer.new) (take used block.old)) }
+    ensures ok { IfOk result (WriteAccepted (W.state writer.old) (W.state writer.new) (take used block.old)) }
     ensures rest { IfOk result (λ count. take (used - count) block.new ≡ drop count (take used block.old)) }
     ensures room { length block.new ≡ length block.old }
-    ensures err { IfErr result (Faulted (W.state writer.old) (W.state writer.new)) }
+    ensures err { IfErr result (CountedFault (W.state writer.old) (W.state writer.new)) }
     ensures same { OnErr result (block.new ≡ block.old) }
 {
     match writer.write(&block[..used]) {
@@ -41,9 +41,9 @@ pub(crate) struct BlockTarget<'b, W> {
 }
 
 impl<'b, W: Target> BlockTarget<'b, W> {
-    ghost use Rattle.iim_dataset.specs.States.Devices.{Calm, CountedFailure, Stopped, Wrote};
+    ghost use Rattle.iim_dataset.specs.States.Devices.{CountedNoFault, CountedFailure, WroteOnlyPrefixOf, WroteAllOf};
     ghost use Rattle.std.specs.Io.KnownBytes.{Appends, Keeps};
-    ghost use Rattle.iim_pack_script.specs.Steps.{IsFresh, block_device, held_in, room_in};
+    ghost use Rattle.iim_pack_script.specs.Steps.{IsFresh, block_device, buffer_of, remaining_capacity};
 
     /// Creates a target with an empty buffer over `writer`.
     pub(crate) fn new(block: &'b mut [u8], writer: W) -> BlockTarget<'b, W>
@@ -75,9 +75,10 @@ impl<'b, W: Target> BlockTarget<'b, W> {
 
     /// Flushes the buffer, and returns the inner target, also if a write fails.
     pub(crate) fn finish(self) -> Result<W, W>
-        ensures ok { IfOk result (λ last. Wrote (W.state self.entry.writer) (W.state last) (held_in self.entry)) }
+        ensures ok { IfOk result (λ last. WroteAllOf (W.state self.entry.writer) (W.state last)
+            (buffer_of self.entry)) }
         ensures err { IfErr result (λ last. (out : ℕ)
-            × Stopped (W.state self.entry.writer) (W.state last) (held_in self.entry) out) }
+            × WroteOnlyPrefixOf (W.state self.entry.writer) (W.state last) (buffer_of self.entry) out) }
     {
         let BlockTarget {
             mut writer,
@@ -92,11 +93,11 @@ impl<'b, W: Target> BlockTarget<'b, W> {
     }
 
     /// Buffers as much of the chunk as fits, and returns how much that is.
-    fn hold(&mut self, piece: &[u8]) -> usize
-        ensures count { result ≡ min (length piece.now) (room_in self.old) }
+    fn buffer_some(&mut self, piece: &[u8]) -> usize
+        ensures count { result ≡ min (length piece.now) (remaining_capacity self.old) }
         ensures held { Appends (block_device W.state self.old).octets (block_device W.state self.new).octets
             (take result piece.now) }
-        ensures calm { Calm (block_device W.state self.old) (block_device W.state self.new) }
+        ensures no_failure { CountedNoFault (block_device W.state self.old) (block_device W.state self.new) }
     {
         let count = piece.len().min(self.block.len() - self.used);
         self.block[self.used..self.used + count].copy_from_slice(&piece[..count]);
@@ -106,14 +107,14 @@ impl<'b, W: Target> BlockTarget<'b, W> {
 
     /// Writes the buffered octets once, and returns how many were written. If any were, the block
     /// has capacity again; 0 is a failure.
-    fn pass_on(&mut self) -> Result<usize, IoFault>
+    fn flush_once(&mut self) -> Result<usize, IoFault>
         requires { 0 < self.old.used }
         ensures ok { IfOk result (λ count.
             Keeps (block_device W.state self.old).octets (block_device W.state self.new).octets
-            × (((0 < count) × (0 < room_in self.new)
-            × Calm (block_device W.state self.old) (block_device W.state self.new))
+            × (((0 < count) × (0 < remaining_capacity self.new)
+            × CountedNoFault (block_device W.state self.old) (block_device W.state self.new))
             ⊎ ((count ≡ 0) × CountedFailure (block_device W.state self.old) (block_device W.state self.new)))) }
-        ensures err { IfErr result (Faulted (block_device W.state self.old) (block_device W.state self.new)) }
+        ensures err { IfErr result (CountedFault (block_device W.state self.old) (block_device W.state self.new)) }
     {
         match write_front(&mut self.writer, &mut *self.block, self.used) {
             Ok(count) => {
@@ -132,11 +133,11 @@ impl<'b, W: Target> Target for BlockTarget<'b, W> {
 
     fn write(&mut self, piece: &[u8]) -> Result<usize, IoFault> {
         if self.used < self.block.len() || piece.is_empty() {
-            return Ok(self.hold(piece));
+            return Ok(self.buffer_some(piece));
         }
-        match self.pass_on() {
+        match self.flush_once() {
             Ok(0) => Ok(0),
-            Ok(_) => Ok(self.hold(piece)),
+            Ok(_) => Ok(self.buffer_some(piece)),
             Err(fault) => Err(fault),
         }
     }

@@ -7,21 +7,21 @@ ghost use Rattle.iim_object.specs.declared.writing.cause.PackCause.TheVariants a
 ghost use Rattle.iim_pack.specs.States.Packing.{pack_cause};
 ghost use Rattle.iim_script.specs.Format.Scripts.{text_lines};
 ghost use Rattle.iim_output.specs.States.Devices.{devices};
-ghost use Rattle.iim_pack_script.specs.Format.{Answered, IsNotPacked, IsPacked, IsPast, IsPlanOf, IsRead, IsScriptOf, FailsToAnswer, FailsToRead, asked, object_of, refusal_line};
-ghost use Rattle.iim_pack_script.specs.Steps.{ComesTo, GotSome, IsFailedRead, TellsFault, told_by};
-ghost use Rattle.iim_output.specs.Format.{IsSaid, status_refused};
+ghost use Rattle.iim_pack_script.specs.Format.{CompletesPack, FailsToPack, WritesForm, IsPast, IsRequestedPlan, IsReadInput, IsScriptOf, FailsToComplete, FailsToRead, asked, object_of, refusal_line};
+ghost use Rattle.iim_pack_script.specs.Steps.{IsFaultFor, ReadsSome, IsFailedRead, IsFaultOfScript, content_of};
+ghost use Rattle.iim_output.specs.Format.{IsPrinted, status_refused};
 ghost use Rattle.iim_output.specs.declared.fault.CommandFault.TheVariants.{OutOfMemory};
 
 use crate::blocks::BlockTarget;
 use crate::script::read_script;
 use crate::text::{object_len, pack_text};
-use iim_dataset::device_laws::gifts_join;
+use iim_dataset::device_laws::reads_join;
 use iim_dataset::{BLOCK, Source, Target, take};
 use iim_object::{PackCause, Plan, Size};
 use iim_output::fault::CommandFault;
-use iim_output::lines::tell;
+use iim_output::lines::write_with_status;
 use iim_output::status::{ACCEPTED, REFUSED};
-use iim_pack::laws::packed_octets_are_one;
+use iim_pack::laws::packed_form_is_unique;
 pub use iim_request::pack_request::PackRequest;
 use iim_script::{MAX_SCRIPT, Script, ScriptCause, ScriptFault};
 use std::alloc::Global;
@@ -67,7 +67,7 @@ fn read_some<R: Source>(
     script: &mut Vec<u8>,
 ) -> Result<usize, CommandFault>
     requires { 0 < length block.old }
-    ensures got { IfOk result (GotSome (R.state reader.old) (R.state reader.new) script.old.items script.new.items) }
+    ensures got { IfOk result (ReadsSome (R.state reader.old) (R.state reader.new) script.old.items script.new.items) }
     ensures within { IfOk result (λ count. count ≤ length block.old) }
     ensures failed { IfErr result (IsFailedRead (R.state reader.old) (R.state reader.new) (length block.old)) }
     ensures leads { R.leads reader.old reader.new }
@@ -84,11 +84,11 @@ fn read_some<R: Source>(
 
 /// Reads a complete input, but at most one octet more than a script may have.
 fn read_input<R: Source>(alloc: Global, reader: &mut R) -> Result<Vec<u8>, CommandFault>
-    ensures read { IfOk result (λ script. IsRead (R.state reader.old) (R.state reader.new) script.items) }
+    ensures read { IfOk result (λ script. IsReadInput (R.state reader.old) (R.state reader.new) script.items) }
     ensures unread { IfErr result (FailsToRead (R.state reader.old) (R.state reader.new)) }
     ensures leads { R.leads reader.old reader.new }
 {
-    gifts_join();
+    reads_join();
     let mut script = Vec::new(alloc);
     let mut block = [0u8; BLOCK];
     while script.len() <= MAX_SCRIPT {
@@ -106,11 +106,11 @@ fn read_input<R: Source>(alloc: Global, reader: &mut R) -> Result<Vec<u8>, Comma
 fn plan_of(request: PackRequest, told: &Script<'_>) -> Option<Plan>
     requires trailer { IsTrailer told.now.trailer.items }
     requires len { told.now.text_len ≡ length (packed_text (text_lines told.now.text.now)) }
-    ensures plan { IfSome result (IsPlanOf (asked request.subfile request.unknown request.max)
-        (object_of (told_by told.now))) }
+    ensures plan { IfSome result (IsRequestedPlan (asked request.subfile request.unknown request.max)
+        (object_of (content_of told.now))) }
     ensures fits { IfSome result (λ plan. pack_cause told.now.head (text_lines told.now.text.now)
         told.now.trailer.items plan ≡ None) }
-    ensures past { IfNone result (IsPast (asked request.subfile request.unknown request.max) (told_by told.now)) }
+    ensures past { IfNone result (IsPast (asked request.subfile request.unknown request.max) (content_of told.now)) }
 {
     let len = object_len(
         &told.head,
@@ -134,7 +134,7 @@ fn plan_of(request: PackRequest, told: &Script<'_>) -> Option<Plan>
 /// cause is possible if the trailer is valid and a known size is the object's.
 fn fault_for(cause: PackCause, text_line: u64) -> PackFault
     requires { (cause ≡ causes.PastAnnounced) ⊎ (cause ≡ causes.OutOfMemory) ⊎ (cause ≡ causes.Write) }
-    ensures { ComesTo cause text_line result }
+    ensures { IsFaultFor cause text_line result }
 {
     match cause {
         PackCause::PastAnnounced => PackFault::Refused {
@@ -149,7 +149,7 @@ fn fault_for(cause: PackCause, text_line: u64) -> PackFault
 }
 
 /// Packs the contents of a script through a block, and returns the output.
-fn pack_told<W: Target>(
+fn pack_contents<W: Target>(
     alloc: Global,
     request: PackRequest,
     told: &Script<'_>,
@@ -158,16 +158,16 @@ fn pack_told<W: Target>(
     requires trailer { IsTrailer told.now.trailer.items }
     requires text { IsText told.now.text.now (text_lines told.now.text.now) }
     requires len { told.now.text_len ≡ length (packed_text (text_lines told.now.text.now)) }
-    ensures packed { IfOk result (λ last. (octets : List ℕ) → IsScriptOf octets (told_by told.now)
-        → IsPacked (asked request.subfile request.unknown request.max) octets (W.state output) (W.state last)) }
-    ensures unpacked { IfErr result (λ left. (octets : List ℕ) → IsScriptOf octets (told_by told.now)
-        → IsNotPacked (asked request.subfile request.unknown request.max) octets (W.state output) (W.state left.1)
+    ensures packed { IfOk result (λ last. (octets : List ℕ) → IsScriptOf octets (content_of told.now)
+        → WritesForm (asked request.subfile request.unknown request.max) octets (W.state output) (W.state last)) }
+    ensures unpacked { IfErr result (λ left. (octets : List ℕ) → IsScriptOf octets (content_of told.now)
+        → FailsToPack (asked request.subfile request.unknown request.max) octets (W.state output) (W.state left.1)
         left.0) }
 {
     let Some(plan) = plan_of(request, told) else {
         return Err((fault_for(PackCause::PastAnnounced, told.text_line), output));
     };
-    packed_octets_are_one();
+    packed_form_is_unique();
     let mut block = [0u8; BLOCK];
     match pack_text(
         alloc,
@@ -191,7 +191,7 @@ fn pack_told<W: Target>(
 
 /// Converts an error of a script.
 fn fault_of(fault: ScriptFault) -> PackFault
-    ensures { TellsFault fault result }
+    ensures { IsFaultOfScript fault result }
 {
     match fault.cause {
         ScriptCause::OutOfMemory => PackFault::Around(CommandFault::OutOfMemory),
@@ -217,32 +217,32 @@ pub fn pack_octets<W: Target>(
     output: W,
 ) -> Result<W, (PackFault, W)>
     ensures packed { IfOk result (λ last.
-        IsPacked (asked request.subfile request.unknown request.max) octets.now (W.state output) (W.state last)) }
+        WritesForm (asked request.subfile request.unknown request.max) octets.now (W.state output) (W.state last)) }
     ensures unpacked { IfErr result (λ left.
-        IsNotPacked (asked request.subfile request.unknown request.max) octets.now (W.state output) (W.state left.1)
+        FailsToPack (asked request.subfile request.unknown request.max) octets.now (W.state output) (W.state left.1)
         left.0) }
 {
     match read_script(alloc, octets) {
-        Ok(told) => pack_told(alloc, request, &told, output),
+        Ok(told) => pack_contents(alloc, request, &told, output),
         Err(fault) => Err((fault_of(fault), output)),
     }
 }
 
 /// Prints the refusal of a line, and returns the status.
-fn tell_refusal<E: Target>(
+fn print_refusal<E: Target>(
     alloc: Global,
     errors: &mut E,
     line: u64,
     number: u8,
     name: &str,
 ) -> Result<u8, CommandFault>
-    ensures told { IfOk result (IsSaid (E.state errors.old) (E.state errors.new) (refusal_line line number name.now)
+    ensures told { IfOk result (IsPrinted (E.state errors.old) (E.state errors.new) (refusal_line line number name.now)
         status_refused) }
     ensures memory { IfErr result (λ fault. fault ≡ OutOfMemory) }
     ensures nothing { OnErr result (errors.new ≡ errors.old) }
 {
     match format!(in alloc; "refused: script line {line} cause {number} {name}\n") {
-        Ok(text) => Ok(tell(errors, text.as_bytes(), REFUSED)),
+        Ok(text) => Ok(write_with_status(errors, text.as_bytes(), REFUSED)),
         Err(_) => Err(CommandFault::OutOfMemory),
     }
 }
@@ -266,13 +266,13 @@ pub fn pack_script<R: Source, W: Target, E: Target>(
     output: W,
     errors: &mut E,
 ) -> (Result<u8, CommandFault>, W)
-    ensures answered { IfOk result.0 (Answered (asked request.subfile request.unknown request.max)
+    ensures completed { IfOk result.0 (CompletesPack (asked request.subfile request.unknown request.max)
         (devices (R.state reader.old) (W.state output) (E.state errors.old))
         (devices (R.state reader.new) (W.state result.1) (E.state errors.new))) }
-    ensures unanswered { IfErr result.0 (FailsToAnswer (asked request.subfile request.unknown request.max)
+    ensures fails { IfErr result.0 (FailsToComplete (asked request.subfile request.unknown request.max)
         (devices (R.state reader.old) (W.state output) (E.state errors.old))
         (devices (R.state reader.new) (W.state result.1) (E.state errors.new))) }
-    ensures untold { OnErr result.0 (errors.new ≡ errors.old) }
+    ensures prints_nothing { OnErr result.0 (errors.new ≡ errors.old) }
     ensures leads { R.leads reader.old reader.new }
 {
     let octets = match read_input(alloc, reader) {
@@ -282,7 +282,7 @@ pub fn pack_script<R: Source, W: Target, E: Target>(
     match pack_octets(alloc, request, octets.as_slice(), output) {
         Ok(output) => (Ok(ACCEPTED), output),
         Err((PackFault::Refused { line, number, name }, output)) => {
-            (tell_refusal(alloc, errors, line, number, name), output)
+            (print_refusal(alloc, errors, line, number, name), output)
         }
         Err((PackFault::Around(fault), output)) => (Err(fault), output),
     }

@@ -2,7 +2,7 @@
 
 ghost use Rattle.std.specs.Prelude.{◌≡◌, ◌+◌, ◌<◌, ◌≤◌, ◌++◌, ◌∷◌, [], None, false, length, map, IfOk, IfErr, IfSome, IfNone, OnOk, OnErr};
 ghost use Rattle.iim_dataset.specs.Format.Octets.{greatest_size};
-ghost use Rattle.iim_object.specs.States.Writing.{most_of, total_of};
+ghost use Rattle.iim_object.specs.States.Writing.{plan_bound, total_of};
 ghost use Rattle.iim_object.specs.declared.writing.cause.PackCause.TheVariants as causes;
 ghost use Rattle.wire_message.specs.Format.Messages.{IsTrailer, canonical};
 ghost use Rattle.wire_story.specs.Format.Texts.{LineEnd, LineOctet, events_of_lines, IsLine, IsText, packed_text};
@@ -12,7 +12,7 @@ ghost use Rattle.iim_pack.specs.States.Packing.{BreaksOff, ContinuesWith, Length
 ghost use Rattle.iim_script.specs.Format.Scripts.{text_lines};
 
 use iim_dataset::Target;
-use iim_dataset::device_laws::texts_join;
+use iim_dataset::device_laws::writes_join;
 use iim_fields::Envelope;
 use iim_object::{PackCause, Plan, StartFault};
 use iim_pack::Packer;
@@ -46,14 +46,15 @@ pub(crate) fn object_len(
 fn put_line<W: Target>(packer: &mut Packer<W>, line: &[u8]) -> Result<(), PackCause>
     requires line { IsLine line.now }
     requires unfailed { packer.old.object.failed ≡ false }
-    requires fits { total_of packer.old.object + (length line.now + 2 + least_ending) ≤ most_of packer.old.object.plan }
+    requires fits { total_of packer.old.object + (length line.now + 2 + least_ending) ≤ plan_bound
+        packer.old.object.plan }
     ensures ok { OnOk result (Lengthens W.state packer.old packer.new (map LineOctet line.now ++ LineEnd ∷ [])) }
     ensures cause { IfErr result (λ cause. cause ≡ causes.Write) }
     ensures broke { OnErr result (BreaksOff W.state (ContinuesWith (map LineOctet line.now ++ LineEnd ∷ []))
         packer.old packer.new) }
 {
-    texts_join();
-    match packer.known_text(line) {
+    writes_join();
+    match packer.text_unchecked(line) {
         Ok(()) => packer.line_end(),
         Err(cause) => Err(cause),
     }
@@ -65,13 +66,13 @@ fn put_text<W: Target>(packer: &mut Packer<W>, text: &[u8]) -> Result<(), PackCa
     requires unfailed { packer.old.object.failed ≡ false }
     requires fits { total_of packer.old.object
         + (length (packed_events (events_of_lines (text_lines text.now))) + least_ending)
-        ≤ most_of packer.old.object.plan }
+        ≤ plan_bound packer.old.object.plan }
     ensures ok { OnOk result (Lengthens W.state packer.old packer.new (events_of_lines (text_lines text.now))) }
     ensures cause { IfErr result (λ cause. cause ≡ causes.Write) }
     ensures broke { OnErr result (BreaksOff W.state (ContinuesWith (events_of_lines (text_lines text.now)))
         packer.old packer.new) }
 {
-    texts_join();
+    writes_join();
     let mut rest = text;
     while let Some((line, after)) = split_text(rest) {
         match put_line(packer, line) {
@@ -79,11 +80,11 @@ fn put_text<W: Target>(packer: &mut Packer<W>, text: &[u8]) -> Result<(), PackCa
             Err(cause) => return Err(cause),
         }
     }
-    packer.known_text(rest)
+    packer.text_unchecked(rest)
 }
 
 /// Converts a packer whose write failed to an error.
-fn given_back<W: Target>(packer: Packer<W>, cause: PackCause) -> StartFault<W>
+fn write_fault<W: Target>(packer: Packer<W>, cause: PackCause) -> StartFault<W>
     ensures cause { result.cause ≡ cause }
     ensures writer { result.writer ≡ packer.object.writer }
     ensures written { result.written ≡ written_of packer }
@@ -114,7 +115,7 @@ pub(crate) fn pack_text<W: Target>(
     ensures fault { IfErr result (IsStartFault W.state
         (Packed envelope.now head.now (text_lines text.now) trailer.now plan) writer) }
 {
-    texts_join();
+    writes_join();
     lines_are_packed_as_their_events();
     texts_are_delivered_as_lines();
     let mut packer = match Packer::start(alloc, envelope, head, plan, writer) {
@@ -123,10 +124,10 @@ pub(crate) fn pack_text<W: Target>(
     };
     match put_text(&mut packer, text) {
         Ok(()) => {}
-        Err(cause) => return Err(given_back(packer, cause)),
+        Err(cause) => return Err(write_fault(packer, cause)),
     }
     match packer.finish(trailer) {
         Ok(writer) => Ok(writer),
-        Err((packer, cause)) => Err(given_back(packer, cause)),
+        Err((packer, cause)) => Err(write_fault(packer, cause)),
     }
 }

@@ -1,7 +1,7 @@
 -- Octets framed as an envelope, and envelopes: none are empty, none are prefixes of others, and
 -- they have one value.
 use Rattle.std.proofs.Common.{◌≡◌, ℕ, true, false, List, [], ◌∷◌, ◌++◌, ap, sym, subst, ◌∙◌, inl, inr}
-use Rattle.iim_places.proofs.Words.{append-nil, Dataset, SpellsStream, count_octets, NoDatasetBeginsAnother, compare, AreSections, NoSectionsBeginOthers, NoEnvelopeIsEmpty, of_record, kept, RecordsAreByNumber, AreSized, SizesAreDetermined, MessagesHaveOneReading, Value, Admits, object_of, AdmittedOctetsHaveOneValue, NoAdmittedOctetsBeginOthers, AdmittedOctetsAreFramed}
+use Rattle.iim_places.proofs.Words.{append-nil, Dataset, EncodesStream, count_octets, NoDatasetIsAPrefixOfAnother, compare, AreSections, NoSectionsAreAPrefixOfOthers, NoEnvelopeIsEmpty, of_record, kept, RecordsAreByNumber, AreSized, SizesAreDetermined, MessagesHaveOneReading, Value, Admits, object_of, EncodingIsUnambiguous, NoEncodingIsAPrefixOfAnother, EnvelopesAreFramed}
 use Rattle.iim_places.proofs.Objects.{are_records}
 use Rattle.wire_story.specs.Laws.{TextsHaveOneReading}
 use Rattle.iim_tables.specs.Format.Rows.{table}
@@ -16,7 +16,7 @@ no_sections (d ∷ run, rest, parts, good, later) = absurd cc
 pub no_envelope_is_empty : NoEnvelopeIsEmpty
 no_envelope_is_empty limits framed = none framed.datasets framed.spelled framed.sections
   where
-    none : (ds : List Dataset) → SpellsStream count_octets ds [] → AreSections ds → ⊥
+    none : (ds : List Dataset) → EncodesStream count_octets ds [] → AreSections ds → ⊥
     none [] spelled sections = no_sections sections
     none (d ∷ ds) (first, rest, spelled, later, parts) sections =
         let bad = parts ∙ ap (λ l. l ++ rest) (spelled.parts ∙ ap (λ l. l ++ d.octets) spelled.is_tag.parts) in cc
@@ -24,8 +24,9 @@ no_envelope_is_empty limits framed = none framed.datasets framed.spelled framed.
 -- ---- no envelope is a prefix of another
 
 -- Datasets of an envelope that are a prefix of those of another are all of it.
-pub envelope_alone : NoDatasetBeginsAnother → NoSectionsBeginOthers → (ds es : List Dataset) (f z : List ℕ) → SpellsStream count_octets ds f → AreSections ds
-    → SpellsStream count_octets es (f ++ z) → AreSections es → (ds ≡ es) × (z ≡ [])
+pub envelope_alone : NoDatasetIsAPrefixOfAnother → NoSectionsAreAPrefixOfOthers → (ds es : List Dataset) (f z : List ℕ) → EncodesStream count_octets ds f
+    → AreSections ds
+    → EncodesStream count_octets es (f ++ z) → AreSections es → (ds ≡ es) × (z ≡ [])
 envelope_alone one ends ds es f z s a t b =
     elim (compare one ds es f (f ++ z) z [] s t (sym (append-nil (f ++ z)))) [
       | inl (more, r, is, stream, rest) ↦
@@ -38,7 +39,8 @@ envelope_alone one ends ds es f z s a t b =
 
 -- ---- one value
 
-pub one_value : NoDatasetBeginsAnother → NoSectionsBeginOthers → SizesAreDetermined → MessagesHaveOneReading → TextsHaveOneReading → AdmittedOctetsHaveOneValue
+pub one_value : NoDatasetIsAPrefixOfAnother → NoSectionsAreAPrefixOfOthers → SizesAreDetermined → MessagesHaveOneReading → TextsHaveOneReading
+    → EncodingIsUnambiguous
 one_value one ends determined messages texts octets v w a b =
     let same = (envelope_alone one ends a.datasets b.datasets octets [] a.spelled a.sections (rw append-nil b.spelled) b.sections).0 in
     let read = messages (object_of a.datasets) v.head w.head a.text b.text v.trailer w.trailer a.message (rw (← same) at b.message) in
@@ -47,7 +49,7 @@ one_value one ends determined messages texts octets v w a b =
     let sizes = determined (of_record 7 a.datasets) (of_record 8 a.datasets) (of_record 9 a.datasets) v.sizes w.sizes a.sizes (rw (← same) at b.sizes) in
     λ i. record { fields = fields i; head = read.0 i; lines = lines i; trailer = read.2 i; sizes = sizes i }
 
-pub no_others : NoDatasetBeginsAnother → NoSectionsBeginOthers → NoAdmittedOctetsBeginOthers
+pub no_others : NoDatasetIsAPrefixOfAnother → NoSectionsAreAPrefixOfOthers → NoEncodingIsAPrefixOfAnother
 no_others one ends octets rest v w a b = (envelope_alone one ends a.datasets b.datasets octets rest a.spelled a.sections b.spelled b.sections).1
 
 -- ---- framed octets
@@ -59,6 +61,6 @@ sized_by by_number octets v a =
     let is = by_number a.datasets records in
     record { records = records; sizes = v.sizes; have = rw (is.sevens, is.eights, is.nines) at a.sizes }
 
-pub framed_of : AdmittedOctetsAreFramed
+pub framed_of : EnvelopesAreFramed
 framed_of limits octets v a within =
     record { datasets = a.datasets; spelled = a.spelled; sections = a.sections; sizes = v.sizes; agree = a.sizes; within = within }

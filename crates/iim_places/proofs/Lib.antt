@@ -1,7 +1,7 @@
 pub mod Words
 pub mod AfterEnd
 pub mod Living
-pub mod StoryDies
+pub mod StoryRejects
 pub mod Bounds
 pub mod Fronts
 pub mod Objects
@@ -12,7 +12,7 @@ pub mod Lowest
 pub mod Results
 pub mod Lasts
 pub mod Following
-pub mod Answering
+pub mod StreamResults
 pub mod Tickets
 pub mod TicketLengths
 pub mod SameRecords
@@ -26,12 +26,12 @@ pub mod ByLayers
 pub mod Taking
 pub mod AtPlaces
 pub mod ObjectPlaces
-pub mod SameTold
-pub mod Onward
+pub mod SameStates
+pub mod Continuations
 pub mod Saved
 pub mod SmallTags
 pub mod Scales
 pub mod Listings
-pub mod PlacesTold
+pub mod PlacesOfTickets
 pub mod ReadersAt
 pub mod ObjectOctets

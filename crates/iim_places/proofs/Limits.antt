@@ -1,6 +1,6 @@
 -- What further datasets add to the limits.
 use Rattle.std.proofs.Common.{◌≡◌, ◌+◌, nat_eq, List, ◌∷◌, ◌++◌, length, ap, ◌∙◌, arith, length-append}
-use Rattle.iim_places.proofs.Words.{filter-append, flat_map-append, Dataset, head_of, of_record, kept, kept_octets, is_kept, Limits, AreWithin, HaveRoom}
+use Rattle.iim_places.proofs.Words.{filter-append, flat_map-append, Dataset, head_of, of_record, kept, kept_octets, is_kept, Limits, AreWithinLimits, HeadFits}
 use Rattle.iim_fields.specs.Format.Causes.{joined}
 
 -- ---- datasets after others
@@ -17,7 +17,7 @@ pub kept_length_append : (ds es : List Dataset) → length (kept (ds ++ es)) ≡
 kept_length_append ds es = ap length (kept_append ds es) ∙ length-append (kept ds) (kept es)
 
 -- Bounds of all datasets hold of the first of them.
-pub within_front : (limits : Limits) (ds es : List Dataset) → AreWithin limits (ds ++ es) → AreWithin limits ds
+pub within_front : (limits : Limits) (ds es : List Dataset) → AreWithinLimits limits (ds ++ es) → AreWithinLimits limits ds
 within_front limits ds es within = grind (
   arith,
   within,
@@ -28,8 +28,9 @@ within_front limits ds es within = grind (
 )
 
 -- Bounds of all datasets hold of each.
-pub leaves_room : (limits : Limits) (ds : List Dataset) (d : Dataset) (more : List Dataset) → AreWithin limits (ds ++ d ∷ more) → HaveRoom limits ds (head_of d)
-leaves_room limits ds d more within =
+pub within_limits : (limits : Limits) (ds : List Dataset) (d : Dataset) (more : List Dataset) → AreWithinLimits limits (ds ++ d ∷ more) → HeadFits limits ds
+    (head_of d)
+within_limits limits ds d more within =
     let octets = length-append d.octets (joined (kept more)) in
     grind (
       arith,

@@ -1,9 +1,9 @@
 -- Each prefix of a viable prefix is a viable prefix.
 use Rattle.std.proofs.Common.{inl, inr, ◌≡◌, ℕ, ◌+◌, ◌<◌, Bool, true, false, ◌==◌, if◌then◌else◌, List, [], ◌∷◌, ◌++◌, length, take, drop, map, refl, ap, sym, subst, ◌∙◌, arith, append-nil, append_assoc}
-use Rattle.iim_places.proofs.Words.{cases_Bool, IsAlive, list_any, position_or_len, before_first, after_first, drop-append-le, take-append-le, map-append, list_any-append, drop-append-add, take-append-add, take-length, OctetOrEnd, Octet, End, StoryLanguage, MessageLanguage, MessageLivesWith, StoryLivesIn, after_stx}
+use Rattle.iim_places.proofs.Words.{cases_Bool, IsViablePrefix, list_any, position_or_len, before_first, after_first, drop-append-le, take-append-le, map-append, list_any-append, drop-append-add, take-append-add, take-length, OctetOrEnd, Octet, End, StoryLanguage, MessageLanguage, IsViableMessage, HasViableStory, after_stx}
 
-pub alive_front : {T : Type 0} (L : List T → Type 0) (xs ys : List T) → IsAlive L (xs ++ ys) → IsAlive L xs
-alive_front L xs ys alive = (ys ++ alive.0, subst L (append_assoc xs ys alive.0) alive.1)
+pub viable_prefix : {T : Type 0} (L : List T → Type 0) (xs ys : List T) → IsViablePrefix L (xs ++ ys) → IsViablePrefix L xs
+viable_prefix L xs ys alive = (ys ++ alive.0, subst L (append_assoc xs ys alive.0) alive.1)
 
 -- ---- the first octet of a kind, in octets and in more of them
 
@@ -52,25 +52,25 @@ is_stx b = b == 2
 abbrev pub tokens_after_stx : List ℕ → List OctetOrEnd
 tokens_after_stx x = map Octet (before_first is_etx x) ++ (if list_any is_etx x then End ∷ [] else [])
 
-after_front : (x y : List ℕ) → IsAlive StoryLanguage (tokens_after_stx (x ++ y)) → IsAlive StoryLanguage (tokens_after_stx x)
-after_front x y alive = elim (cases_Bool (list_any is_etx x)) [
+after_prefix : (x y : List ℕ) → IsViablePrefix StoryLanguage (tokens_after_stx (x ++ y)) → IsViablePrefix StoryLanguage (tokens_after_stx x)
+after_prefix x y alive = elim (cases_Bool (list_any is_etx x)) [
   | inl found ↦ rw found (rw (before_found is_etx x y found, list_any-append is_etx x y, found) at alive)
   | inr none ↦
       let later = map Octet (before_first is_etx y) ++ (if list_any is_etx (x ++ y) then End ∷ [] else []) in
-      let whole : IsAlive StoryLanguage (map Octet x ++ later) =
+      let whole : IsViablePrefix StoryLanguage (map Octet x ++ later) =
       rw (before_later is_etx x y none, map-append Octet x (before_first is_etx y), append_assoc) at alive in
-      rw (before_all is_etx x none, none, append-nil) (alive_front StoryLanguage (map Octet x) later whole)
+      rw (before_all is_etx x none, none, append-nil) (viable_prefix StoryLanguage (map Octet x) later whole)
 ]
 
 -- The story can continue after fewer octets.
-pub story_front : (x y : List ℕ) → StoryLivesIn (x ++ y) → StoryLivesIn x
-story_front x y alive = elim (cases_Bool (list_any is_stx x)) [
-  | inl found ↦ after_front (after_stx x) y (rw (after_found is_stx x y found) at alive)
-  | inr none ↦ rw (after_none is_stx x none) (alive_front StoryLanguage [] (tokens_after_stx (after_stx (x ++ y))) alive)
+pub story_prefix : (x y : List ℕ) → HasViableStory (x ++ y) → HasViableStory x
+story_prefix x y alive = elim (cases_Bool (list_any is_stx x)) [
+  | inl found ↦ after_prefix (after_stx x) y (rw (after_found is_stx x y found) at alive)
+  | inr none ↦ rw (after_none is_stx x none) (viable_prefix StoryLanguage [] (tokens_after_stx (after_stx (x ++ y))) alive)
 ]
 
 -- A message can continue after fewer octets.
-pub message_front : (x y : List ℕ) (ts : List OctetOrEnd) → IsAlive MessageLanguage (map Octet (x ++ y) ++ ts) → MessageLivesWith x
-message_front x y ts alive =
-    alive_front MessageLanguage (map Octet x) (map Octet y ++ ts)
+pub message_prefix : (x y : List ℕ) (ts : List OctetOrEnd) → IsViablePrefix MessageLanguage (map Octet (x ++ y) ++ ts) → IsViableMessage x
+message_prefix x y ts alive =
+    viable_prefix MessageLanguage (map Octet x) (map Octet y ++ ts)
     (rw (map-append Octet x y, append_assoc) at alive)

@@ -1,6 +1,6 @@
 -- The octets of the object: with one more dataset, and with its end.
 use Rattle.std.proofs.Common.{◌≡◌, ℕ, Bool, true, false, nat_eq, if◌then◌else◌, List, [], ◌++◌, ap, ◌∙◌, append-nil, ◌<◌, ◌≤◌, cond, ◌∷◌, length, refl, arith, map, sym, subst}
-use Rattle.iim_places.proofs.Words.{ne_eqb, IsAlive, Dataset, of_record, InData, Head, object_of, object_so_far, flat_map-append, filter-append, max_subfiles, End, Octet, with_end, MessageLanguage, MessageLivesWith, IsOctet, Octets, all_front}
+use Rattle.iim_places.proofs.Words.{ne_eqb, IsViablePrefix, Dataset, of_record, InData, Head, object_of, object_so_far, flat_map-append, filter-append, max_subfiles, End, Octet, with_end, MessageLanguage, IsViableMessage, IsOctet, Octets, all_front}
 use Rattle.iim_places.proofs.Places.{one_more}
 use Rattle.iim_fields.specs.Format.Causes.{joined}
 use Rattle.wire_story.proofs.SoFar.{front_of}
@@ -21,14 +21,14 @@ pub few_more : (ds : List Dataset) (d : Dataset) → length (of_record 8 ds) ≤
 few_more ds d few room = grind (arith, one_more ds d, room)
 
 -- a complete message, with or without its end
-pub lives_whole : (o : List ℕ) (b : Bool) → MessageLivesWith o → (b ≡ true → MessageLanguage (with_end o))
-    → IsAlive MessageLanguage (map Octet o ++ (if b then End ∷ [] else []))
+pub lives_whole : (o : List ℕ) (b : Bool) → IsViableMessage o → (b ≡ true → MessageLanguage (with_end o))
+    → IsViablePrefix MessageLanguage (map Octet o ++ (if b then End ∷ [] else []))
 lives_whole o true lives whole = ([], subst MessageLanguage (sym (append-nil (map Octet o ++ End ∷ []))) (whole refl))
-lives_whole o false lives whole = subst (IsAlive MessageLanguage) (sym (append-nil (map Octet o))) lives
+lives_whole o false lives whole = subst (IsViablePrefix MessageLanguage) (sym (append-nil (map Octet o))) lives
 
 -- ---- The octets from which a message can be completed are octets.
 
-pub living_octets : (o : List ℕ) → MessageLivesWith o → Octets o
+pub living_octets : (o : List ℕ) → IsViableMessage o → Octets o
 living_octets o (rest, m) =
     let f = front_of o m.object rest m.tokens_are in
     all_front IsOctet o f.0 (subst Octets f.1 (message_octets m.object m.head m.text m.trailer m.message))

@@ -1,6 +1,6 @@
 -- The records of an envelope are those that state the sizes of its object.
 use Rattle.std.proofs.Common.{◌<◌, refl, List, ◌++◌, arith, append-nil, append_assoc}
-use Rattle.iim_places.proofs.Words.{Dataset, IsAlive, all_append, all_map, AreSections, AreObjectRecords}
+use Rattle.iim_places.proofs.Words.{Dataset, IsViablePrefix, all_append, all_map, AreSections, AreObjectRecords}
 use Rattle.iim_fields.specs.Format.Records as sections
 
 -- ---- the records of an envelope
@@ -21,5 +21,5 @@ are_records ds (r1, from2, one, good1, (r2, from7, two, good2, (r7, from8, seven
 }
 
 -- What continues to an envelope continues to such records.
-pub records_alive : (ds : List Dataset) → sections.SectionsLive ds → IsAlive AreObjectRecords ds
+pub records_alive : (ds : List Dataset) → sections.AreViableSections ds → IsViablePrefix AreObjectRecords ds
 records_alive ds alive = (alive.0, are_records (ds ++ alive.0) alive.1)

@@ -1,6 +1,6 @@
 -- The rows of records 7, 8 and 9, number by number.
 use Rattle.std.proofs.Common.{◌≡◌, ℕ, false, nat_eq, List, [], ◌∷◌, None, refl}
-use Rattle.iim_places.proofs.Words.{Meets, none_meets}
+use Rattle.iim_places.proofs.Words.{OctetsMeetRow, none_meets}
 use Rattle.iim_fields.proofs.Sections.{one_of}
 use Rattle.iim_tables.specs.Format.Rows.{table, row_of}
 
@@ -28,5 +28,5 @@ pub nine_has : HasTen 9
 unfolding row_of table
 nine_has n e = rw e refl
 
-pub by_ten : (r : ℕ) → HasTen r → (xs : List ℕ) (P : ℕ → Type 0) → (Meets r 10 xs → P 10) → (n : ℕ) → Meets r n xs → P n
-by_ten r none xs P ten n = one_of (λ (k : ℕ). Meets r k xs → P k) n (10 ∷ []) (ten, tt) (λ apart h. absurd (none_meets r n xs (none n apart.0.0) h))
+pub by_ten : (r : ℕ) → HasTen r → (xs : List ℕ) (P : ℕ → Type 0) → (OctetsMeetRow r 10 xs → P 10) → (n : ℕ) → OctetsMeetRow r n xs → P n
+by_ten r none xs P ten n = one_of (λ (k : ℕ). OctetsMeetRow r k xs → P k) n (10 ∷ []) (ten, tt) (λ apart h. absurd (none_meets r n xs (none n apart.0.0) h))

@@ -1,12 +1,12 @@
 -- Tags whose counts have fewer octets.
 use Rattle.std.proofs.Common.{◌≡◌, ℕ, ◌<◌, ◌≤◌, List, [], ◌∷◌, ◌++◌, length, get_or, refl, ap, sym, ◌∙◌, inr, arith, append_assoc, length-append}
-use Rattle.iim_places.proofs.{Following.longer_front, Words.cases_lt, Words.SpellsCount, Words.SpellsTag, Words.count_octets, Words.BeginsTag, Words.Head}
+use Rattle.iim_places.proofs.{Following.longer_prefix, Words.cases_lt, Words.EncodesCount, Words.EncodesTag, Words.count_octets, Words.BeginsTag, Words.Head}
 
 -- a count with fewer octets is one with more
-wider_count : (limit most n : ℕ) (xs : List ℕ) → limit ≤ most → SpellsCount limit n xs → SpellsCount most n xs
+wider_count : (limit most n : ℕ) (xs : List ℕ) → limit ≤ most → EncodesCount limit n xs → EncodesCount most n xs
 wider_count limit most n xs le spelled = grind arith
 
-pub wider_tag : (limit most : ℕ) (h : Head) (tag : List ℕ) → limit ≤ most → SpellsTag limit h tag → SpellsTag most h tag
+pub wider_tag : (limit most : ℕ) (h : Head) (tag : List ℕ) → limit ≤ most → EncodesTag limit h tag → EncodesTag most h tag
 wider_tag limit most h tag le s = record {
   rec = s.rec;
   set = s.set;
@@ -27,7 +27,7 @@ fourth held more count r s long e = absurd (omega (arith, long))
 short_begins : (limit r s low : ℕ) (held more rest : List ℕ) → 1 ≤ limit → r < 256 → s < 256 → length held < 5 → held ++ more ≡ 28 ∷ r ∷ s ∷ 128 ∷ low ∷ rest
     → BeginsTag limit held
 short_begins limit r s low held more rest one small less short e =
-    let (m, is) = longer_front held more (28 ∷ r ∷ s ∷ 128 ∷ []) (low ∷ rest) e (omega (arith, short)) in
+    let (m, is) = longer_prefix held more (28 ∷ r ∷ s ∷ 128 ∷ []) (low ∷ rest) e (omega (arith, short)) in
     let parts = sym (append_assoc held m (1 ∷ 0 ∷ [])) ∙ ap (λ (xs : List ℕ). xs ++ 1 ∷ 0 ∷ []) (sym is) in record {
       head = record { rec = r; set = s; count = 0 };
       more = m ++ 1 ∷ 0 ∷ [];

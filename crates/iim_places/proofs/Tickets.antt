@@ -1,11 +1,11 @@
 -- The ticket written for an unpacker is that of the octets that it has consumed.
 use Rattle.std.proofs.Common.{◌≡◌, ℕ, ◌+◌, ◌-◌, Bool, if◌then◌else◌, List, [], ◌∷◌, ◌++◌, length, sum, Option, refl, ap, sym, ◌∙◌, arith, append-nil, length-append}
-use Rattle.iim_places.proofs.Words.{same_Some, length-map, Dataset, of_record, Begun, LowerLaws, sum_cons, sum_append, SubfileBegun, lengths_of, numbers_of, place_after_datasets, place_ended, OctetsLeadToOnePlace, saved, LeadsToSaved, MessagePlace, object_of, object_so_far, place_of, ticket_of, OctetsHaveOneTicket}
-use Rattle.iim_places.proofs.Answering.{one_reading}
+use Rattle.iim_places.proofs.Words.{same_Some, length-map, Dataset, of_record, PartialDataset, LayerLemmas, sum_cons, sum_append, SubfileBegun, lengths_of, numbers_of, place_after_datasets, place_ended, OctetsDetermineTheMessageState, saved, ReachesSavedState, MessagePlace, object_of, object_so_far, place_of, ticket_of, OctetsHaveOneTicket}
+use Rattle.iim_places.proofs.StreamResults.{one_reading}
 use Rattle.iim_fields.specs.Format.Causes.{joined}
 use Rattle.iim_object.specs.Format.Objects as objects
 use Rattle.wire_message.specs.States.Reading as wire
-use Rattle.wire_message.specs.States.Reading.{IsAt}
+use Rattle.wire_message.specs.States.Reading.{ReaderHasSavedState}
 use Rattle.wire_message.specs.declared.place.Place.{Place as Message}
 
 -- ---- lengths
@@ -49,23 +49,24 @@ pub taken_by : (b c : Bool) (ds : List Dataset) (taken : List ℕ) (count left :
     → sum (at_by b c ds count).lengths - (if b then left else 0) ≡ length (object_of ds ++ (if b then taken else []))
 taken_by b c ds taken count left e = omega (arith, so_far_by b c ds taken count left e)
 
-pub message_at : (reader : Option Message) (octets text : List ℕ) (m : MessagePlace) → wire.StandsAt reader octets text → IsAt reader m
-    → LeadsToSaved octets text m
+pub message_at : (reader : Option Message) (octets text : List ℕ) (m : MessagePlace) → wire.MessageReaderHasRead reader octets text
+    → ReaderHasSavedState reader m
+    → ReachesSavedState octets text m
 message_at reader octets text m (at, is, leads) (place, has, same) = let one : at ≡ place = same_Some _ _ (sym is ∙ has) in (at, leads, ap saved one ∙ same)
 
 -- ---- one ticket
 
-pub same_place : OctetsLeadToOnePlace → (whole es : List Dataset) (b c : Begun) (m n : MessagePlace) (t v : List ℕ) → whole ≡ es → b ≡ c
-    → LeadsToSaved (object_so_far whole b) t m → LeadsToSaved (object_so_far es c) v n → place_of whole b m ≡ place_of es c n
+pub same_place : OctetsDetermineTheMessageState → (whole es : List Dataset) (b c : PartialDataset) (m n : MessagePlace) (t v : List ℕ) → whole ≡ es → b ≡ c
+    → ReachesSavedState (object_so_far whole b) t m → ReachesSavedState (object_so_far es c) v n → place_of whole b m ≡ place_of es c n
 same_place one whole es b c m n t v is same (at, leads, saves) (other, goes, keeps) =
     let octets : object_so_far es c ≡ object_so_far whole b = λ i. object_so_far (sym is i) (sym same i) in
     let met = (one (object_so_far whole b) t v at other leads (rw octets at goes)).1 in
     λ i. place_of (is i) (same i) ((sym saves ∙ ap saved met ∙ keeps) i)
 
-pub one_ticket : LowerLaws → OctetsHaveOneTicket
+pub one_ticket : LayerLemmas → OctetsHaveOneTicket
 one_ticket laws octets ticket other x y =
     let a = x.is_place in
     let b = y.is_place in
     let is = one_reading laws octets a.whole b.whole a.begun b.begun a.reads b.reads in
-    let same = same_place laws.one_place a.whole b.whole a.begun b.begun a.message b.message a.text b.text is.whole_is is.begun_is a.leads b.leads in
+    let same = same_place laws.one_place a.whole b.whole a.begun b.begun a.message b.message a.text b.text is.whole_is is.partial_is a.leads b.leads in
     x.spelled ∙ ap ticket_of (a.is_place ∙ same ∙ sym b.is_place) ∙ sym y.spelled

@@ -7,4 +7,4 @@ pub mod Laws
 -- Definitions that only proofs and private clauses cite.
 pub mod TicketParts
 pub mod Restoring
-pub mod Nowhere
+pub mod NullObjectSink

@@ -2,7 +2,7 @@
 
 ghost use Rattle.std.specs.Prelude.{◌≡◌, Some};
 ghost use Rattle.iim_places.specs.Format.Faults.{token_text};
-ghost use Rattle.iim_places.specs.Format.Causes.{of_field, size_on, too_many_on, message_on, layer_of, layer_of_message};
+ghost use Rattle.iim_places.specs.Format.Causes.{fault_of_record, size_fault_on, count_fault_on, message_fault_on, layer_of, layer_of_message};
 
 use crate::refusal::{Cause, Layer};
 use iim_dataset::{DatasetName, Head};
@@ -54,8 +54,8 @@ fn field_layer(cause: FieldCause) -> Layer
 }
 
 /// Converts an error of the record layer or the limits.
-pub fn of_field(fault: FieldFault) -> TokenFault
-    ensures { result ≡ of_field fault }
+pub fn fault_of_record(fault: FieldFault) -> TokenFault
+    ensures { result ≡ fault_of_record fault }
 {
     TokenFault {
         layer: field_layer(fault.cause),
@@ -66,8 +66,8 @@ pub fn of_field(fault: FieldFault) -> TokenFault
 }
 
 /// Returns the error of the object layer for a cause, on the dataset of `head`.
-pub fn size_on(head: Head, cause: SizeCause) -> TokenFault
-    ensures { result ≡ size_on head cause }
+pub fn size_fault_on(head: Head, cause: SizeCause) -> TokenFault
+    ensures { result ≡ size_fault_on head cause }
 {
     TokenFault {
         layer: Layer::Object,
@@ -78,8 +78,8 @@ pub fn size_on(head: Head, cause: SizeCause) -> TokenFault
 }
 
 /// Returns the error for a head that begins one subfile more than the limit allows.
-pub fn too_many_on(head: Head) -> TokenFault
-    ensures { result ≡ too_many_on head }
+pub fn count_fault_on(head: Head) -> TokenFault
+    ensures { result ≡ count_fault_on head }
 {
     TokenFault {
         layer: Layer::Limits,
@@ -100,8 +100,8 @@ fn message_layer(cause: MessageCause) -> Layer
 }
 
 /// Returns the error of the message, the story or the sink for a cause, on the dataset of `head`.
-pub fn message_on(head: Head, cause: MessageCause) -> TokenFault
-    ensures { result ≡ message_on head cause }
+pub fn message_fault_on(head: Head, cause: MessageCause) -> TokenFault
+    ensures { result ≡ message_fault_on head cause }
 {
     TokenFault {
         layer: message_layer(cause),

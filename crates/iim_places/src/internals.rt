@@ -1,7 +1,9 @@
 //! Internals for the crates above in this repository. They are no part of the public interface and
 //! may change in any release.
 
-pub use crate::fault::{TokenFault, message_on, of_field, size_on, too_many_on};
+pub use crate::fault::{
+    TokenFault, count_fault_on, fault_of_record, message_fault_on, size_fault_on,
+};
 pub use crate::form::{ENDED, FIRST_VERSION, IN_DATA, IN_TAG, PRESENT_VERSION};
 pub use crate::ticket::possible::{Readers, readers_at};
 pub use crate::ticket::readers::part_number;

@@ -1,26 +1,26 @@
 //! Lemmas about envelopes, streams, positions and tickets.
 
-ghost use Rattle.iim_places.specs.Laws.{LowerLaws, PlaceLaws};
+ghost use Rattle.iim_places.specs.Laws.{LayerLemmas, PlaceLaws};
 
 use iim_dataset::laws::dataset_laws;
 use iim_fields::laws::record_laws;
 use iim_object::laws::object_laws;
 use wire_message::MessageReader;
-use wire_message::laws::{message_laws, places_are_saved_apart, readers_stand_at_living_octets};
+use wire_message::laws::{message_laws, readers_consume_viable_octets, saved_states_are_distinct};
 use wire_story::laws::story_laws;
 
 /// Collects the lemmas of the lower crates in one record, which the functions here and the proofs
 /// of the crates above use.
-pub fn lower_laws()
-    ensures { LowerLaws }
+pub fn layer_lemmas()
+    ensures { LayerLemmas }
 {
     dataset_laws();
     record_laws();
     object_laws();
     story_laws();
     message_laws();
-    readers_stand_at_living_octets();
-    places_are_saved_apart();
+    readers_consume_viable_octets();
+    saved_states_are_distinct();
 }
 
 /// Proves the lemmas about envelopes, streams, positions and tickets. The record has a field for
@@ -28,7 +28,7 @@ pub fn lower_laws()
 pub fn place_laws()
     ensures { PlaceLaws }
 {
-    lower_laws();
+    layer_lemmas();
     object_laws();
     story_laws();
     message_laws();

@@ -3,10 +3,10 @@
 //! Depends on the layers `iim_dataset`, `iim_fields`, `iim_object`, `wire_message` and
 //! `wire_story`, and contains no unpacker. It defines:
 //!
-//! - the one result of a stream (`streams_have_one_answer`), and how the error of each layer is
+//! - the one result of a stream (`streams_have_one_result`), and how the error of each layer is
 //!   reported ([`Refusal`]);
 //! - the one position that octets reach (`octets_have_one_place`), on which all continuations
-//!   depend (`places_continue_alike`);
+//!   depend (`places_determine_continuations`);
 //! - the parts of a ticket ([`split_ticket`]);
 //! - for the unpacker only, the readers at a position ([`internals`]).
 //!

@@ -21,8 +21,8 @@ use Rattle.iim_request.specs.declared.request.UsageFault.TheVariants as usage
 use Rattle.clap.specs.declared.error.kind.ErrorKind.TheVariants.{ArgumentConflict}
 use Rattle.iim_request.specs.declared.request.{Files.Files, FilesRequest.FilesRequest, Request.Request}
 use Rattle.iim_request.specs.declared.request.Files.TheVariants as files
-use Rattle.iim_request.specs.Format.{AreNamed, AsksFiles, AsksFor, AsksForFiles, GivesNumber, IsFaultOf, IsMade, NamesBoth, IsFilesFault, IsFilesFaultOf, IsFlag, IsInstant, IsJobFault, IsSubfile, NamesCommand, TellsPacking, program, text_given}
-use Rattle.iim_request.specs.Verbs.{IsForOne, IsForOthers, IsFoundOf, verb_name}
+use Rattle.iim_request.specs.Format.{AreNamedFiles, AreFilesOf, IsRequestOf, IsFilesRequestOf, IsNumberOption, IsUsageErrorOf, IsErrorOfKind, NamesBoth, IsFilesFault, IsFilesUsageErrorOf, IsFlagOption, IsInstant, IsJobFault, IsSubfile, NamesCommand, HasPackOptions, program, text_of_option}
+use Rattle.iim_request.specs.Verbs.{IsOneFileRequest, IsRejectedFilesRequest, AreMatchesOf, verb_name}
 
 program_simple : is_simple program ≡ true
 unfolding clap_on_literals
@@ -35,15 +35,15 @@ program_free = refl
 -- ---- valid arguments name the command
 
 -- two steps give no kind only if the second gives no kind
-second_none : (x y : Kinds) → or_else x y ≡ [] → y ≡ []
-second_none [] y e = e
-second_none (k ∷ ks) y e = cc
+or_else_none : (x y : Kinds) → or_else x y ≡ [] → y ≡ []
+or_else_none [] y e = e
+or_else_none (k ∷ ks) y e = cc
 
 -- if the last checks give no kind, a required subcommand is present
-wanted_there : (help there argument : Bool) → check_kinds help (not there && true) argument ≡ [] → there ≡ true
-wanted_there true there argument e = cc
-wanted_there false true argument e = refl
-wanted_there false false argument e = cc
+has_subcommand : (help there argument : Bool) → check_kinds help (not there && true) argument ≡ [] → there ≡ true
+has_subcommand true there argument e = cc
+has_subcommand false true argument e = refl
+has_subcommand false false argument e = cc
 
 pub command_named : (words : List Text) → fault_of program words ≡ [] → is_some (subcommand_of program words) ≡ true
 command_named words e =
@@ -58,10 +58,10 @@ command_named words e =
     let settles = settle_fault top.rules top.args_override_self ending.held in
     let below = entered_fault (built program) ending.stopped in
     let walks = walk_fault top names (walk_from nothing_held) after in
-    wanted_there (not there && (top.arg_required_else_help && not (list_any (λ r. explicit_source r.source) rows))) there
+    has_subcommand (not there && (top.arg_required_else_help && not (list_any (λ r. explicit_source r.source) rows))) there
     (not (top.subcommand_negates_reqs && there) && list_any (λ a. a.required && not (is_given a.id rows)) top.rules)
-    (second_none defaults checks (second_none settles (or_else defaults checks) (second_none below (or_else settles (or_else defaults checks))
-    (second_none walks (or_else below (or_else settles (or_else defaults checks))) e))))
+    (or_else_none defaults checks (or_else_none settles (or_else defaults checks) (or_else_none below (or_else settles (or_else defaults checks))
+    (or_else_none walks (or_else below (or_else settles (or_else defaults checks))) e))))
 
 -- It is one of these names.
 abbrev NamedIn : List Shape → Text → Type 0
@@ -78,29 +78,30 @@ first_or_other s subs true words rest found others e =
 first_or_other s subs false words rest found others e = inr (others e)
 
 -- the subcommand that is named is one of them
-found_in : (subs : List Shape) (word : Text) (words : List Text) (found : Text × List Row)
+found_is_subcommand : (subs : List Shape) (word : Text) (words : List Text) (found : Text × List Row)
     → option_map (λ t. rows_at t words) (find (λ t. answers_to word (label_of t)) subs) ≡ Some found → NamedIn subs found.0
-found_in [] word words found e = cc
-found_in (s ∷ subs) word words found e =
-    first_or_other s subs (answers_to word (label_of s)) words (find (λ t. answers_to word (label_of t)) subs) found (found_in subs word words found) e
+found_is_subcommand [] word words found e = cc
+found_is_subcommand (s ∷ subs) word words found e =
+    first_or_other s subs (answers_to word (label_of s)) words (find (λ t. answers_to word (label_of t)) subs) found
+    (found_is_subcommand subs word words found) e
 
 entered_in : (subs : List Shape) (stop : Option (Text × List Text)) (found : Text × List Row)
     → option_and_then (λ p. option_map (λ t. rows_at t p.1) (find (λ t. answers_to p.0 (label_of t)) subs)) stop ≡ Some found → NamedIn subs found.0
 entered_in subs None found e = cc
-entered_in subs (Some p) found e = found_in subs p.0 p.1 found e
+entered_in subs (Some p) found e = found_is_subcommand subs p.0 p.1 found e
 
 -- a name of one of the program's commands is that of a verb
-verb_of : (name : Text) → NamedIn (built program).subs name → (verb : Verb) × (name ≡ verb_name verb)
-verb_of name (inl is) = (Check, is)
-verb_of name (inr (inl is)) = (Show, is)
-verb_of name (inr (inr (inl is))) = (Story, is)
-verb_of name (inr (inr (inr (inl is)))) = (Pack, is)
-verb_of name (inr (inr (inr (inr (inl is))))) = (Audit, is)
-verb_of name (inr (inr (inr (inr (inr none))))) = absurd none
+name_is_of_verb : (name : Text) → NamedIn (built program).subs name → (verb : Verb) × (name ≡ verb_name verb)
+name_is_of_verb name (inl is) = (Check, is)
+name_is_of_verb name (inr (inl is)) = (Show, is)
+name_is_of_verb name (inr (inr (inl is))) = (Story, is)
+name_is_of_verb name (inr (inr (inr (inl is)))) = (Pack, is)
+name_is_of_verb name (inr (inr (inr (inr (inl is))))) = (Audit, is)
+name_is_of_verb name (inr (inr (inr (inr (inr none))))) = absurd none
 
 named_verb : (words : List Text) (found : Text × List Row) → subcommand_of program words ≡ Some found → (verb : Verb) × (found.0 ≡ verb_name verb)
 named_verb words found e =
-    verb_of found.0 (entered_in (built program).subs
+    name_is_of_verb found.0 (entered_in (built program).subs
     (walk (built program).top.rules (names_of (built program)) nothing_held (argument_words program words)).stopped found e)
 
 -- a command that was found, of a verb, with its rows
@@ -132,8 +133,8 @@ names_verb words m none same =
     (found.0, name_in_rows m ∙ ap (option_map (λ p. p.0)) (same ∙ found.2))
 
 -- so a command was found
-pub names_one : (words : List Text) (m : ArgMatches) → IsFoundOf words m → None ≡ subcommand_name_of m → ⊥
-names_one words m found none =
+pub a_command_is_named : (words : List Text) (m : ArgMatches) → AreMatchesOf words m → None ≡ subcommand_name_of m → ⊥
+a_command_is_named words m found none =
     let e : None ≡ Some (verb_name (names_verb words m found.faultless found.command).0) = none ∙ (names_verb words m found.faultless found.command).1 in
     cc
 
@@ -153,9 +154,9 @@ names words m f name none same rows named =
     }
 
 -- if the command is the program, what clap found is what the arguments name
-pub were_found : (words : List Text) (a : App) (m : ArgMatches) → a ≡ program → (is_simple_and_free a ≡ true → fault_of a words ≡ [])
-    → (is_simple a ≡ true → subcommand_rows_of m ≡ subcommand_of a words) → IsFoundOf words m
-were_found words a m is none rows =
+pub matches_of_program : (words : List Text) (a : App) (m : ArgMatches) → a ≡ program → (is_simple_and_free a ≡ true → fault_of a words ≡ [])
+    → (is_simple a ≡ true → subcommand_rows_of m ≡ subcommand_of a words) → AreMatchesOf words m
+matches_of_program words a m is none rows =
     record { faultless = rw is at (none (rw is program_free)); command = rw is at (rows (rw is program_simple)) }
 
 -- ---- the values of a command's options
@@ -174,15 +175,15 @@ pub no_instant_of : (f : Found) (given : Option (Bor Text)) (text : Bor Text) (e
     → (now : ℤ) → IsInstant (first_of (codes "now") (rows_of f)) now → ⊥
 no_instant_of f given text error some is parsed now = rw (← first_value-rows f (codes "now"), ← is, some) (λ told. cc)
 
-flag : (o : Option Text) (u : Bool) → (o ≡ None → u ≡ false) → (o ≡ Some (codes "true") → u ≡ true) → (o ≡ Some (codes "false") → u ≡ false) → IsFlag o u
+flag : (o : Option Text) (u : Bool) → (o ≡ None → u ≡ false) → (o ≡ Some (codes "true") → u ≡ true) → (o ≡ Some (codes "false") → u ≡ false) → IsFlagOption o u
 flag None u none value other = none refl
 flag (Some t) u none value other = (λ e. value (rw e refl), λ e. other (rw e refl))
 
 pub tells_packing : (f : Found) (a b : Option (Bor Text)) (subfile : ℕ) (unknown : Bool) (max : Option ℕ)
     → option_map (λ s. s.now) a ≡ first_value f (codes "subfile") → option_map (λ s. s.now) b ≡ first_value f (codes "max")
-    → IsSubfile (text_given a) subfile → (one_text f (codes "unknown") ≡ None → unknown ≡ false)
+    → IsSubfile (text_of_option a) subfile → (one_text f (codes "unknown") ≡ None → unknown ≡ false)
     → (one_text f (codes "unknown") ≡ Some (codes "true") → unknown ≡ true) → (one_text f (codes "unknown") ≡ Some (codes "false") → unknown ≡ false)
-    → GivesNumber 0 (text_given b) max → TellsPacking (rows_of f) subfile unknown max
+    → IsNumberOption 0 (text_of_option b) max → HasPackOptions (rows_of f) subfile unknown max
 tells_packing f a b subfile unknown max of_a of_b subfile_is none value other max_is = record {
   subfile_is = rw (of_a, first_value-rows f (codes "subfile")) at subfile_is;
   unknown_is = rw (one_text-rows f (codes "unknown")) at (flag (one_text f (codes "unknown")) unknown none value other);
@@ -190,40 +191,41 @@ tells_packing f a b subfile unknown max of_a of_b subfile_is none value other ma
 }
 
 -- an error of a command's values is an error of the arguments
-pub fault_of_job : (words : List Text) (verb : Verb) (name : Text) (rows : List Row) (fault : UsageFault) → NamesCommand words name rows → name ≡ verb_name verb
-    → IsJobFault (verb_name verb) rows fault → IsFilesFaultOf words fault
-fault_of_job words verb name rows (usage.Words error) names is h = absurd h
-fault_of_job words verb name rows usage.MaxNeedsUnknown names is h = (name, rows, names, (is ∙ h.0, h.1))
-fault_of_job words verb name rows usage.BadNow names is h = (name, rows, names, (is ∙ h.0, h.1))
-fault_of_job words verb name rows usage.OutOfMemory names is h = absurd h
+pub job_error_is_usage : (words : List Text) (verb : Verb) (name : Text) (rows : List Row) (fault : UsageFault) → NamesCommand words name rows → name
+    ≡ verb_name verb
+    → IsJobFault (verb_name verb) rows fault → IsFilesUsageErrorOf words fault
+job_error_is_usage words verb name rows (usage.Words error) names is h = absurd h
+job_error_is_usage words verb name rows usage.MaxNeedsUnknown names is h = (name, rows, names, (is ∙ h.0, h.1))
+job_error_is_usage words verb name rows usage.BadNow names is h = (name, rows, names, (is ∙ h.0, h.1))
+job_error_is_usage words verb name rows usage.OutOfMemory names is h = absurd h
 
 -- an error of a command's files is an error of the arguments
-pub fault_of_files : (words : List Text) (name : Text) (rows : List Row) (fault : UsageFault) → NamesCommand words name rows
-    → IsFilesFault rows fault → IsFilesFaultOf words fault
-fault_of_files words name rows (usage.Words error) names is = inr (name, rows, names, is.0, is.1)
-fault_of_files words name rows usage.MaxNeedsUnknown names is = absurd is.1
-fault_of_files words name rows usage.BadNow names is = absurd is.1
-fault_of_files words name rows usage.OutOfMemory names is = tt
+pub files_error_is_usage : (words : List Text) (name : Text) (rows : List Row) (fault : UsageFault) → NamesCommand words name rows
+    → IsFilesFault rows fault → IsFilesUsageErrorOf words fault
+files_error_is_usage words name rows (usage.Words error) names is = inr (name, rows, names, is.0, is.1)
+files_error_is_usage words name rows usage.MaxNeedsUnknown names is = absurd is.1
+files_error_is_usage words name rows usage.BadNow names is = absurd is.1
+files_error_is_usage words name rows usage.OutOfMemory names is = tt
 
 -- the list and the names that are given, by the rows
-pub given_list : (f : Found) (given : Option (Bor Text)) → option_map (λ s. s.now) given ≡ first_value f (codes "files-from")
+pub list_option_by_rows : (f : Found) (given : Option (Bor Text)) → option_map (λ s. s.now) given ≡ first_value f (codes "files-from")
     → first_of (codes "files-from") (rows_of f) ≡ option_map (λ s. s.now) given
-given_list f given is = sym (is ∙ first_value-rows f (codes "files-from"))
+list_option_by_rows f given is = sym (is ∙ first_value-rows f (codes "files-from"))
 
-pub given_names : (f : Found) (given : Option (List Text)) → given ≡ option_map raw_values (matched_of f (codes "FILE"))
+pub file_names_by_rows : (f : Found) (given : Option (List Text)) → given ≡ option_map raw_values (matched_of f (codes "FILE"))
     → all_of (codes "FILE") (rows_of f) ≡ given
-given_names f given is = sym (is ∙ raw_values-rows f (codes "FILE"))
+file_names_by_rows f given is = sym (is ∙ raw_values-rows f (codes "FILE"))
 
 -- files that are named as arguments are those that are requested
-pub named_asked : (rows : List Row) (names : List Text) (r : Result Files UsageFault) → first_of (codes "files-from") rows ≡ None
-    → all_of (codes "FILE") rows ≡ Some names → IfOk r (AreNamed names) → IfOk r (AsksFiles rows)
-named_asked rows names (Ok (files.One None)) none given is = (none, rw given is)
-named_asked rows names (Ok (files.One (Some file))) none given is = (none, rw given is)
-named_asked rows names (Ok (files.Many all)) none given is = (none, rw given is)
-named_asked rows names (Ok (files.Listed list)) none given is = absurd is
-named_asked rows names (Err e) none given is = tt
+pub named_requested : (rows : List Row) (names : List Text) (r : Result Files UsageFault) → first_of (codes "files-from") rows ≡ None
+    → all_of (codes "FILE") rows ≡ Some names → IfOk r (AreNamedFiles names) → IfOk r (AreFilesOf rows)
+named_requested rows names (Ok (files.One None)) none given is = (none, rw given is)
+named_requested rows names (Ok (files.One (Some file))) none given is = (none, rw given is)
+named_requested rows names (Ok (files.Many all)) none given is = (none, rw given is)
+named_requested rows names (Ok (files.Listed list)) none given is = absurd is
+named_requested rows names (Err e) none given is = tt
 
-pub both_fault : (rows : List Row) (fault : UsageFault) → NamesBoth rows → IsMade ArgumentConflict fault → IsFilesFault rows fault
+pub both_fault : (rows : List Row) (fault : UsageFault) → NamesBoth rows → IsErrorOfKind ArgumentConflict fault → IsFilesFault rows fault
 both_fault rows (usage.Words error) both made = (both, made)
 both_fault rows usage.MaxNeedsUnknown both made = absurd made
 both_fault rows usage.BadNow both made = absurd made
@@ -231,15 +233,15 @@ both_fault rows usage.OutOfMemory both made = tt
 
 -- ---- one file
 
-pub one_asked : (words : List Text) (request : FilesRequest) (r : Result Request UsageFault) → AsksForFiles words request
-    → IfOk r (IsForOne request) → IfOk r (AsksFor words)
-one_asked words request (Ok one) asked is = subst (AsksForFiles words) is asked
-one_asked words request (Err e) asked is = tt
+pub one_requested : (words : List Text) (request : FilesRequest) (r : Result Request UsageFault) → IsFilesRequestOf words request
+    → IfOk r (IsOneFileRequest request) → IfOk r (IsRequestOf words)
+one_requested words request (Ok one) asked is = subst (IsFilesRequestOf words) is asked
+one_requested words request (Err e) asked is = tt
 
-pub others_fault : (words : List Text) (request : FilesRequest) (r : Result Request UsageFault) → AsksForFiles words request
-    → IfErr r (IsForOthers request) → IfErr r (IsFaultOf words)
+pub others_fault : (words : List Text) (request : FilesRequest) (r : Result Request UsageFault) → IsFilesRequestOf words request
+    → IfErr r (IsRejectedFilesRequest request) → IfErr r (IsUsageErrorOf words)
 others_fault words request (Ok one) asked is = tt
 others_fault words request (Err e) asked is = inr (request, asked, is.0, is.1)
 
-pub same_fault : (words : List Text) (fault : UsageFault) → IsFilesFaultOf words fault → IsFaultOf words fault
+pub same_fault : (words : List Text) (fault : UsageFault) → IsFilesUsageErrorOf words fault → IsUsageErrorOf words fault
 same_fault words fault is = inl is

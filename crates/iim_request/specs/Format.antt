@@ -54,30 +54,30 @@ abbrev pub audit_command : App
 audit_command = with_rule (file_command (codes "audit")) now_rule
 
 -- a command that requires a subcommand, has no subcommand for help, and prints its version
-abbrev pub wanting : App → App
-wanting a = record a { top = record a.top { has_version = true; subcommand_required = true; disable_help_subcommand = true } }
+abbrev pub requires_subcommand : App → App
+requires_subcommand a = record a { top = record a.top { has_version = true; subcommand_required = true; disable_help_subcommand = true } }
 
 -- the program, which requires one of its commands
 abbrev pub program : App
-program = with_subcommand (with_subcommand (with_subcommand (with_subcommand (with_subcommand (wanting (new_app (codes "iimwire")))
+program = with_subcommand (with_subcommand (with_subcommand (with_subcommand (with_subcommand (requires_subcommand (new_app (codes "iimwire")))
     (files_command (codes "check")).top) (files_command (codes "show")).top) (files_command (codes "story")).top) pack_command.top) audit_command.top
 
 -- ---- the values of options
 
 -- the text of an argument, if it was given
-abbrev pub text_given : Option (Bor Text) → Option Text
-text_given given = option_map (λ text. text.now) given
+abbrev pub text_of_option : Option (Bor Text) → Option Text
+text_of_option given = option_map (λ text. text.now) given
 
 -- The option has this number, from `least` to the greatest size. (clap rejects any other text.)
-abbrev pub GivesNumber : ℕ → Option Text → Option ℕ → Type 0
-GivesNumber least None number = number ≡ None
-GivesNumber least (Some text) (Some n) = IsUnsignedIn least greatest_size text × (n ≡ digits_value 10 (without_leading_plus text))
-GivesNumber least (Some text) None = IsUnsignedIn least greatest_size text → ⊥
+abbrev pub IsNumberOption : ℕ → Option Text → Option ℕ → Type 0
+IsNumberOption least None number = number ≡ None
+IsNumberOption least (Some text) (Some n) = IsUnsignedIn least greatest_size text × (n ≡ digits_value 10 (without_leading_plus text))
+IsNumberOption least (Some text) None = IsUnsignedIn least greatest_size text → ⊥
 
 -- The option was given. (What clap stores for an option without a value.)
-abbrev pub IsFlag : Option Text → Bool → Type 0
-IsFlag None flag = flag ≡ false
-IsFlag (Some text) flag = (text ≡ codes "true" → flag ≡ true) × (text ≡ codes "false" → flag ≡ false)
+abbrev pub IsFlagOption : Option Text → Bool → Type 0
+IsFlagOption None flag = flag ≡ false
+IsFlagOption (Some text) flag = (text ≡ codes "true" → flag ≡ true) × (text ≡ codes "false" → flag ≡ false)
 
 -- the largest number of octets of a subfile, if no number is given
 abbrev pub default_subfile : ℕ
@@ -85,7 +85,7 @@ default_subfile = 1024
 
 -- The number of octets of a subfile: the number that was given, or 1,024.
 abbrev pub IsSubfile : Option Text → ℕ → Type 0
-IsSubfile given subfile = (number : Option ℕ) × GivesNumber 1 given number × (subfile ≡ unwrap_or number default_subfile)
+IsSubfile given subfile = (number : Option ℕ) × IsNumberOption 1 given number × (subfile ≡ unwrap_or number default_subfile)
 
 -- The text is this instant, by the rules of jiff.
 abbrev pub IsInstant : Option Text → ℤ → Type 0
@@ -95,20 +95,20 @@ IsInstant (Some text) now = parse_timestamp text ≡ Ok now
 -- ---- what the arguments request
 
 -- the values of --subfile, --unknown and --max
-pub record TellsPacking (rows : List Row) (subfile : ℕ) (unknown : Bool) (max : Option ℕ) : Type 0 where
+pub record HasPackOptions (rows : List Row) (subfile : ℕ) (unknown : Bool) (max : Option ℕ) : Type 0 where
   pub subfile_is : IsSubfile (first_of (codes "subfile") rows) subfile
-  pub unknown_is : IsFlag (one_of (codes "unknown") rows) unknown
-  pub max_is : GivesNumber 0 (first_of (codes "max") rows) max
+  pub unknown_is : IsFlagOption (one_of (codes "unknown") rows) unknown
+  pub max_is : IsNumberOption 0 (first_of (codes "max") rows) max
 
 -- The command with this name, with these values of its arguments, requests the job. A maximum is
 -- given only for an unknown size.
-abbrev pub AsksJob : Text → List Row → Job → Type 0
-AsksJob name rows Check = name ≡ codes "check"
-AsksJob name rows Show = name ≡ codes "show"
-AsksJob name rows Story = name ≡ codes "story"
-AsksJob name rows (Pack request) = (name ≡ codes "pack") × TellsPacking rows request.subfile request.unknown request.max
+abbrev pub IsJobOf : Text → List Row → Job → Type 0
+IsJobOf name rows Check = name ≡ codes "check"
+IsJobOf name rows Show = name ≡ codes "show"
+IsJobOf name rows Story = name ≡ codes "story"
+IsJobOf name rows (Pack request) = (name ≡ codes "pack") × HasPackOptions rows request.subfile request.unknown request.max
     × (IsSome request.max → request.unknown ≡ true)
-AsksJob name rows (Audit now) = (name ≡ codes "audit") × IsInstant (first_of (codes "now") rows) now.nanosecond
+IsJobOf name rows (Audit now) = (name ≡ codes "audit") × IsInstant (first_of (codes "now") rows) now.nanosecond
 
 -- The arguments are valid, and name a command with these values of its arguments.
 pub record NamesCommand (words : List Text) (name : Text) (rows : List Row) : Type 0 where
@@ -116,42 +116,42 @@ pub record NamesCommand (words : List Text) (name : Text) (rows : List Row) : Ty
   pub named : subcommand_of program words ≡ Some (name, rows)
 
 -- the names that are given as arguments
-abbrev pub names_given : List Row → List Text
-names_given rows = unwrap_or (all_of (codes "FILE") rows) []
+abbrev pub file_names_of : List Row → List Text
+file_names_of rows = unwrap_or (all_of (codes "FILE") rows) []
 
 -- The files have these names, given as arguments: none or one, or two and more.
-abbrev pub AreNamed : List Text → Files → Type 0
-AreNamed names (One None) = names ≡ []
-AreNamed names (One (Some file)) = names ≡ file.now ∷ []
-AreNamed names (Many files) = (names ≡ map (λ file. file.now) files.items) × (2 ≤ length names)
-AreNamed names (Listed list) = ⊥
+abbrev pub AreNamedFiles : List Text → Files → Type 0
+AreNamedFiles names (One None) = names ≡ []
+AreNamedFiles names (One (Some file)) = names ≡ file.now ∷ []
+AreNamedFiles names (Many files) = (names ≡ map (λ file. file.now) files.items) × (2 ≤ length names)
+AreNamedFiles names (Listed list) = ⊥
 
 -- The values of a command's arguments name these files: directly, or by a list.
-abbrev pub AsksFiles : List Row → Files → Type 0
-AsksFiles rows (Listed list) = (first_of (codes "files-from") rows ≡ Some list.now) × (all_of (codes "FILE") rows ≡ None)
-AsksFiles rows files = (first_of (codes "files-from") rows ≡ None) × AreNamed (names_given rows) files
+abbrev pub AreFilesOf : List Row → Files → Type 0
+AreFilesOf rows (Listed list) = (first_of (codes "files-from") rows ≡ Some list.now) × (all_of (codes "FILE") rows ≡ None)
+AreFilesOf rows files = (first_of (codes "files-from") rows ≡ None) × AreNamedFiles (file_names_of rows) files
 
 -- The arguments request the job, and name the files.
-abbrev pub AsksForFiles : List Text → FilesRequest → Type 0
-AsksForFiles words request = (name : Text) × (rows : List Row) × NamesCommand words name rows × AsksJob name rows request.job
-    × AsksFiles rows request.files
+abbrev pub IsFilesRequestOf : List Text → FilesRequest → Type 0
+IsFilesRequestOf words request = (name : Text) × (rows : List Row) × NamesCommand words name rows × IsJobOf name rows request.job
+    × AreFilesOf rows request.files
 
 -- The arguments request the job, and name the file, or no file.
-abbrev pub AsksFor : List Text → Request → Type 0
-AsksFor words request = AsksForFiles words (record { files = One request.file; job = request.job })
+abbrev pub IsRequestOf : List Text → Request → Type 0
+IsRequestOf words request = IsFilesRequestOf words (record { files = One request.file; job = request.job })
 
 -- The command with this name, with these values of its arguments, has the error: a maximum for a
 -- known size, or an invalid instant.
 abbrev pub IsJobFault : Text → List Row → UsageFault → Type 0
-IsJobFault name rows MaxNeedsUnknown = (name ≡ codes "pack") × ((subfile : ℕ) × (max : Option ℕ) × TellsPacking rows subfile false max × IsSome max)
+IsJobFault name rows MaxNeedsUnknown = (name ≡ codes "pack") × ((subfile : ℕ) × (max : Option ℕ) × HasPackOptions rows subfile false max × IsSome max)
 IsJobFault name rows BadNow = (name ≡ codes "audit") × ((now : ℤ) → IsInstant (first_of (codes "now") rows) now → ⊥)
 IsJobFault name rows _ = ⊥
 
 -- The error is of this kind. An allocation may always fail.
-abbrev pub IsMade : ErrorKind → UsageFault → Type 0
-IsMade kind (Words error) = kind_of error ≡ kind
-IsMade kind OutOfMemory = ⊤
-IsMade kind _ = ⊥
+abbrev pub IsErrorOfKind : ErrorKind → UsageFault → Type 0
+IsErrorOfKind kind (Words error) = kind_of error ≡ kind
+IsErrorOfKind kind OutOfMemory = ⊤
+IsErrorOfKind kind _ = ⊥
 
 -- The values of a command's arguments name both a list of files and a file.
 abbrev pub NamesBoth : List Row → Type 0
@@ -160,46 +160,46 @@ NamesBoth rows = IsSome (first_of (codes "files-from") rows) × IsSome (all_of (
 -- The error is that both a list of files and a file are named.
 abbrev pub IsFilesFault : List Row → UsageFault → Type 0
 IsFilesFault rows OutOfMemory = ⊤
-IsFilesFault rows fault = NamesBoth rows × IsMade ArgumentConflict fault
+IsFilesFault rows fault = NamesBoth rows × IsErrorOfKind ArgumentConflict fault
 
 -- The error is one that clap finds in the arguments, or one of their command. An allocation may
 -- always fail.
-abbrev pub IsFilesFaultOf : List Text → UsageFault → Type 0
-IsFilesFaultOf words (Words error) = IsAmong (kind_of error) (fault_of program words)
+abbrev pub IsFilesUsageErrorOf : List Text → UsageFault → Type 0
+IsFilesUsageErrorOf words (Words error) = IsAmong (kind_of error) (fault_of program words)
     ⊎ ((name : Text) × (rows : List Row) × NamesCommand words name rows × NamesBoth rows × (kind_of error ≡ ArgumentConflict))
-IsFilesFaultOf words OutOfMemory = ⊤
-IsFilesFaultOf words fault = (name : Text) × (rows : List Row) × NamesCommand words name rows × IsJobFault name rows fault
+IsFilesUsageErrorOf words OutOfMemory = ⊤
+IsFilesUsageErrorOf words fault = (name : Text) × (rows : List Row) × NamesCommand words name rows × IsJobFault name rows fault
 
 -- The request is for more than one file, or for a list of files.
-abbrev pub AreMore : Files → Type 0
-AreMore (One file) = ⊥
-AreMore files = ⊤
+abbrev pub AreManyFiles : Files → Type 0
+AreManyFiles (One file) = ⊥
+AreManyFiles files = ⊤
 
-abbrev pub IsForMore : FilesRequest → Type 0
-IsForMore request = AreMore request.files
+abbrev pub IsManyFilesRequest : FilesRequest → Type 0
+IsManyFilesRequest request = AreManyFiles request.files
 
 -- The error is one of these; or the arguments request more than one file, or a list of files.
-abbrev pub IsFaultOf : List Text → UsageFault → Type 0
-IsFaultOf words fault = IsFilesFaultOf words fault
-    ⊎ ((request : FilesRequest) × AsksForFiles words request × IsForMore request × IsMade TooManyValues fault)
+abbrev pub IsUsageErrorOf : List Text → UsageFault → Type 0
+IsUsageErrorOf words fault = IsFilesUsageErrorOf words fault
+    ⊎ ((request : FilesRequest) × IsFilesRequestOf words request × IsManyFilesRequest request × IsErrorOfKind TooManyValues fault)
 
 -- ---- Names and arguments, escaped as printable text.
 
 -- the two octets of a control character from U+0080 to U+009F
-abbrev pub spell_control : ℕ → ℕ → Bool
-spell_control first second = first == 0xc2 && (nat_le 0x80 second && nat_le second 0x9f)
+abbrev pub encodes_control : ℕ → ℕ → Bool
+encodes_control first second = first == 0xc2 && (nat_le 0x80 second && nat_le second 0x9f)
 
 -- An octet that is escaped, between two others: a control character, an octet of one, or a
 -- backslash.
 abbrev pub is_hidden : ℕ → ℕ → ℕ → Bool
-is_hidden before octet next = is_ascii_control octet || (octet == backslash || (spell_control before octet || spell_control octet next))
+is_hidden before octet next = is_ascii_control octet || (octet == backslash || (encodes_control before octet || encodes_control octet next))
 
 -- the octets after this one: those that are hidden as \x and two digits, all others as they are; 0
 -- follows the last one
-abbrev pub shown_after : ℕ → List ℕ → List ℕ
-shown_after before [] = []
-shown_after before (octet ∷ octets) = (if is_hidden before octet (slice_index octets 0) then escape octet else octet ∷ []) ++ shown_after octet octets
+abbrev pub escaped_after : ℕ → List ℕ → List ℕ
+escaped_after before [] = []
+escaped_after before (octet ∷ octets) = (if is_hidden before octet (slice_index octets 0) then escape octet else octet ∷ []) ++ escaped_after octet octets
 
 -- a name, with its control characters and backslashes escaped
-abbrev pub shown_name : List ℕ → List ℕ
-shown_name name = shown_after 0 name
+abbrev pub escaped_name : List ℕ → List ℕ
+escaped_name name = escaped_after 0 name

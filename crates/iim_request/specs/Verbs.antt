@@ -6,7 +6,7 @@ use Rattle.clap.specs.declared.{builder.command.Command.TheViews.out-Command as 
 use Rattle.clap.specs.declared.{parser.matches.ArgMatches.ArgMatches}
 use Rattle.clap.specs.declared.error.kind.ErrorKind.TheVariants as kind
 use Rattle.clap.specs.declared.error.kind.ErrorKind.TheVariants.{TooManyValues}
-use Rattle.iim_request.specs.Format.{program, UsageFault, Words, OutOfMemory, IsForMore, IsMade}
+use Rattle.iim_request.specs.Format.{program, UsageFault, Words, OutOfMemory, IsManyFilesRequest, IsErrorOfKind}
 use Rattle.iim_request.specs.declared.request.{Request.Request, FilesRequest.FilesRequest}
 use Rattle.iim_request.specs.declared.request.Files.TheVariants.{One}
 use Rattle.iim_request.specs.declared.request.Verb.{Verb}
@@ -14,10 +14,10 @@ use Rattle.iim_request.specs.declared.request.Verb.TheVariants as verbs
 
 -- An allocation failure of clap is one of the usage error, and any other error is one in the
 -- arguments.
-abbrev pub IsUsageOf : Error → UsageFault → Type 0
-IsUsageOf error (Words same) = (same ≡ error) × (kind_of error ≡ kind.OutOfMemory → ⊥)
-IsUsageOf error OutOfMemory = kind_of error ≡ kind.OutOfMemory
-IsUsageOf error _ = ⊥
+abbrev pub IsUsageErrorFromClap : Error → UsageFault → Type 0
+IsUsageErrorFromClap error (Words same) = (same ≡ error) × (kind_of error ≡ kind.OutOfMemory → ⊥)
+IsUsageErrorFromClap error OutOfMemory = kind_of error ≡ kind.OutOfMemory
+IsUsageErrorFromClap error _ = ⊥
 
 -- Unless an allocation failed, the command is this one, and no argument of it is global.
 abbrev pub IsCommand : {E : Type 0} → App → Result Command E → Type 0
@@ -31,14 +31,14 @@ verb_name verbs.Pack = codes "pack"
 verb_name verbs.Audit = codes "audit"
 
 -- The arguments are valid, and clap found their command.
-pub record IsFoundOf (words : List Text) (matches : ArgMatches) : Type 0 where
+pub record AreMatchesOf (words : List Text) (matches : ArgMatches) : Type 0 where
   pub faultless : fault_of program words ≡ []
   pub command : subcommand_rows_of matches ≡ subcommand_of program words
 
 -- The request for files is this one for one file.
-abbrev pub IsForOne : FilesRequest → Request → Type 0
-IsForOne files request = files ≡ record { files = One request.file; job = request.job }
+abbrev pub IsOneFileRequest : FilesRequest → Request → Type 0
+IsOneFileRequest files request = files ≡ record { files = One request.file; job = request.job }
 
 -- The request is for other files, and this is the error.
-abbrev pub IsForOthers : FilesRequest → UsageFault → Type 0
-IsForOthers files fault = IsForMore files × IsMade TooManyValues fault
+abbrev pub IsRejectedFilesRequest : FilesRequest → UsageFault → Type 0
+IsRejectedFilesRequest files fault = IsManyFilesRequest files × IsErrorOfKind TooManyValues fault

@@ -3,7 +3,7 @@
 ghost use Rattle.std.specs.Prelude.{◌≡◌, codes, false, IfOk};
 ghost use Rattle.clap.specs.Words.{App, Rule, app_of, new_app, rule_of, with_rule, with_subcommand};
 ghost use Rattle.iim_request.specs.Verbs.{IsCommand};
-ghost use Rattle.iim_request.specs.Format.{audit_command, file_command, files_command, files_rule, list_rule, now_rule, number_rule, pack_command, program, unknown_rule, wanting};
+ghost use Rattle.iim_request.specs.Format.{audit_command, file_command, files_command, files_rule, list_rule, now_rule, number_rule, pack_command, program, unknown_rule, requires_subcommand};
 
 use clap::builder::ValueParser;
 use clap::{Arg, ArgAction, Command};
@@ -271,8 +271,8 @@ fn audit<'a>(alloc: Global) -> Result<Command<'a>, AllocError>
 }
 
 /// Returns the program without its commands.
-fn bare<'a>(alloc: Global) -> Command<'a>
-    ensures { app_of result ≡ wanting (new_app (codes "iimwire")) }
+fn program_without_commands<'a>(alloc: Global) -> Command<'a>
+    ensures { app_of result ≡ requires_subcommand (new_app (codes "iimwire")) }
 {
     Command::new(alloc, "iimwire")
         .version(RELEASE)
@@ -304,7 +304,7 @@ pub fn command<'a>(alloc: Global) -> Result<Command<'a>, AllocError>
         "Writes the story of each envelope",
         STORY_HELP,
     );
-    let program = with_command(Ok(bare(alloc)), check);
+    let program = with_command(Ok(program_without_commands(alloc)), check);
     let program = with_command(with_command(program, show), story);
     with_command(with_command(program, pack(alloc)), audit(alloc))
 }

@@ -105,9 +105,9 @@ impl From<AllocError> for UsageFault {
 }
 
 impl From<Error> for UsageFault {
-    ghost use Rattle.iim_request.specs.Verbs.{IsUsageOf};
+    ghost use Rattle.iim_request.specs.Verbs.{IsUsageErrorFromClap};
 
-    ghost from_gives = { IsUsageOf };
+    ghost from_gives = { IsUsageErrorFromClap };
 
     fn from(error: Error) -> UsageFault {
         match error.kind() {
@@ -118,8 +118,8 @@ impl From<Error> for UsageFault {
 }
 
 ghost use Rattle.iim_request.specs.declared.request.Verb.{Verb as VerbValue};
-ghost use Rattle.iim_request.specs.Format.{AreNamed, AsksFiles, AsksFor, AsksForFiles, AsksJob, GivesNumber, IsFaultOf, IsFilesFault, IsFilesFaultOf, IsJobFault, IsMade, IsSubfile, text_given};
-ghost use Rattle.iim_request.specs.Verbs.{verb_name, IsForOne, IsForOthers, IsFoundOf};
+ghost use Rattle.iim_request.specs.Format.{AreNamedFiles, AreFilesOf, IsRequestOf, IsFilesRequestOf, IsJobOf, IsNumberOption, IsUsageErrorOf, IsFilesFault, IsFilesUsageErrorOf, IsJobFault, IsErrorOfKind, IsSubfile, text_of_option};
+ghost use Rattle.iim_request.specs.Verbs.{verb_name, IsOneFileRequest, IsRejectedFilesRequest, AreMatchesOf};
 
 /// The name of a command.
 #[derive(Clone, Copy, Debug, PartialEq, Eq)]
@@ -132,7 +132,7 @@ enum Verb {
 }
 
 /// Returns the command with this name, or `None` if there is no such command.
-fn verb_named(name: &str) -> Option<Verb>
+fn verb_by_name(name: &str) -> Option<Verb>
     ensures named { IfSome result (λ verb. name.now ≡ verb_name verb) }
     ensures other { IsNone result → (verb : VerbValue) → name.now ≡ verb_name verb → ⊥ }
 {
@@ -148,8 +148,8 @@ fn verb_named(name: &str) -> Option<Verb>
 
 /// Returns the value of an option, from `least` to the greatest size, or `None` if it is not given
 /// or out of range.
-fn number_given(text: Option<&str>, least: u64) -> Option<u64>
-    ensures given { GivesNumber least (text_given text.entry) result }
+fn number_option(text: Option<&str>, least: u64) -> Option<u64>
+    ensures given { IsNumberOption least (text_of_option text.entry) result }
     ensures within { IfSome result (λ number. (least ≤ number) × (number ≤ greatest_size)) }
 {
     let number = text?.parse::<u64>().ok()?;
@@ -160,11 +160,11 @@ fn number_given(text: Option<&str>, least: u64) -> Option<u64>
 }
 
 /// Returns the number of octets of a full subfile: the value that was given, or 1,024.
-fn subfile_given(text: Option<&str>) -> u64
-    ensures given { IsSubfile (text_given text.entry) result }
+fn subfile_option(text: Option<&str>) -> u64
+    ensures given { IsSubfile (text_of_option text.entry) result }
     ensures within { (1 ≤ result) × (result ≤ greatest_size) }
 {
-    match number_given(text, 1) {
+    match number_option(text, 1) {
         Some(number) => number,
         None => DEFAULT_SUBFILE,
     }
@@ -180,12 +180,12 @@ fn is_max_alone(unknown: bool, max: Option<u64>) -> bool
 
 /// Returns the job of `pack`.
 fn pack_job(found: &ArgMatches<'_>) -> Result<Job, UsageFault>
-    ensures ok { IfOk result (AsksJob (verb_name VerbValue.Pack) (rows_of (found_of found.now))) }
+    ensures ok { IfOk result (IsJobOf (verb_name VerbValue.Pack) (rows_of (found_of found.now))) }
     ensures err { IfErr result (IsJobFault (verb_name VerbValue.Pack) (rows_of (found_of found.now))) }
 {
-    let subfile = subfile_given(found.get_str("subfile"));
+    let subfile = subfile_option(found.get_str("subfile"));
     let unknown = found.get_flag("unknown");
-    let max = number_given(found.get_str("max"), 0);
+    let max = number_option(found.get_str("max"), 0);
     if is_max_alone(unknown, max) {
         return Err(UsageFault::MaxNeedsUnknown);
     }
@@ -198,7 +198,7 @@ fn pack_job(found: &ArgMatches<'_>) -> Result<Job, UsageFault>
 
 /// Returns the job of `audit`.
 fn audit_job(found: &ArgMatches<'_>) -> Result<Job, UsageFault>
-    ensures ok { IfOk result (AsksJob (verb_name VerbValue.Audit) (rows_of (found_of found.now))) }
+    ensures ok { IfOk result (IsJobOf (verb_name VerbValue.Audit) (rows_of (found_of found.now))) }
     ensures err { IfErr result (IsJobFault (verb_name VerbValue.Audit) (rows_of (found_of found.now))) }
 {
     let Some(text) = found.get_str("now") else {
@@ -214,7 +214,7 @@ fn audit_job(found: &ArgMatches<'_>) -> Result<Job, UsageFault>
 
 /// Returns the job of a command.
 fn job_of(verb: Verb, found: &ArgMatches<'_>) -> Result<Job, UsageFault>
-    ensures ok { IfOk result (AsksJob (verb_name verb) (rows_of (found_of found.now))) }
+    ensures ok { IfOk result (IsJobOf (verb_name verb) (rows_of (found_of found.now))) }
     ensures err { IfErr result (IsJobFault (verb_name verb) (rows_of (found_of found.now))) }
 {
     match verb {
@@ -235,7 +235,7 @@ const NOT_ONE_FILE: &str = "more than one FILE";
 /// Returns a usage error of this kind, with this message.
 fn fault_of(alloc: Global, kind: ErrorKind, message: &str) -> UsageFault
     requires { kind ≡ ErrorKind.OutOfMemory → ⊥ }
-    ensures { IsMade kind result }
+    ensures { IsErrorOfKind kind result }
 {
     let Ok(mut program) = command(alloc) else {
         return UsageFault::OutOfMemory;
@@ -247,8 +247,8 @@ fn fault_of(alloc: Global, kind: ErrorKind, message: &str) -> UsageFault
 }
 
 /// Returns the files with these names, given as arguments.
-fn named<'a>(alloc: Global, names: &[&'a str]) -> Result<Files<'a>, UsageFault>
-    ensures ok { IfOk result (AreNamed (map (λ name. name.now) names.now)) }
+fn files_named<'a>(alloc: Global, names: &[&'a str]) -> Result<Files<'a>, UsageFault>
+    ensures ok { IfOk result (AreNamedFiles (map (λ name. name.now) names.now)) }
     ensures err { IfErr result (λ fault. fault ≡ UsageFault.OutOfMemory) }
 {
     match names {
@@ -262,13 +262,13 @@ fn named<'a>(alloc: Global, names: &[&'a str]) -> Result<Files<'a>, UsageFault>
 }
 
 /// Returns the files that the arguments of a command name.
-fn files_of<'a>(alloc: Global, found: &ArgMatches<'a>) -> Result<Files<'a>, UsageFault>
-    ensures ok { IfOk result (AsksFiles (rows_of (found_of found.now))) }
+fn requested_files<'a>(alloc: Global, found: &ArgMatches<'a>) -> Result<Files<'a>, UsageFault>
+    ensures ok { IfOk result (AreFilesOf (rows_of (found_of found.now))) }
     ensures err { IfErr result (IsFilesFault (rows_of (found_of found.now))) }
 {
     match (found.get_str("files-from"), found.get_strs("FILE")) {
         (None, None) => Ok(Files::One(None)),
-        (None, Some(names)) => named(alloc, names),
+        (None, Some(names)) => files_named(alloc, names),
         (Some(list), None) => Ok(Files::Listed(list)),
         (Some(_), Some(_)) => Err(fault_of(alloc, ErrorKind::ArgumentConflict, LIST_AND_FILE)),
     }
@@ -276,18 +276,18 @@ fn files_of<'a>(alloc: Global, found: &ArgMatches<'a>) -> Result<Files<'a>, Usag
 
 /// Returns the request of arguments that `clap` accepted. They name one of the commands.
 fn request_of<'a>(alloc: Global, matches: &ArgMatches<'a>) -> Result<FilesRequest<'a>, UsageFault>
-    requires { (words : List Text) × IsFoundOf words matches.now }
-    ensures ok { (words : List Text) → IsFoundOf words matches.now → IfOk result (AsksForFiles words) }
-    ensures err { (words : List Text) → IsFoundOf words matches.now → IfErr result (IsFilesFaultOf words) }
+    requires { (words : List Text) × AreMatchesOf words matches.now }
+    ensures ok { (words : List Text) → AreMatchesOf words matches.now → IfOk result (IsFilesRequestOf words) }
+    ensures err { (words : List Text) → AreMatchesOf words matches.now → IfErr result (IsFilesUsageErrorOf words) }
 {
     let Some((name, found)) = matches.subcommand() else {
         unreachable!()
     };
-    let Some(verb) = verb_named(name) else {
+    let Some(verb) = verb_by_name(name) else {
         unreachable!()
     };
     let job = job_of(verb, found)?;
-    match files_of(alloc, found) {
+    match requested_files(alloc, found) {
         Ok(files) => Ok(FilesRequest { files, job }),
         Err(fault) => Err(fault),
     }
@@ -296,8 +296,8 @@ fn request_of<'a>(alloc: Global, matches: &ArgMatches<'a>) -> Result<FilesReques
 /// Parses the arguments of a command line, with any number of files. The first of them is the
 /// program's name.
 pub fn parse_files<'a>(alloc: Global, words: &'a [String]) -> Result<FilesRequest<'a>, UsageFault>
-    ensures ok { IfOk result (AsksForFiles (map string_bytes words.entry.now)) }
-    ensures err { IfErr result (IsFilesFaultOf (map string_bytes words.entry.now)) }
+    ensures ok { IfOk result (IsFilesRequestOf (map string_bytes words.entry.now)) }
+    ensures err { IfErr result (IsFilesUsageErrorOf (map string_bytes words.entry.now)) }
 {
     let matches = command(alloc)?.try_get_matches_from(words)?;
     request_of(alloc, &matches)
@@ -306,8 +306,8 @@ pub fn parse_files<'a>(alloc: Global, words: &'a [String]) -> Result<FilesReques
 /// Parses the arguments of a command line, with at most one file. The first of them is the
 /// program's name.
 pub fn parse<'a>(alloc: Global, words: &'a [String]) -> Result<Request<'a>, UsageFault>
-    ensures ok { IfOk result (AsksFor (map string_bytes words.entry.now)) }
-    ensures err { IfErr result (IsFaultOf (map string_bytes words.entry.now)) }
+    ensures ok { IfOk result (IsRequestOf (map string_bytes words.entry.now)) }
+    ensures err { IfErr result (IsUsageErrorOf (map string_bytes words.entry.now)) }
 {
     match parse_files(alloc, words) {
         Ok(request) => one_file(alloc, request),
@@ -318,8 +318,8 @@ pub fn parse<'a>(alloc: Global, words: &'a [String]) -> Result<Request<'a>, Usag
 /// Returns the request for one file, or a usage error if the request is for several files or a
 /// list.
 fn one_file(alloc: Global, request: FilesRequest<'_>) -> Result<Request<'_>, UsageFault>
-    ensures ok { IfOk result (IsForOne request.entry) }
-    ensures err { IfErr result (IsForOthers request.entry) }
+    ensures ok { IfOk result (IsOneFileRequest request.entry) }
+    ensures err { IfErr result (IsRejectedFilesRequest request.entry) }
 {
     let FilesRequest { files, job } = request;
     match files {

@@ -2,14 +2,14 @@
 
 ghost use Rattle.std.specs.Prelude.{◌≡◌, ◌++◌, [], ◌∷◌, if◌then◌else◌, slice_index, OnOk};
 ghost use Rattle.iim_dataset.specs.Format.Datasets.{escape};
-ghost use Rattle.iim_request.specs.Format.{is_hidden, shown_name, spell_control};
+ghost use Rattle.iim_request.specs.Format.{is_hidden, escaped_name, encodes_control};
 
 use iim_dataset::internals::push_escape;
 use std::alloc::AllocError;
 
 /// Checks whether two octets encode a control character from U+0080 to U+009F.
-fn spell_control(first: u8, second: u8) -> bool
-    ensures { result ≡ spell_control first second }
+fn encodes_control(first: u8, second: u8) -> bool
+    ensures { result ≡ encodes_control first second }
 {
     first == 0xC2 && (0x80 <= second && second <= 0x9F)
 }
@@ -20,7 +20,7 @@ fn is_hidden(before: u8, octet: u8, next: u8) -> bool
     ensures { result ≡ is_hidden before octet next }
 {
     octet.is_ascii_control()
-        || (octet == b'\\' || (spell_control(before, octet) || spell_control(octet, next)))
+        || (octet == b'\\' || (encodes_control(before, octet) || encodes_control(octet, next)))
 }
 
 /// Returns the first octet of a slice, or 0 if it is empty.
@@ -48,7 +48,7 @@ fn push_octet(text: &mut Vec<u8>, hidden: bool, octet: u8) -> Result<(), AllocEr
 /// Appends a name. Each octet of its control characters (U+0000 to U+001F and U+007F to U+009F)
 /// and backslashes is written as `\x` and two digits, every other octet as it is.
 pub fn push_name(text: &mut Vec<u8>, name: &str) -> Result<(), AllocError>
-    ensures { OnOk result (text.new.items ≡ text.old.items ++ shown_name name.now) }
+    ensures { OnOk result (text.new.items ≡ text.old.items ++ escaped_name name.now) }
 {
     let mut before = 0;
     let mut rest = name.as_bytes();

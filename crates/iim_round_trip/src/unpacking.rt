@@ -4,10 +4,10 @@
 ghost use Rattle.std.specs.Prelude.{◌≡◌, IfOk, IfErr, OnOk};
 ghost use Rattle.iim_unpack.specs.Format.Pieces.{IsUnpacked, stream_of};
 ghost use Rattle.iim_places.specs.Format.Streams.{Answer, Answers};
-ghost use Rattle.iim_round_trip.specs.Format.RoundTrip.{GivesBack, BeginsPacked, IsOutside, IsAnswer, IsTurnedDown, CountsFor};
-ghost use Rattle.iim_round_trip.specs.Format.Stories.{ComesBack, IsStoryIn, IsStoryAnswer, untold};
+ghost use Rattle.iim_round_trip.specs.Format.RoundTrip.{UnpacksPacked, BeginsWithPacked, IsNotFromStream, RepresentsUnpackResult, IsRejectedUnpacking, CountsFailureOfSink};
+ghost use Rattle.iim_round_trip.specs.Format.Stories.{ReturnsPackedStory, IsStoryOfStream, RepresentsStoryResult, dropped_events};
 
-use crate::laws::packed_streams_have_their_answer;
+use crate::laws::packed_stream_has_one_result;
 use iim_fields::Limits;
 use iim_unpack::laws::place_laws;
 use iim_unpack::{Refusal, Unpacked, Unpacker, unpack_pieces};
@@ -28,11 +28,11 @@ pub enum UnpackFault {
 }
 
 impl UnpackFault {
-    ghost use Rattle.iim_round_trip.specs.Format.Faults.{fault_number, fault_name};
+    ghost use Rattle.iim_round_trip.specs.Format.Faults.{unpack_fault_number, unpack_fault_name};
 
     /// Returns the number of the cause, as it is printed. A refusal has the number of its cause.
     pub fn number(&self) -> u8
-        ensures { result ≡ fault_number self.now }
+        ensures { result ≡ unpack_fault_number self.now }
     {
         match self {
             UnpackFault::OutOfMemory => 70,
@@ -42,7 +42,7 @@ impl UnpackFault {
 
     /// Returns the name of the cause, as it is printed. A refusal has the name of its cause.
     pub fn name(&self) -> &'static str
-        ensures { result.now ≡ fault_name self.now }
+        ensures { result.now ≡ unpack_fault_name self.now }
     {
         match self {
             UnpackFault::OutOfMemory => "OutOfMemory",
@@ -54,9 +54,9 @@ impl UnpackFault {
 /// Writes the refusal, or `out of memory`.
 impl Display for UnpackFault {
     ghost use Rattle.std.specs.Prelude.{Some};
-    ghost use Rattle.iim_round_trip.specs.Format.Faults.{fault_text};
+    ghost use Rattle.iim_round_trip.specs.Format.Faults.{unpack_fault_text};
 
-    ghost output = { λ fault. Some (fault_text fault) };
+    ghost output = { λ fault. Some (unpack_fault_text fault) };
 
     fn fmt<W: fmt::Write>(&self, f: &mut Formatter<W>) -> fmt::Result {
         match self {
@@ -87,22 +87,22 @@ pub fn unpack_packed<S: StorySink>(
     sink: &mut S,
 ) -> Result<(Unpacked, u64), UnpackFault>
     // What was packed is returned.
-    ensures given_back { IfOk result (λ got.
-        GivesBack S.goes limits (stream_of pieces.now) sink.old sink.new got.0 got.1) }
-    ensures refused { BeginsPacked limits (stream_of pieces.now) → IfErr result IsOutside }
+    ensures returns_packed { IfOk result (λ got.
+        UnpacksPacked S.goes limits (stream_of pieces.now) sink.old sink.new got.0 got.1) }
+    ensures refused { BeginsWithPacked limits (stream_of pieces.now) → IfErr result IsNotFromStream }
 
     // Any stream has its result.
     ensures finished { IfOk result (λ got.
         IsUnpacked S.goes limits (stream_of pieces.now) sink.old sink.new got.0 got.1) }
-    ensures turned_down { IfErr result (IsTurnedDown S.goes limits (stream_of pieces.now) sink.old sink.new) }
+    ensures rejected { IfErr result (IsRejectedUnpacking S.goes limits (stream_of pieces.now) sink.old sink.new) }
     ensures only { (answer : Answer) → Answers limits (stream_of pieces.now) answer
-        → IfErr result (λ fault. IsOutside fault → ⊥) → IsAnswer result answer }
+        → IfErr result (λ fault. IsNotFromStream fault → ⊥) → RepresentsUnpackResult result answer }
 
     // The sink is the cause only if its count of failures increased.
-    ensures calm { OnOk result (S.failures sink.new ≡ S.failures sink.old) }
-    ensures counted { IfErr result (λ fault. CountsFor fault (S.failures sink.old) (S.failures sink.new)) }
+    ensures no_failure { OnOk result (S.failures sink.new ≡ S.failures sink.old) }
+    ensures counted { IfErr result (λ fault. CountsFailureOfSink fault (S.failures sink.old) (S.failures sink.new)) }
 {
-    packed_streams_have_their_answer();
+    packed_stream_has_one_result();
     let Ok(unpacker) = Unpacker::new(alloc, limits) else {
         return Err(UnpackFault::OutOfMemory);
     };
@@ -133,14 +133,14 @@ pub struct Story {
 /// [`iim_unpack::Cause::SINK`].
 pub fn unpack_story(alloc: Global, limits: Limits, pieces: &[&[u8]]) -> Result<Story, UnpackFault>
     // What was packed is returned.
-    ensures story { IfOk result (ComesBack limits (stream_of pieces.now)) }
-    ensures fault { BeginsPacked limits (stream_of pieces.now) → IfErr result IsOutside }
+    ensures story { IfOk result (ReturnsPackedStory limits (stream_of pieces.now)) }
+    ensures fault { BeginsWithPacked limits (stream_of pieces.now) → IfErr result IsNotFromStream }
 
     // Any stream has its result.
-    ensures finished { IfOk result (IsStoryIn limits (stream_of pieces.now)) }
-    ensures turned_down { IfErr result (IsTurnedDown untold limits (stream_of pieces.now) tt tt) }
+    ensures finished { IfOk result (IsStoryOfStream limits (stream_of pieces.now)) }
+    ensures rejected { IfErr result (IsRejectedUnpacking dropped_events limits (stream_of pieces.now) tt tt) }
     ensures only { (answer : Answer) → Answers limits (stream_of pieces.now) answer
-        → IfErr result (λ fault. IsOutside fault → ⊥) → IsStoryAnswer result answer }
+        → IfErr result (λ fault. IsNotFromStream fault → ⊥) → RepresentsStoryResult result answer }
 {
     texts_are_delivered_as_lines();
     story_laws();

@@ -1,23 +1,23 @@
 -- What precedes the first occurrence of an octet, and what follows it.
-use Rattle.iim_script.proofs.Words.{◌≡◌, inr, ℕ, zero, suc, ◌+◌, ◌-◌, ◌<◌, ◌==◌, Bool, true, false, not, cond, List, [], ◌∷◌, ◌++◌, length, length-append, take, drop, get_or, refl, ap, sym, ◌∙◌, arith, position_or_len, list_all, one-add, eq-eqb, eqb-true, false≢true, and_parts, false_from_ne_true, take_rest, all_append, HasNo, NextLine}
+use Rattle.iim_script.proofs.Words.{◌≡◌, inr, ℕ, zero, suc, ◌+◌, ◌-◌, ◌<◌, ◌==◌, Bool, true, false, not, cond, List, [], ◌∷◌, ◌++◌, length, length-append, take, drop, get_or, refl, ap, sym, ◌∙◌, arith, position_or_len, list_all, one-add, eq-eqb, eqb-true, false≢true, and_parts, false_from_ne_true, take_rest, all_append, Lacks, NextLine}
 use Rattle.std.proofs.lemmas.List.Sums.{split_at_first, passes_at_first}
 use Rattle.std.proofs.Math.Seq.{take-length}
 
-before_cons : (b x : ℕ) (xs : List ℕ) (n : ℕ) (same : Bool) → (x == b) ≡ same → HasNo b (take n xs) → HasNo b (take (cond (not same) (suc n) 0) (x ∷ xs))
+before_cons : (b x : ℕ) (xs : List ℕ) (n : ℕ) (same : Bool) → (x == b) ≡ same → Lacks b (take n xs) → Lacks b (take (cond (not same) (suc n) 0) (x ∷ xs))
 before_cons b x xs n true e h = tt
 before_cons b x xs n false e h = (e, h)
 
-pub has_no_before : (b : ℕ) (xs : List ℕ) → HasNo b (take (position_or_len (λ x. x == b) xs) xs)
+pub has_no_before : (b : ℕ) (xs : List ℕ) → Lacks b (take (position_or_len (λ x. x == b) xs) xs)
 has_no_before b [] = tt
 has_no_before b (x ∷ xs) = rw one-add (before_cons b x xs (position_or_len (λ y. y == b) xs) (x == b) refl (has_no_before b xs))
 
 -- if none is found there is none
-pub has_none : (b : ℕ) (xs : List ℕ) (end : ℕ) → end ≡ position_or_len (λ x. x == b) xs → end ≡ length xs → HasNo b xs
+pub has_none : (b : ℕ) (xs : List ℕ) (end : ℕ) → end ≡ position_or_len (λ x. x == b) xs → end ≡ length xs → Lacks b xs
 has_none b xs end is all = rw (← is, all, take-length) at (has_no_before b xs)
 
 -- if one is found
 pub cut_parts : (b : ℕ) (xs : List ℕ) (end : ℕ) → end ≡ position_or_len (λ x. x == b) xs → end < length xs
-    → HasNo b (take end xs) × (xs ≡ take end xs ++ (b ∷ take (length xs - (end + 1)) (drop (end + 1) xs)))
+    → Lacks b (take end xs) × (xs ≡ take end xs ++ (b ∷ take (length xs - (end + 1)) (drop (end + 1) xs)))
 cut_parts b xs end is within =
     let at : position_or_len (λ x. x == b) xs < length xs = rw is at within in
     let found = eqb-true _ _ (passes_at_first (λ x. x == b) xs 0 at) in
@@ -27,22 +27,22 @@ not_self : (b : ℕ) → (b == b) ≡ false → ⊥
 not_self b e = false≢true (sym e ∙ eq-eqb b b refl)
 
 -- an octet at this index
-pub has_no_octet : (b : ℕ) (xs ys : List ℕ) → HasNo b (xs ++ b ∷ ys) → ⊥
+pub has_no_octet : (b : ℕ) (xs ys : List ℕ) → Lacks b (xs ++ b ∷ ys) → ⊥
 has_no_octet b [] ys h = not_self b h.0
 has_no_octet b (x ∷ xs) ys h = has_no_octet b xs ys h.1
 
 -- What precedes the first occurrence is unique, and so is what follows it.
-pub cut_once : (b : ℕ) (xs ys us vs : List ℕ) → HasNo b xs → HasNo b us → xs ++ b ∷ ys ≡ us ++ b ∷ vs → (xs ≡ us) × (ys ≡ vs)
+pub cut_once : (b : ℕ) (xs ys us vs : List ℕ) → Lacks b xs → Lacks b us → xs ++ b ∷ ys ≡ us ++ b ∷ vs → (xs ≡ us) × (ys ≡ vs)
 cut_once b [] ys [] vs h k e = (refl, cc)
 cut_once b [] ys (u ∷ us) vs h k e = let same : u ≡ b = cc in absurd (not_self b (rw same at k.0))
 cut_once b (x ∷ xs) ys [] vs h k e = let same : x ≡ b = cc in absurd (not_self b (rw same at h.0))
 cut_once b (x ∷ xs) ys (u ∷ us) vs h k e = let rest = cut_once b xs ys us vs h.1 k.1 (cc) in (cc, rest.1)
 
-pub has_no_append : (b : ℕ) (xs ys : List ℕ) → HasNo b xs → HasNo b ys → HasNo b (xs ++ ys)
+pub has_no_append : (b : ℕ) (xs ys : List ℕ) → Lacks b xs → Lacks b ys → Lacks b (xs ++ ys)
 has_no_append b xs ys h k = all_append (λ x. (x == b) ≡ false) xs ys h k
 
 -- An octet that fails a test does not occur in octets that all pass it.
-pub lacks : (test : ℕ → Bool) (b : ℕ) (xs : List ℕ) → test b ≡ false → list_all test xs ≡ true → HasNo b xs
+pub lacks : (test : ℕ → Bool) (b : ℕ) (xs : List ℕ) → test b ≡ false → list_all test xs ≡ true → Lacks b xs
 lacks test b [] fails h = tt
 lacks test b (x ∷ xs) fails h =
     let both = and_parts (test x) (list_all test xs) h in
@@ -73,6 +73,6 @@ pub no_last : (b : ℕ) (xs : List ℕ) → ((n : ℕ) → length xs ≡ suc n �
 no_last b xs not before e = not (length before) (omega (arith, ap length e, length-append before (b ∷ []))) (rw e (at_last before b))
 
 -- An LF ends a line that contains none, and no CR.
-pub ended : (octets line after : List ℕ) → octets ≡ line ++ 10 ∷ after → HasNo 10 line → HasNo 13 line → NextLine octets line after
+pub ended : (octets line after : List ℕ) → octets ≡ line ++ 10 ∷ after → Lacks 10 line → Lacks 13 line → NextLine octets line after
 ended octets line after e h k =
     record { ended = line; no_feed = h; is_line = inr (refl, λ before f. has_no_octet 13 before [] (rw f at k)); parts = e }

@@ -1,6 +1,6 @@
 -- The next line of a script, and the first line of a text.
 use Rattle.std.proofs.Common.{◌≡◌, inl, inr, ℕ, ◌+◌, List, [], ◌∷◌, ◌++◌, append_assoc, append-nil, length, length-append, refl, ap, sym, ◌∙◌, subst, arith, zero, suc, ◌≤◌, replicate}
-use Rattle.iim_script.specs.Format.Scripts.{HasNo, WithoutLast, NextLine, NextLines}
+use Rattle.iim_script.specs.Format.Scripts.{Lacks, WithoutLast, NextLine, NextLines}
 use Rattle.std.proofs.lemmas.List.{append_cancel_right}
 use Rattle.iim_script.proofs.Cuts.{cut_once, has_no_octet, has_no_append, lacks}
 use Rattle.wire_story.specs.Format.Texts.{IsLine, IsText, is_line_octet}
@@ -19,8 +19,8 @@ next_once octets l a m b x y =
     (without_once 13 y.ended l m (rw same.0 at x.is_line) y.is_line, same.1)
 
 -- if no LF is left there is no next line
-pub no_next : (octets line after : List ℕ) → HasNo 10 octets → NextLine octets line after → ⊥
-no_next octets line after h x = has_no_octet 10 x.ended after (subst (λ (l : List ℕ). HasNo 10 l) x.parts h)
+pub no_next : (octets line after : List ℕ) → Lacks 10 octets → NextLine octets line after → ⊥
+no_next octets line after h x = has_no_octet 10 x.ended after (subst (λ (l : List ℕ). Lacks 10 l) x.parts h)
 
 -- lines after others
 pub lines_append : (octets rest after : List ℕ) (lines others : List (List ℕ)) → NextLines octets lines rest → NextLines rest others after
@@ -38,7 +38,7 @@ count_more lines line = length-append lines (line ∷ [])
 
 -- ---- a text
 
-pub no_feed : (line : List ℕ) → IsLine line → HasNo 10 line
+pub no_feed : (line : List ℕ) → IsLine line → Lacks 10 line
 no_feed line h = lacks is_line_octet 10 line refl h
 
 -- ---- the line without the CR of its end
@@ -60,7 +60,7 @@ line_left line (suc (suc (suc n))) ended first second is few e a b = absurd (ome
 
 -- ---- the first line
 
-no_feeds : (n : ℕ) → HasNo 10 (replicate n 13)
+no_feeds : (n : ℕ) → Lacks 10 (replicate n 13)
 no_feeds zero = tt
 no_feeds (suc n) = (refl, no_feeds n)
 
@@ -68,18 +68,18 @@ no_feeds (suc n) = (refl, no_feeds n)
 first_end : (line rest : List ℕ) (n : ℕ) → line ++ ((replicate n 13 ++ 10 ∷ []) ++ rest) ≡ (line ++ replicate n 13) ++ 10 ∷ rest
 first_end line rest n = simp append_assoc
 
-pub split_more : (text ended after found : List ℕ) (lines : List (List ℕ)) → IsText text lines → HasNo 10 ended → text ≡ ended ++ 10 ∷ after
+pub split_more : (text ended after found : List ℕ) (lines : List (List ℕ)) → IsText text lines → Lacks 10 ended → text ≡ ended ++ 10 ∷ after
     → ((line : List ℕ) (n : ℕ) → IsLine line → n ≤ 2 → ended ≡ line ++ replicate n 13 → found ≡ line)
     → (rest : List (List ℕ)) × (lines ≡ found ∷ rest) × IsText after rest
 split_more text ended after found [] h none e cut = absurd h
 split_more text ended after found (line ∷ []) h none e cut =
-    absurd (has_no_octet 10 ended after (subst (λ (l : List ℕ). HasNo 10 l) (sym h.1 ∙ e) (no_feed line h.0)))
+    absurd (has_no_octet 10 ended after (subst (λ (l : List ℕ). Lacks 10 l) (sym h.1 ∙ e) (no_feed line h.0)))
 split_more text ended after found (line ∷ next ∷ lines) (is, n, few, rest, parts, more) none e cut =
     let same = cut_once 10 ended after (line ++ replicate n 13) rest none (has_no_append 10 line (replicate n 13) (no_feed line is) (no_feeds n))
     (sym e ∙ (parts ∙ first_end line rest n)) in
     (next ∷ lines, rw (cut line n is few same.0) refl, rw same.1 more)
 
-pub split_one : (text : List ℕ) (lines : List (List ℕ)) → IsText text lines → HasNo 10 text → lines ≡ text ∷ []
+pub split_one : (text : List ℕ) (lines : List (List ℕ)) → IsText text lines → Lacks 10 text → lines ≡ text ∷ []
 split_one text [] h none = absurd h
 split_one text (line ∷ []) h none = ap (λ (l : List ℕ). l ∷ []) (sym h.1)
 split_one text (line ∷ next ∷ lines) (is, n, few, rest, parts, more) none =

@@ -1,5 +1,5 @@
 -- Stories whose lines end in LF alone.
-use Rattle.iim_script.proofs.Words.{◌≡◌, inl, inr, ℕ, zero, suc, ◌+◌, ◌*◌, ◌<◌, ◌==◌, Bool, true, false, cond, List, [], ◌∷◌, ◌++◌, append_assoc, length, take, drop, map, count_by, get_or, refl, ap, sym, ◌∙◌, subst, arith, IsTrue, list_all, AllByRecursion, and_parts, and_from, nat_tests, take-append-drop, is_line_octet, IsLine, IsText, HasNo, NextLine, NextLines, WithoutLast, IsStory, TellsText}
+use Rattle.iim_script.proofs.Words.{◌≡◌, inl, inr, ℕ, zero, suc, ◌+◌, ◌*◌, ◌<◌, ◌==◌, Bool, true, false, cond, List, [], ◌∷◌, ◌++◌, append_assoc, length, take, drop, map, count_by, get_or, refl, ap, sym, ◌∙◌, subst, arith, IsTrue, list_all, AllByRecursion, and_parts, and_from, nat_tests, take-append-drop, is_line_octet, IsLine, IsText, Lacks, NextLine, NextLines, WithoutLast, IsStory, IsPackedTextOf}
 use Rattle.std.proofs.Common.{take-add}
 use Rattle.std.specs.List.{onto_first, join_with_byte}
 use Rattle.std.specs.Simd.Lanes.{mask_l}
@@ -18,17 +18,17 @@ use Rattle.iim_script.proofs.{Cuts.lacks, Cuts.ended, Next.no_feed}
 bits : (a b : Bool) (m n : ℕ) → cond a 1 0 + 2 * m ≡ cond b 1 0 + 2 * n → (a ≡ b) × (m ≡ n)
 bits a b m n e = grind arith
 
-plain_octet : (b : ℕ) → b < 256 → is_low b ≡ (b == 10) → is_plain b ≡ true
-plain_octet b fits e = grind (arith, nat_tests)
+allowed_octet : (b : ℕ) → b < 256 → is_low b ≡ (b == 10) → is_plain b ≡ true
+allowed_octet b fits e = grind (arith, nat_tests)
 
 -- if exactly the LF are low, all octets are allowed
-pub plain_front : (n : ℕ) (xs : List ℕ) → ((k : ℕ) → get_or xs k 0 < 256) → mask_l (map is_low (take n xs)) ≡ mask_l (map (λ b. b == 10) (take n xs))
+pub allowed_prefix : (n : ℕ) (xs : List ℕ) → ((k : ℕ) → get_or xs k 0 < 256) → mask_l (map is_low (take n xs)) ≡ mask_l (map (λ b. b == 10) (take n xs))
     → IsTrue (list_all is_plain (take n xs))
-plain_front zero xs fits e = refl
-plain_front (suc n) [] fits e = refl
-plain_front (suc n) (x ∷ xs) fits e =
+allowed_prefix zero xs fits e = refl
+allowed_prefix (suc n) [] fits e = refl
+allowed_prefix (suc n) (x ∷ xs) fits e =
     let h = bits (is_low x) (x == 10) (mask_l (map is_low (take n xs))) (mask_l (map (λ b. b == 10) (take n xs))) e in
-    and_from (is_plain x) (list_all is_plain (take n xs)) (plain_octet x (fits 0) h.0) (plain_front n xs (λ k. fits (suc k)) h.1)
+    and_from (is_plain x) (list_all is_plain (take n xs)) (allowed_octet x (fits 0) h.0) (allowed_prefix n xs (λ k. fits (suc k)) h.1)
 
 -- ---- lines
 
@@ -72,7 +72,7 @@ record Open (lines : List (List ℕ)) (text : List ℕ) : Type 0 where
   last : List ℕ
   lines_are : lines ≡ before ++ last ∷ []
   lined : NextLines text before last
-  none : HasNo 10 last
+  none : Lacks 10 last
 
 last_open : (lines : List (List ℕ)) → 0 < length lines → Each lines → Open lines (join_with_byte 10 lines)
 last_open [] some h = absurd (omega (arith, some))
@@ -99,10 +99,10 @@ feed_at_last line (next ∷ lines) octets rest (after, n, more) =
     let (front, e) = feed_at_last next lines after rest more in
     (n.ended ++ 10 ∷ front, n.parts ∙ (ap (λ (l : List ℕ). n.ended ++ 10 ∷ l) e ∙ sym (append_assoc n.ended (10 ∷ front) (10 ∷ rest))))
 
-stands_alone : (before : List (List ℕ)) (last text : List ℕ) → NextLines text before last
+is_only_line : (before : List (List ℕ)) (last text : List ℕ) → NextLines text before last
     → ((front : List ℕ) → text ≡ front ++ 10 ∷ [] → ⊥) → last ≡ [] → before ≡ []
-stands_alone [] last text lined not empty = refl
-stands_alone (line ∷ lines) last text lined not empty = let (front, e) = feed_at_last line lines text last lined in
+is_only_line [] last text lined not empty = refl
+is_only_line (line ∷ lines) last text lined not empty = let (front, e) = feed_at_last line lines text last lined in
     absurd (not front (e ∙ ap (λ (l : List ℕ). front ++ 10 ∷ l) empty))
 
 -- ---- the complete story
@@ -121,11 +121,11 @@ story_is story text lines some each is (inl e) = story_printed story lines some 
 story_is story text lines some each is (inr (e, not)) =
     let o = last_open lines some each in
     let lined : NextLines story o.before o.last = rw (e ∙ is) o.lined in
-    (some, inr (o.before, o.last, o.lines_are, lined, o.none, stands_alone o.before o.last story lined not))
+    (some, inr (o.before, o.last, o.lines_are, lined, o.none, is_only_line o.before o.last story lined not))
 
 pub tells_plain : (story text : List ℕ) (feeds len : ℕ) → WithoutLast 10 story text → IsTrue (list_all is_plain text)
     → feeds ≡ count_by (λ b. b == 10) text → len ≡ length text + feeds
-    → TellsText story text len
+    → IsPackedTextOf story text len
 tells_plain story text feeds len cut plain counted e =
     let lines = lines_in text in
     let each = lines_each text plain in
@@ -140,12 +140,12 @@ tells_plain story text feeds len cut plain counted e =
 
 -- ---- octets block by block
 
-pub plain_more : (xs : List ℕ) (at n : ℕ) → IsTrue (list_all is_plain (take at xs)) → IsTrue (list_all is_plain (take n (drop at xs)))
+pub allowed_more : (xs : List ℕ) (at n : ℕ) → IsTrue (list_all is_plain (take at xs)) → IsTrue (list_all is_plain (take n (drop at xs)))
     → IsTrue (list_all is_plain (take (at + n) xs))
-plain_more xs at n h more = rw (take-add, list_all-append, h, more) refl
+allowed_more xs at n h more = rw (take-add, list_all-append, h, more) refl
 
-pub plain_all : (xs : List ℕ) (at : ℕ) → IsTrue (list_all is_plain (take at xs)) → IsTrue (list_all is_plain (drop at xs)) → IsTrue (list_all is_plain xs)
-plain_all xs at h rest = let whole = list_all-append is_plain (take at xs) (drop at xs) in rw (take-append-drop, h, rest) at whole
+pub allowed_all : (xs : List ℕ) (at : ℕ) → IsTrue (list_all is_plain (take at xs)) → IsTrue (list_all is_plain (drop at xs)) → IsTrue (list_all is_plain xs)
+allowed_all xs at h rest = let whole = list_all-append is_plain (take at xs) (drop at xs) in rw (take-append-drop, h, rest) at whole
 
 -- the next octets after those before them, and the rest
 pub count_next : (p : ℕ → Bool) (xs : List ℕ) (at n : ℕ) → count_by p (take n (drop at xs)) + count_by p (drop (at + n) xs) ≡ count_by p (drop at xs)

@@ -1,5 +1,5 @@
 -- What is printed describes what it was printed from, and ends in lines.
-use Rattle.iim_script.proofs.Words.{◌≡◌, inl, inr, ℕ, ◌+◌, ◌/◌, ◌%◌, ◌<◌, ◌≤◌, ◌==◌, ◌&&◌, nat_le, nat_lt, Bool, true, false, cond, List, [], ◌∷◌, ◌++◌, append_assoc, length, map, get_or, refl, sym, subst, arith, AllByRecursion, list_all, flat_map, false≢true, and_from, and_parts, nat_tests, is_letter, is_digit, Dataset, is_alphanumeric, Header, IsHeader, HasNo, NextLine, NextLines, IsHexDigit, TellsOctets, TellsLast, TellsNumber, TellsField, TellsHead, TellsTrailer, head_words, shown_octet, shown, field_line, message_line, trailer_line}
+use Rattle.iim_script.proofs.Words.{◌≡◌, inl, inr, ℕ, ◌+◌, ◌/◌, ◌%◌, ◌<◌, ◌≤◌, ◌==◌, ◌&&◌, nat_le, nat_lt, Bool, true, false, cond, List, [], ◌∷◌, ◌++◌, append_assoc, length, map, get_or, refl, sym, subst, arith, AllByRecursion, list_all, flat_map, false≢true, and_from, and_parts, nat_tests, is_letter, is_digit, Dataset, is_alphanumeric, Header, IsHeader, Lacks, NextLine, NextLines, IsHexDigit, EncodesOctets, EndsWith, EncodesNumber, DescribesField, DescribesHead, DescribesTrailer, head_words, shown_octet, shown, field_line, message_line, trailer_line}
 use Rattle.std.specs.Prelude.{codes, decimal}
 use Rattle.std.proofs.lemmas.Bool.{leb-true, le-leb}
 use Rattle.std.proofs.lemmas.Fmt.{decimal_nonempty, digits_decimal, digits_value-decimal, length-decimal-le}
@@ -26,13 +26,13 @@ octet_by octet rest false e h = inr (
 )
 
 -- octets printed with escapes encode the octets
-pub shown_tells : (xs : List ℕ) → Octets xs → TellsOctets (shown xs) xs
-shown_tells [] h = refl
-shown_tells (x ∷ xs) h = (shown xs, octet_by x (shown xs) (is_plain x) refl h.0, shown_tells xs h.1)
+pub shown_encodes : (xs : List ℕ) → Octets xs → EncodesOctets (shown xs) xs
+shown_encodes [] h = refl
+shown_encodes (x ∷ xs) h = (shown xs, octet_by x (shown xs) (is_plain x) refl h.0, shown_encodes xs h.1)
 
-pub after_tells : (xs : List ℕ) → Octets xs → TellsLast (after_space xs) xs
-after_tells [] h = refl
-after_tells (x ∷ xs) h = (shown (x ∷ xs), refl, shown_tells (x ∷ xs) h)
+pub after_describes : (xs : List ℕ) → Octets xs → EndsWith (after_space xs) xs
+after_describes [] h = refl
+after_describes (x ∷ xs) h = (shown (x ∷ xs), refl, shown_encodes (x ∷ xs) h)
 
 -- ---- octets below 20 hex do not occur in printed octets
 
@@ -42,7 +42,7 @@ other x b h = grind (arith, nat_tests)
 hex_least : (n : ℕ) (b : Bool) → 48 ≤ cond b (48 + n) (55 + n)
 hex_least n b = grind arith
 
-octet_lacks : (b x : ℕ) (plain : Bool) → is_plain x ≡ plain → b < 32 → HasNo b (cond plain (x ∷ []) (escape x))
+octet_lacks : (b x : ℕ) (plain : Bool) → is_plain x ≡ plain → b < 32 → Lacks b (cond plain (x ∷ []) (escape x))
 octet_lacks b x true e h =
     let low = leb-true 32 x (and_parts (nat_le 32 x) _ (and_parts (nat_le 32 x && nat_le x 126) _ e).0).0 in (other x b (omega (arith, low, h)), tt)
 octet_lacks b x false e h =
@@ -50,11 +50,11 @@ octet_lacks b x false e h =
     let low = hex_least (x % 16) (nat_lt (x % 16) 10) in
     (other 92 b (omega (arith, h)), (other 120 b (omega (arith, h)), (other _ b (omega (arith, h, high)), (other _ b (omega (arith, h, low)), tt))))
 
-pub shown_lacks : (b : ℕ) (xs : List ℕ) → b < 32 → HasNo b (shown xs)
+pub shown_lacks : (b : ℕ) (xs : List ℕ) → b < 32 → Lacks b (shown xs)
 shown_lacks b [] h = tt
 shown_lacks b (x ∷ xs) h = has_no_append b (shown_octet x) (shown xs) (octet_lacks b x (is_plain x) refl h) (shown_lacks b xs h)
 
-pub after_lacks : (b : ℕ) (xs : List ℕ) → b < 32 → HasNo b (after_space xs)
+pub after_lacks : (b : ℕ) (xs : List ℕ) → b < 32 → Lacks b (after_space xs)
 after_lacks b [] h = tt
 after_lacks b (x ∷ xs) h = (other 32 b h, shown_lacks b (x ∷ xs) h)
 
@@ -74,8 +74,8 @@ digits_test = record {
 numerals : IsNumeralModel (λ ds. list_all is_digit ds ≡ true) (decimal_from 0)
 numerals = numerals_by_fold (λ ds. list_all is_digit ds ≡ true) digits_test decimal_from (record { empty = λ n. refl; more = λ n c cs is. refl })
 
-plain_digits : (n : ℕ) → n < 256 → TellsNumber (decimal n) n
-plain_digits n small = record {
+unescaped_digits : (n : ℕ) → n < 256 → EncodesNumber (decimal n) n
+unescaped_digits n small = record {
   some = decimal_nonempty n (omega (arith, small));
   few = length-decimal-le 3 n (omega arith) (omega (arith, small)) (omega (arith, small));
   are_digits = digits_decimal numerals n (omega (arith, small));
@@ -83,15 +83,15 @@ plain_digits n small = record {
   fits = omega (arith, small);
 }
 
-padded_by : (n : ℕ) (b : Bool) → nat_lt n 10 ≡ b → n < 256 → TellsNumber (cond b (48 ∷ []) [] ++ decimal n) n
+padded_by : (n : ℕ) (b : Bool) → nat_lt n 10 ≡ b → n < 256 → EncodesNumber (cond b (48 ∷ []) [] ++ decimal n) n
 padded_by n true e small =
     let one_digit : n < 10 = grind (arith, nat_tests) in
     let few : length (decimal n) ≤ 1 = length-decimal-le 1 n (omega arith) (omega (arith, one_digit)) (omega (arith, small)) in
-    let plain = plain_digits n small in
+    let plain = unescaped_digits n small in
     record { some = omega arith; few = omega (arith, few); are_digits = plain.are_digits; value = plain.value; fits = plain.fits }
-padded_by n false e small = plain_digits n small
+padded_by n false e small = unescaped_digits n small
 
-padded_digits : (n : ℕ) → n < 256 → TellsNumber (padding n ++ decimal n) n
+padded_digits : (n : ℕ) → n < 256 → EncodesNumber (padding n ++ decimal n) n
 padded_digits n small = padded_by n (nat_lt n 10) refl small
 
 -- ---- datasets
@@ -110,24 +110,24 @@ undigited : (xs : List ℕ) → is_digit (get_or (after_space xs) 0 0) ≡ false
 undigited [] = refl
 undigited (x ∷ xs) = refl
 
-pub field_told : (d : Dataset) → IsPrintable d → TellsField (field_words d) d
-field_told d h = record {
+pub field_described : (d : Dataset) → IsPrintable d → DescribesField (field_words d) d
+field_described d h = record {
   end = after_space d.octets;
   names = record {
     rec_digits = decimal d.rec;
     set_digits = padding d.set ++ decimal d.set;
-    is_rec = plain_digits d.rec h.rec;
+    is_rec = unescaped_digits d.rec h.rec;
     is_set = padded_digits d.set h.set;
     undigited = undigited d.octets;
     line_is = append_assoc (decimal d.rec) (58 ∷ padding d.set ++ decimal d.set) (after_space d.octets);
   };
-  is_end = after_tells d.octets h.octets;
+  is_end = after_describes d.octets h.octets;
 }
 
-field_lacks : (b : ℕ) (d : Dataset) → b < 32 → is_digit b ≡ false → IsPrintable d → HasNo b (field_words d)
+field_lacks : (b : ℕ) (d : Dataset) → b < 32 → is_digit b ≡ false → IsPrintable d → Lacks b (field_words d)
 field_lacks b d small fails h =
     has_no_append b (dataset_name d.rec d.set) (after_space d.octets)
-    (has_no_append b (decimal d.rec) (58 ∷ padding d.set ++ decimal d.set) (lacks is_digit b (decimal d.rec) fails (plain_digits d.rec h.rec).are_digits)
+    (has_no_append b (decimal d.rec) (58 ∷ padding d.set ++ decimal d.set) (lacks is_digit b (decimal d.rec) fails (unescaped_digits d.rec h.rec).are_digits)
     (other 58 b (omega (arith, small)), lacks is_digit b (padding d.set ++ decimal d.set) fails (padded_digits d.set h.set).are_digits))
     (after_lacks b d.octets small)
 
@@ -156,20 +156,20 @@ octets_by test (x ∷ xs) small h = let both = and_parts (test x) (list_all test
 abbrev pub message_words : Header → List ℕ
 message_words head = codes "message " ++ head_words head (after_space head.info)
 
-pub head_told : (head : Header) → IsHeader head → TellsHead (message_words head) head
-head_told head h = record {
+pub head_described : (head : Header) → IsHeader head → DescribesHead (message_words head) head
+head_described head h = record {
   end = after_space head.info;
   is_header = h;
-  is_end = after_tells head.info (octets_by message.is_info_octet head.info (λ x is. grind (arith, nat_tests)) h.info.0);
+  is_end = after_describes head.info (octets_by message.is_info_octet head.info (λ x is. grind (arith, nat_tests)) h.info.0);
   line_is = refl;
 }
 
 -- a field of the header, SP, and what follows
-word_lacks : (test : ℕ → Bool) (b : ℕ) (word rest : List ℕ) → b < 32 → test b ≡ false → Are test word → HasNo b rest → HasNo b (word ++ (32 ∷ rest))
+word_lacks : (test : ℕ → Bool) (b : ℕ) (word rest : List ℕ) → b < 32 → test b ≡ false → Are test word → Lacks b rest → Lacks b (word ++ (32 ∷ rest))
 word_lacks test b word rest small fails h k = has_no_append b word (32 ∷ rest) (lacks test b word fails h) (other 32 b small, k)
 
-message_lacks : (b : ℕ) (head : Header) → b < 32 → is_letter b ≡ false → is_digit b ≡ false → is_alphanumeric b ≡ false → HasNo b (codes "message ")
-    → IsHeader head → HasNo b (message_words head)
+message_lacks : (b : ℕ) (head : Header) → b < 32 → is_letter b ≡ false → is_digit b ≡ false → is_alphanumeric b ≡ false → Lacks b (codes "message ")
+    → IsHeader head → Lacks b (message_words head)
 message_lacks b head small letter digit alphanumeric word h =
     let end = after_space head.info in
     has_no_append b (codes "message ") (head_words head end) word
@@ -192,10 +192,10 @@ message_ends head after h =
 abbrev pub trailer_words : List ℕ → List ℕ
 trailer_words trailer = codes "trailer" ++ after_space trailer
 
-pub trailer_told : (trailer : List ℕ) → Are message.is_trailer_octet trailer → TellsTrailer (trailer_words trailer) trailer
+pub trailer_told : (trailer : List ℕ) → Are message.is_trailer_octet trailer → DescribesTrailer (trailer_words trailer) trailer
 trailer_told trailer h = record {
   end = after_space trailer;
-  is_end = after_tells trailer (octets_by message.is_trailer_octet trailer (λ x is. grind (arith, nat_tests)) h);
+  is_end = after_describes trailer (octets_by message.is_trailer_octet trailer (λ x is. grind (arith, nat_tests)) h);
   line_is = refl;
 }
 

@@ -22,23 +22,23 @@ three_digits n least most =
 -- ---- octets without escapes, several of them checked at once
 
 -- the lanes of octets without escapes
-abbrev plain_lanes : ℕ → List ℕ → List ℕ
-plain_lanes n xs = zip2 bit_and (zip2 bit_and (from_on n 32 xs) (up_to n 126 xs)) (other_than n 92 xs)
+abbrev unescaped_lanes : ℕ → List ℕ → List ℕ
+unescaped_lanes n xs = zip2 bit_and (zip2 bit_and (from_on n 32 xs) (up_to n 126 xs)) (other_than n 92 xs)
 
-plain_lane : (a b c : Bool) → bit_and (bit_and (lane a) (lane b)) (lane c) ≡ lane (a && b && c)
-plain_lane a b c = ap (λ (n : ℕ). bit_and n (lane c)) (both_lanes a b) ∙ both_lanes (a && b) c
+unescaped_lane : (a b c : Bool) → bit_and (bit_and (lane a) (lane b)) (lane c) ≡ lane (a && b && c)
+unescaped_lane a b c = ap (λ (n : ℕ). bit_and n (lane c)) (both_lanes a b) ∙ both_lanes (a && b) c
 
-plain_told : (xs : List ℕ) → plain_lanes (length xs) xs ≡ map (λ x. lane (is_plain x)) xs
-plain_told [] = refl
-plain_told (x ∷ xs) = λ i. plain_lane (nat_le 32 x) (nat_le x 126) (not (nat_eq x 92)) i ∷ plain_told xs i
+unescaped_shown : (xs : List ℕ) → unescaped_lanes (length xs) xs ≡ map (λ x. lane (is_plain x)) xs
+unescaped_shown [] = refl
+unescaped_shown (x ∷ xs) = λ i. unescaped_lane (nat_le 32 x) (nat_le x 126) (not (nat_eq x 92)) i ∷ unescaped_shown xs i
 
 -- the first n
-pub plain_part : (xs : List ℕ) (n : ℕ) → n ≤ length xs → n ≤ 64 → are_set n (plain_lanes n (take n xs)) ≡ list_all is_plain (take n xs)
-plain_part xs n room le = first_of xs n room le is_plain plain_lanes plain_told
+pub unescaped_part : (xs : List ℕ) (n : ℕ) → n ≤ length xs → n ≤ 64 → are_set n (unescaped_lanes n (take n xs)) ≡ list_all is_plain (take n xs)
+unescaped_part xs n room le = first_of xs n room le is_plain unescaped_lanes unescaped_shown
 
 -- octets that all need no escape are printed as they are
-pub all_plain : (xs : List ℕ) → list_all is_plain xs ≡ true → shown xs ≡ xs
-all_plain xs all = sym (ap shown (append-nil xs)) ∙ (shown_plain xs [] all ∙ append-nil xs)
+pub all_unescaped : (xs : List ℕ) → list_all is_plain xs ≡ true → shown xs ≡ xs
+all_unescaped xs all = sym (ap shown (append-nil xs)) ∙ (shown_plain xs [] all ∙ append-nil xs)
 
 -- ---- a text with capacity after it, into which the lines of datasets are written
 

@@ -2,13 +2,13 @@
 use Rattle.std.proofs.Common.{◌≡◌, ℕ, ◌<◌, ◌+◌, List, [], ◌∷◌, ◌++◌, length, map, take, drop, slice_index, refl, sym, ap, ◌∙◌}
 use Rattle.std.proofs.lemmas.List.{take_more, take-append-drop}
 use Rattle.wire_story.proofs.SoFar.{with_end-append, map_snoc}
-use Rattle.wire_story.specs.Format.Texts.{IsText, OctetOrEnd, Octet, with_end, LivesWith, StoryDiesAt}
-use Rattle.wire_story.specs.States.Reading.{HasCause}
+use Rattle.wire_story.specs.Format.Texts.{IsText, OctetOrEnd, Octet, with_end, IsViableStory, EndsViableStory}
+use Rattle.wire_story.specs.States.Reading.{HasTextCause}
 use Rattle.wire_story.specs.declared.fault.TextCause.{TextCause}
 use Rattle.wire_story.specs.declared.fault.TextCause.TheVariants.{LoneReturn, ControlOctet, Sink}
 
 -- each prefix of a text is a viable prefix of a story
-prefix_lives : (text : List ℕ) (lines : List (List ℕ)) (n : ℕ) → IsText text lines → LivesWith (take n text)
+prefix_lives : (text : List ℕ) (lines : List (List ℕ)) (n : ℕ) → IsText text lines → IsViableStory (take n text)
 prefix_lives text lines n h = (
   with_end (drop n text),
   record {
@@ -20,9 +20,9 @@ prefix_lives text lines n h = (
 )
 
 -- so no octet of the text makes it unviable
-no_octet_dies : (text : List ℕ) (lines : List (List ℕ)) (n : ℕ) → IsText text lines → n < length text
-    → StoryDiesAt (take n text) (Octet (slice_index text n)) → ⊥
-no_octet_dies text lines n h inside dies = dies.1 (
+no_octet_rejected : (text : List ℕ) (lines : List (List ℕ)) (n : ℕ) → IsText text lines → n < length text
+    → EndsViableStory (take n text) (Octet (slice_index text n)) → ⊥
+no_octet_rejected text lines n h inside dies = dies.1 (
     let more : map Octet (take (n + 1) text) ≡ map Octet (take n text) ++ Octet (slice_index text n) ∷ [] =
     ap (map Octet) (take_more text n 0 inside) ∙ sym (map_snoc (take n text) (slice_index text n)) in
     let lives = prefix_lives text lines (n + 1) h in (
@@ -37,7 +37,7 @@ no_octet_dies text lines n h inside dies = dies.1 (
 
 -- why an octet of a text is rejected
 pub sink_alone : (text : List ℕ) (lines : List (List ℕ)) (n : ℕ) (cause : TextCause) → IsText text lines → n < length text
-    → HasCause cause (take n text) (slice_index text n) → cause ≡ Sink
-sink_alone text lines n LoneReturn h inside c = absurd (no_octet_dies text lines n h inside c.0)
-sink_alone text lines n ControlOctet h inside c = absurd (no_octet_dies text lines n h inside c.0)
+    → HasTextCause cause (take n text) (slice_index text n) → cause ≡ Sink
+sink_alone text lines n LoneReturn h inside c = absurd (no_octet_rejected text lines n h inside c.0)
+sink_alone text lines n ControlOctet h inside c = absurd (no_octet_rejected text lines n h inside c.0)
 sink_alone text lines n Sink h inside c = refl

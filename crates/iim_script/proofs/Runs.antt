@@ -1,35 +1,35 @@
 -- Scripts line by line: the contents of a line and the state after it are unique, and so is the
 -- state after several lines.
-use Rattle.iim_script.proofs.Words.{◌≡◌, ℕ, List, ◌∷◌, ◌++◌, get_or, drop, refl, ap, sym, ◌∙◌, subst, arith, ◌⊎◌, inl, inr, ◌+◌, [], append_assoc, length, length-append, None, AllByRecursion, IsLine, Dataset, Header, TellsLast, TellsField, TellsHead, TellsTrailer, head_words, text_word, add_fault, finish_fault, Limits, NextLine, NextLines, AreFieldLines, AreTrailer, IsFront, Stage, InFields, AfterMessage, AfterTrailer, HaveCome, Stands, IsNextWrong, ScriptLine, Field, BadTrailer, ScriptCause}
+use Rattle.iim_script.proofs.Words.{◌≡◌, ℕ, List, ◌∷◌, ◌++◌, get_or, drop, refl, ap, sym, ◌∙◌, subst, arith, ◌⊎◌, inl, inr, ◌+◌, [], append_assoc, length, length-append, None, AllByRecursion, IsLine, Dataset, Header, EndsWith, DescribesField, DescribesHead, DescribesTrailer, head_words, text_word, added_field_fault, missing_field_fault, Limits, NextLine, NextLines, DescribeFields, DescribeTrailer, IsFront, Stage, InFields, AfterMessage, AfterTrailer, ReachStage, ReachesStage, IsNextBad, ScriptLine, Field, BadTrailer, ScriptCause}
 use Rattle.std.proofs.Common.{append-nil}
 use Rattle.iim_dataset.proofs.Spelled.{dataset_is}
 use Rattle.wire_message.specs.Format.Messages.{IsTrailer}
 use Rattle.iim_script.proofs.{Texts.last_once, Names.names_once, Heads.words_of_header, Heads.last_ends, Heads.head_once}
-use Rattle.iim_script.proofs.{Fronts.field_digit, Fronts.tells_no_head, Next.next_once, Next.no_next, Next.lines_append}
+use Rattle.iim_script.proofs.{Fronts.field_digit, Fronts.describes_no_head, Next.next_once, Next.no_next, Next.lines_append}
 use Rattle.iim_fields.specs.declared.fault.FieldCause.{FieldCause}
-use Rattle.iim_script.specs.Format.Causes.{EndsTooSoon, IsWrong}
+use Rattle.iim_script.specs.Format.Causes.{IsIncompleteEnvelope, IsBadLine}
 
 -- ---- the contents of a line are unique
 
-pub field_once : (line : List ℕ) (d e : Dataset) → TellsField line d → TellsField line e → d ≡ e
+pub field_once : (line : List ℕ) (d e : Dataset) → DescribesField line d → DescribesField line e → d ≡ e
 field_once line d e t u =
     let same = names_once line d.rec d.set e.rec e.set t.end u.end t.names u.names in
     dataset_is d e same.0 same.1 (last_once u.end d.octets e.octets (rw same.2 at t.is_end) u.is_end)
 
-pub one_head : (line : List ℕ) (head other : Header) → TellsHead line head → TellsHead line other → head ≡ other
+pub one_head : (line : List ℕ) (head other : Header) → DescribesHead line head → DescribesHead line other → head ≡ other
 one_head line head other t u =
     head_once line (head_words other u.end) u.end other.info other head u.line_is
     (words_of_header other u.end u.is_header (last_ends u.end other.info u.is_end)) u.is_end t
 
-pub trailer_once : (line octets other : List ℕ) → TellsTrailer line octets → TellsTrailer line other → octets ≡ other
+pub trailer_once : (line octets other : List ℕ) → DescribesTrailer line octets → DescribesTrailer line other → octets ≡ other
 trailer_once line octets other t u =
     let same : t.end ≡ u.end = ap (λ (l : List ℕ). drop 7 l) (sym t.line_is ∙ u.line_is) in
-    last_once u.end octets other (subst (λ (l : List ℕ). TellsLast l octets) same t.is_end) u.is_end
+    last_once u.end octets other (subst (λ (l : List ℕ). EndsWith l octets) same t.is_end) u.is_end
 
-pub field_no_head : (line : List ℕ) (d : Dataset) (head : Header) → TellsField line d → TellsHead line head → ⊥
-field_no_head line d head t h = tells_no_head line (field_digit line d t) head h
+pub field_no_head : (line : List ℕ) (d : Dataset) (head : Header) → DescribesField line d → DescribesHead line head → ⊥
+field_no_head line d head t h = describes_no_head line (field_digit line d t) head h
 
-pub text_no_trailer : (octets : List ℕ) → TellsTrailer text_word octets → ⊥
+pub text_no_trailer : (octets : List ℕ) → DescribesTrailer text_word octets → ⊥
 text_no_trailer octets t =
     let second : 101 ≡ 114 = ap (λ (l : List ℕ). get_or l 1 0) t.line_is in
     absurd (omega (arith, second))
@@ -45,29 +45,29 @@ pub data Place : Type 0 where
 -- The state after a line.
 abbrev pub Leads : Limits → Place → List ℕ → Place → Type 0
 Leads limits (At (InFields ds)) line next =
-    ((d : Dataset) × TellsField line d × (add_fault limits ds d ≡ None) × (next ≡ At (InFields (ds ++ d ∷ []))))
-    ⊎ ((head : Header) × TellsHead line head × (next ≡ At (AfterMessage ds head)))
+    ((d : Dataset) × DescribesField line d × (added_field_fault limits ds d ≡ None) × (next ≡ At (InFields (ds ++ d ∷ []))))
+    ⊎ ((head : Header) × DescribesHead line head × (next ≡ At (AfterMessage ds head)))
 Leads limits (At (AfterMessage ds head)) line next =
-    ((trailer : List ℕ) × TellsTrailer line trailer × IsTrailer trailer × (next ≡ At (AfterTrailer ds head trailer)))
-    ⊎ ((line ≡ text_word) × (finish_fault ds ≡ None) × (next ≡ InStory ds head [] []))
-Leads limits (At (AfterTrailer ds head trailer)) line next = (line ≡ text_word) × (finish_fault ds ≡ None) × (next ≡ InStory ds head trailer [])
+    ((trailer : List ℕ) × DescribesTrailer line trailer × IsTrailer trailer × (next ≡ At (AfterTrailer ds head trailer)))
+    ⊎ ((line ≡ text_word) × (missing_field_fault ds ≡ None) × (next ≡ InStory ds head [] []))
+Leads limits (At (AfterTrailer ds head trailer)) line next = (line ≡ text_word) × (missing_field_fault ds ≡ None) × (next ≡ InStory ds head trailer [])
 Leads limits (InStory ds head trailer done) line next = IsLine line × (next ≡ InStory ds head trailer (done ++ line ∷ []))
 
-no_text_trailer : (line trailer : List ℕ) → line ≡ text_word → TellsTrailer line trailer → ⊥
+no_text_trailer : (line trailer : List ℕ) → line ≡ text_word → DescribesTrailer line trailer → ⊥
 no_text_trailer line trailer e t = text_no_trailer trailer (rw e at t)
 
-leads_once : (limits : Limits) (place : Place) (line : List ℕ) (next other : Place) → Leads limits place line next → Leads limits place line other
+reaches_once : (limits : Limits) (place : Place) (line : List ℕ) (next other : Place) → Leads limits place line next → Leads limits place line other
     → next ≡ other
-leads_once limits (At (InFields ds)) line next other (inl (d, t, a, e)) (inl (c, u, b, f)) = cc (field_once line d c t u)
-leads_once limits (At (InFields ds)) line next other (inl (d, t, a, e)) (inr (head, u, f)) = absurd (field_no_head line d head t u)
-leads_once limits (At (InFields ds)) line next other (inr (head, t, e)) (inl (d, u, a, f)) = absurd (field_no_head line d head u t)
-leads_once limits (At (InFields ds)) line next other (inr (head, t, e)) (inr (h, u, f)) = cc (one_head line head h t u)
-leads_once limits (At (AfterMessage ds head)) line next other (inl (x, t, a, e)) (inl (y, u, b, f)) = cc (trailer_once line x y t u)
-leads_once limits (At (AfterMessage ds head)) line next other (inl (x, t, a, e)) (inr (is, b, f)) = absurd (no_text_trailer line x is t)
-leads_once limits (At (AfterMessage ds head)) line next other (inr (is, a, e)) (inl (y, u, b, f)) = absurd (no_text_trailer line y is u)
-leads_once limits (At (AfterMessage ds head)) line next other (inr (is, a, e)) (inr (js, b, f)) = e ∙ sym f
-leads_once limits (At (AfterTrailer ds head trailer)) line next other h k = h.2 ∙ sym k.2
-leads_once limits (InStory ds head trailer done) line next other h k = h.1 ∙ sym k.1
+reaches_once limits (At (InFields ds)) line next other (inl (d, t, a, e)) (inl (c, u, b, f)) = cc (field_once line d c t u)
+reaches_once limits (At (InFields ds)) line next other (inl (d, t, a, e)) (inr (head, u, f)) = absurd (field_no_head line d head t u)
+reaches_once limits (At (InFields ds)) line next other (inr (head, t, e)) (inl (d, u, a, f)) = absurd (field_no_head line d head u t)
+reaches_once limits (At (InFields ds)) line next other (inr (head, t, e)) (inr (h, u, f)) = cc (one_head line head h t u)
+reaches_once limits (At (AfterMessage ds head)) line next other (inl (x, t, a, e)) (inl (y, u, b, f)) = cc (trailer_once line x y t u)
+reaches_once limits (At (AfterMessage ds head)) line next other (inl (x, t, a, e)) (inr (is, b, f)) = absurd (no_text_trailer line x is t)
+reaches_once limits (At (AfterMessage ds head)) line next other (inr (is, a, e)) (inl (y, u, b, f)) = absurd (no_text_trailer line y is u)
+reaches_once limits (At (AfterMessage ds head)) line next other (inr (is, a, e)) (inr (js, b, f)) = e ∙ sym f
+reaches_once limits (At (AfterTrailer ds head trailer)) line next other h k = h.2 ∙ sym k.2
+reaches_once limits (InStory ds head trailer done) line next other h k = h.1 ∙ sym k.1
 
 -- The state after lines, one after another.
 abbrev pub Path : Limits → Place → List (List ℕ) → Place → Type 0
@@ -94,7 +94,7 @@ walk_once limits place (l ∷ lines) [] octets end other rest left (after, n, e)
     let stuck = rw (← q, ← g) at h in absurd (stuck (l, after, next, n, leads))
 walk_once limits place (l ∷ lines) (m ∷ others) octets end other rest left (after, n, e) (next, leads, p) (more, k, g) (there, so, q) f h =
     let same = next_once octets l after m more n k in
-    let at = leads_once limits place m next there (rw same.0 at leads) so in
+    let at = reaches_once limits place m next there (rw same.0 at leads) so in
     let one = walk_once limits there lines others more end other rest left (rw same.1 at e) (rw at at p) g q f h in
     (rw (same.0, one.0) refl, one.1, one.2)
 
@@ -120,7 +120,7 @@ runs_once limits octets place other rest left n m r k f g =
 
 -- ---- the lines read so far are a run
 
-fields_path : (limits : Limits) (before : List Dataset) (lines : List (List ℕ)) (ds : List Dataset) → AreFieldLines limits before lines ds
+fields_path : (limits : Limits) (before : List Dataset) (lines : List (List ℕ)) (ds : List Dataset) → DescribeFields limits before lines ds
     → Path limits (At (InFields before)) lines (At (InFields (before ++ ds)))
 fields_path limits before [] [] are = rw append-nil refl
 fields_path limits before (line ∷ lines) (d ∷ ds) (told, taken, are) = (
@@ -130,28 +130,28 @@ fields_path limits before (line ∷ lines) (d ∷ ds) (told, taken, are) = (
 )
 fields_path limits before lines ds are = absurd are
 
-head_path : (limits : Limits) (fields : List (List ℕ)) (message : List ℕ) (ds : List Dataset) (head : Header) → AreFieldLines limits [] fields ds
-    → TellsHead message head
+head_path : (limits : Limits) (fields : List (List ℕ)) (message : List ℕ) (ds : List Dataset) (head : Header) → DescribeFields limits [] fields ds
+    → DescribesHead message head
     → Path limits start (fields ++ message ∷ []) (At (AfterMessage ds head))
 head_path limits fields message ds head are t =
     path_on limits start fields (message ∷ []) (At (InFields ds)) (At (AfterMessage ds head)) (fields_path limits [] fields ds are)
     (At (AfterMessage ds head), inr (head, t, refl), refl)
 
-come_path : (limits : Limits) (lines : List (List ℕ)) (stage : Stage) → HaveCome limits lines stage → Path limits start lines (At stage)
-come_path limits lines (InFields ds) come = fields_path limits [] lines ds come
-come_path limits lines (AfterMessage ds head) (fields, message, are, t, e) = rw e (head_path limits fields message ds head are t)
-come_path limits lines (AfterTrailer ds head trailer) (fields, message, line, are, t, u, is, e) =
+stage_path : (limits : Limits) (lines : List (List ℕ)) (stage : Stage) → ReachStage limits lines stage → Path limits start lines (At stage)
+stage_path limits lines (InFields ds) come = fields_path limits [] lines ds come
+stage_path limits lines (AfterMessage ds head) (fields, message, are, t, e) = rw e (head_path limits fields message ds head are t)
+stage_path limits lines (AfterTrailer ds head trailer) (fields, message, line, are, t, u, is, e) =
     rw (e, ← append_assoc fields (message ∷ []) (line ∷ []))
     (path_on limits start (fields ++ message ∷ []) (line ∷ []) (At (AfterMessage ds head)) (At (AfterTrailer ds head trailer))
     (head_path limits fields message ds head are t) (At (AfterTrailer ds head trailer), inl (trailer, u, is, refl), refl))
 
-pub stands_run : (limits : Limits) (octets : List ℕ) (stage : Stage) (rest : List ℕ) (count : ℕ) → Stands limits octets stage rest count
+pub reaches_by_run : (limits : Limits) (octets : List ℕ) (stage : Stage) (rest : List ℕ) (count : ℕ) → ReachesStage limits octets stage rest count
     → Run limits octets (At stage) rest count
-stands_run limits octets stage rest count s =
-    record { lines = s.lines; lined = s.lined; path = come_path limits s.lines stage s.come; count_is = s.count_is }
+reaches_by_run limits octets stage rest count s =
+    record { lines = s.lines; lined = s.lined; path = stage_path limits s.lines stage s.come; count_is = s.count_is }
 
-text_path : (limits : Limits) (trailers : List (List ℕ)) (ds : List Dataset) (head : Header) (trailer : List ℕ) → AreTrailer trailers trailer
-    → finish_fault ds ≡ None
+text_path : (limits : Limits) (trailers : List (List ℕ)) (ds : List Dataset) (head : Header) (trailer : List ℕ) → DescribeTrailer trailers trailer
+    → missing_field_fault ds ≡ None
     → Path limits (At (AfterMessage ds head)) (trailers ++ text_word ∷ []) (InStory ds head trailer [])
 text_path limits [] ds head trailer is whole = (InStory ds head [] [], inr (refl, whole, refl), rw is refl)
 text_path limits (line ∷ []) ds head trailer is whole =
@@ -184,10 +184,10 @@ story_run limits octets story rest ds head trailer done text_line f lined each =
 
 -- ---- an invalid line is not accepted, and has one cause
 
-too_soon_once : (ds : List Dataset) (line : List ℕ) (a b : FieldCause) → EndsTooSoon ds line a → EndsTooSoon ds line b → a ≡ b
+too_soon_once : (ds : List Dataset) (line : List ℕ) (a b : FieldCause) → IsIncompleteEnvelope ds line a → IsIncompleteEnvelope ds line b → a ≡ b
 too_soon_once ds line a b (f, is, e, p) (g, js, h, q) = cc
 
-wrong_once : (limits : Limits) (stage : Stage) (line : List ℕ) (a b : ScriptCause) → IsWrong limits stage line a → IsWrong limits stage line b → a ≡ b
+wrong_once : (limits : Limits) (stage : Stage) (line : List ℕ) (a b : ScriptCause) → IsBadLine limits stage line a → IsBadLine limits stage line b → a ≡ b
 wrong_once limits (InFields ds) line ScriptLine (Field b) w v = absurd (w.0 v.0 v.2)
 wrong_once limits (InFields ds) line (Field a) ScriptLine w v = absurd (v.0 w.0 w.2)
 wrong_once limits (InFields ds) line (Field a) (Field b) (d, f, t, e, p) (c, g, u, h, q) = let refused = rw (field_once line d c t u) at e in cc
@@ -203,7 +203,7 @@ wrong_once limits (AfterTrailer ds head trailer) line (Field a) ScriptLine w v =
 wrong_once limits (AfterTrailer ds head trailer) line (Field a) (Field b) w v = ap (λ (c : FieldCause). Field c) (too_soon_once ds line a b w v)
 wrong_once limits stage line a b w v = grind arith
 
-wrong_stuck : (limits : Limits) (stage : Stage) (line : List ℕ) (cause : ScriptCause) (next : Place) → IsWrong limits stage line cause
+wrong_stuck : (limits : Limits) (stage : Stage) (line : List ℕ) (cause : ScriptCause) (next : Place) → IsBadLine limits stage line cause
     → Leads limits (At stage) line next → ⊥
 wrong_stuck limits (InFields ds) line ScriptLine next w (inl y) = w.0 y.0 y.1
 wrong_stuck limits (InFields ds) line ScriptLine next w (inr y) = w.1 y.0 y.1
@@ -219,16 +219,16 @@ wrong_stuck limits (AfterTrailer ds head trailer) line ScriptLine next w y = w y
 wrong_stuck limits (AfterTrailer ds head trailer) line (Field why) next w y = absurd cc
 wrong_stuck limits stage line cause next w y = absurd w
 
-pub next_wrong_stuck : (limits : Limits) (stage : Stage) (rest : List ℕ) (cause : ScriptCause) → IsNextWrong limits stage rest cause
+pub next_wrong_stuck : (limits : Limits) (stage : Stage) (rest : List ℕ) (cause : ScriptCause) → IsNextBad limits stage rest cause
     → Onward limits (At stage) rest → ⊥
 next_wrong_stuck limits stage rest cause (inl (none, is)) (line, after, next, n, leads) = no_next rest line after none n
 next_wrong_stuck limits stage rest cause (inr (l, a, m, w)) (line, after, next, n, leads) =
-    wrong_stuck limits stage line cause next (subst (λ (x : List ℕ). IsWrong limits stage x cause) (next_once rest l a line after m n).0 w) leads
+    wrong_stuck limits stage line cause next (subst (λ (x : List ℕ). IsBadLine limits stage x cause) (next_once rest l a line after m n).0 w) leads
 
-pub next_wrong_once : (limits : Limits) (stage : Stage) (rest : List ℕ) (a b : ScriptCause) → IsNextWrong limits stage rest a
-    → IsNextWrong limits stage rest b → a ≡ b
+pub next_wrong_once : (limits : Limits) (stage : Stage) (rest : List ℕ) (a b : ScriptCause) → IsNextBad limits stage rest a
+    → IsNextBad limits stage rest b → a ≡ b
 next_wrong_once limits stage rest a b (inl (none, is)) (inl (nothing, js)) = is ∙ sym js
 next_wrong_once limits stage rest a b (inl (none, is)) (inr (l, after, n, w)) = absurd (no_next rest l after none n)
 next_wrong_once limits stage rest a b (inr (l, after, n, w)) (inl (none, is)) = absurd (no_next rest l after none n)
 next_wrong_once limits stage rest a b (inr (l, after, n, w)) (inr (m, more, k, v)) =
-    wrong_once limits stage m a b (subst (λ (x : List ℕ). IsWrong limits stage x a) (next_once rest l after m more n k).0 w) v
+    wrong_once limits stage m a b (subst (λ (x : List ℕ). IsBadLine limits stage x a) (next_once rest l after m more n k).0 w) v

@@ -1,14 +1,14 @@
 -- Octets are one script or have one error.
-use Rattle.iim_script.proofs.Words.{◌≡◌, ◌⊎◌, inl, inr, ℕ, ◌+◌, ◌<◌, ◌≤◌, List, [], ◌∷◌, ◌++◌, length, refl, ap, sym, ◌∙◌, arith, AllByRecursion, Dataset, all_front, all_last, Limits, Header, IsLine, HasNo, NextLine, IsStory, IsScript, max_script, IsNextWrong, Stage, Stands, IsScriptFault, OutOfMemory, ScriptCause}
+use Rattle.iim_script.proofs.Words.{◌≡◌, ◌⊎◌, inl, inr, ℕ, ◌+◌, ◌<◌, ◌≤◌, List, [], ◌∷◌, ◌++◌, length, refl, ap, sym, ◌∙◌, arith, AllByRecursion, Dataset, all_front, all_last, Limits, Header, IsLine, Lacks, NextLine, IsStory, IsScript, max_script, IsNextBad, Stage, ReachesStage, IsScriptFault, OutOfMemory, ScriptCause}
 use Rattle.iim_script.specs.Format.Causes.{IsStoryFault, ScriptTooLong, BadTextOctet}
 use Rattle.iim_script.proofs.Next.{next_once, no_next}
-use Rattle.iim_script.proofs.Runs.{Place, At, InStory, Run, Onward, runs_once, stands_run, story_run, next_wrong_stuck, next_wrong_once}
+use Rattle.iim_script.proofs.Runs.{Place, At, InStory, Run, Onward, runs_once, reaches_by_run, story_run, next_wrong_stuck, next_wrong_once}
 
 -- ---- the end of the octets
 
 -- This is the line here: with its end, or as the rest.
 abbrev IsThere : List ℕ → List ℕ → Type 0
-IsThere rest line = ((after : List ℕ) × NextLine rest line after) ⊎ (HasNo 10 rest × (line ≡ rest))
+IsThere rest line = ((after : List ℕ) × NextLine rest line after) ⊎ (Lacks 10 rest × (line ≡ rest))
 
 -- the line here is the next one, or the rest
 line_there : (rest line next after : List ℕ) → NextLine rest next after → IsThere rest line → next ≡ line
@@ -16,14 +16,14 @@ line_there rest line next after n (inl (more, k)) = (next_once rest next after l
 line_there rest line next after n (inr last) = absurd (no_next rest next after last.0 n)
 
 -- the line here, if no LF is left
-last_there : (rest line : List ℕ) → HasNo 10 rest → IsThere rest line → line ≡ rest
+last_there : (rest line : List ℕ) → Lacks 10 rest → IsThere rest line → line ≡ rest
 last_there rest line none (inl (after, n)) = absurd (no_next rest line after none n)
 last_there rest line none (inr last) = last.1
 
 -- Why octets that reach this state are no script: the next line is invalid, before the story or in
 -- it.
 abbrev Ends : Limits → Place → List ℕ → ScriptCause → Type 0
-Ends limits (At stage) rest cause = IsNextWrong limits stage rest cause
+Ends limits (At stage) rest cause = IsNextBad limits stage rest cause
 Ends limits (InStory ds head trailer done) rest cause = (line : List ℕ) × IsThere rest line × (IsLine line → ⊥) × (cause ≡ BadTextOctet)
 
 ends_stuck : (limits : Limits) (place : Place) (rest : List ℕ) (cause : ScriptCause) → Ends limits place rest cause → Onward limits place rest → ⊥
@@ -44,10 +44,10 @@ record Fails (limits : Limits) (octets : List ℕ) (number : ℕ) (cause : Scrip
   ends : Ends limits place rest cause
   number_is : number ≡ count + 1
 
-front_fails : {limits : Limits} {octets rest : List ℕ} {number count : ℕ} {cause : ScriptCause} {stage : Stage} → Stands limits octets stage rest count
-    → number ≡ count + 1 → IsNextWrong limits stage rest cause → Fails limits octets number cause
+front_fails : {limits : Limits} {octets rest : List ℕ} {number count : ℕ} {cause : ScriptCause} {stage : Stage} → ReachesStage limits octets stage rest count
+    → number ≡ count + 1 → IsNextBad limits stage rest cause → Fails limits octets number cause
 front_fails {limits} {octets} {rest} {number} {count} {cause} {stage} stands number_is wrong =
-    record { place = At stage; rest = rest; count = count; run = stands_run limits octets stage rest count stands; ends = wrong; number_is = number_is }
+    record { place = At stage; rest = rest; count = count; run = reaches_by_run limits octets stage rest count stands; ends = wrong; number_is = number_is }
 
 story_fails : (limits : Limits) (octets : List ℕ) (number : ℕ) → IsStoryFault limits octets number → Fails limits octets number BadTextOctet
 story_fails limits octets number f =
@@ -89,7 +89,7 @@ record Whole (limits : Limits) (octets : List ℕ) (ds : List Dataset) (head : H
   done : List (List ℕ)
   rest : List ℕ
   run : Run limits octets (InStory ds head trailer done) rest (text_line + length done)
-  none : HasNo 10 rest
+  none : Lacks 10 rest
   lines_are : LinesAre lines done rest
 
 -- a script is such a run
@@ -112,7 +112,7 @@ whole limits octets ds head trailer lines text_line s (some, inr (before, last, 
 }
 
 -- no line is accepted if no LF is left
-none_stuck : (limits : Limits) (place : Place) (rest : List ℕ) → HasNo 10 rest → Onward limits place rest → ⊥
+none_stuck : (limits : Limits) (place : Place) (rest : List ℕ) → Lacks 10 rest → Onward limits place rest → ⊥
 none_stuck limits place rest none (line, after, next, n, leads) = no_next rest line after none n
 
 script_no_fails : (limits : Limits) (octets : List ℕ) (fields : List Dataset) (head : Header) (trailer : List ℕ) (lines : List (List ℕ))

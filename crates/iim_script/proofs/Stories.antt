@@ -1,5 +1,5 @@
 -- The lines of a story, one after another.
-use Rattle.iim_script.proofs.Words.{◌≡◌, ◌⊎◌, inl, inr, ℕ, ◌+◌, ◌<◌, List, [], ◌∷◌, ◌++◌, append_assoc, length, length-append, take, refl, ap, sym, ◌∙◌, subst, arith, Option, Some, None, IfSome, IfNone, Bor, AllByRecursion, all_append, IsLine, IsText, HasNo, NextLine, NextLines, WithoutLast, IsStory, TellsText}
+use Rattle.iim_script.proofs.Words.{◌≡◌, ◌⊎◌, inl, inr, ℕ, ◌+◌, ◌<◌, List, [], ◌∷◌, ◌++◌, append_assoc, length, length-append, take, refl, ap, sym, ◌∙◌, subst, arith, Option, Some, None, IfSome, IfNone, Bor, AllByRecursion, all_append, IsLine, IsText, Lacks, NextLine, NextLines, WithoutLast, IsStory, IsPackedTextOf}
 use Rattle.std.proofs.Common.{append-nil}
 use Rattle.std.proofs.Math.Seq.{take-append_seam}
 use Rattle.iim_dataset.proofs.Lists.{some_none}
@@ -9,7 +9,7 @@ use Rattle.iim_script.proofs.Next.{lines_more, count_more}
 
 -- The line is the last of a story: with its end, or without one.
 abbrev pub IsLastLine : List ℕ → List ℕ → Type 0
-IsLastLine rest line = NextLine rest line [] ⊎ (HasNo 10 rest × (line ≡ rest))
+IsLastLine rest line = NextLine rest line [] ⊎ (Lacks 10 rest × (line ≡ rest))
 
 -- The lines of a story so far, and the rest of it: what makes a text of the rest makes a text of
 -- the whole, and adds this many octets to its packed size.
@@ -82,7 +82,7 @@ take_parts : (front line end : List ℕ) (n : ℕ) → n ≡ length front + leng
 take_parts front line end n e = rw (e, ← length-append front line, ← append_assoc front line end) (take-append_seam (front ++ line) end)
 
 pub story_ends : {story rest line text : List ℕ} {before count len whole : ℕ} (at : ℕ) → StoryStands story before rest count len → IsLastLine rest line
-    → IsLine line → text ≡ take at story → at + length rest ≡ length story + length line → whole ≡ len + length line → TellsText story text whole
+    → IsLine line → text ≡ take at story → at + length rest ≡ length story + length line → whole ≡ len + length line → IsPackedTextOf story text whole
 story_ends {story} {rest} {line} {text} {before} {count} {len} {whole} at s last is cut place f =
     let b = last_begins rest line last in
     let begins : story ≡ s.front ++ (line ++ b.0) = s.parts ∙ ap (λ (l : List ℕ). s.front ++ l) b.1 in
@@ -97,7 +97,7 @@ story_ends {story} {rest} {line} {text} {before} {count} {len} {whole} at s last
     }
 
 next_or_last : (rest line : List ℕ) (after : Option (Bor (List ℕ))) → IfSome after (λ r. NextLine rest line r.now) → IfNone after (IsLastLine rest line)
-    → ((after : List ℕ) × NextLine rest line after) ⊎ (HasNo 10 rest × (line ≡ rest))
+    → ((after : List ℕ) × NextLine rest line after) ⊎ (Lacks 10 rest × (line ≡ rest))
 next_or_last rest line (Some after) h k = inl (after.now, h)
 next_or_last rest line None h (inl n) = inl ([], n)
 next_or_last rest line None h (inr last) = inr last

@@ -1,7 +1,7 @@
 -- Octets printed as text.
 use Rattle.std.proofs.Common.{◌≡◌, inl, inr, ℕ, ◌-◌, ◌<◌, ◌≤◌, List, [], ◌∷◌, ◌++◌, append_assoc, length, take, drop, get_or, refl, ap, sym, ◌∙◌, subst, arith}
 use Rattle.std.proofs.lemmas.List.{take_rest, append-nil}
-use Rattle.iim_script.specs.Format.Scripts.{IsHexDigit, IsOfDigits, BeginsWith, TellsOctets, TellsLast}
+use Rattle.iim_script.specs.Format.Scripts.{IsHexDigit, IsOfDigits, BeginsWith, EncodesOctets, EndsWith}
 
 -- the first octet, and the others
 pub first_and_rest : (xs : List ℕ) → 0 < length xs → xs ≡ get_or xs 0 0 ∷ take (length xs - 1) (drop 1 xs)
@@ -53,14 +53,14 @@ begins_once text rest more a b h k = let once = octet_once in grind arith
 -- The octets of a text so far, and the rest of it: together they encode the octets of the whole
 -- text, and nothing else.
 pub record Onto (text octets rest : List ℕ) : Type 0 where
-  pub leads : (ys : List ℕ) → TellsOctets rest ys → TellsOctets text (octets ++ ys)
-  pub only : (all : List ℕ) → TellsOctets text all → (ys : List ℕ) × (all ≡ octets ++ ys) × TellsOctets rest ys
+  pub leads : (ys : List ℕ) → EncodesOctets rest ys → EncodesOctets text (octets ++ ys)
+  pub only : (all : List ℕ) → EncodesOctets text all → (ys : List ℕ) × (all ≡ octets ++ ys) × EncodesOctets rest ys
 
 none_left : (rest : List ℕ) (octet : ℕ) (more : List ℕ) → BeginsWith rest octet more → rest ≡ [] → ⊥
 none_left rest octet more h e = empty_begins more octet (subst (λ (l : List ℕ). BeginsWith l octet more) e h)
 
-only_step : (octets rest more ys all : List ℕ) (octet : ℕ) → BeginsWith rest octet more → all ≡ octets ++ ys → TellsOctets rest ys
-    → (zs : List ℕ) × (all ≡ (octets ++ octet ∷ []) ++ zs) × TellsOctets more zs
+only_step : (octets rest more ys all : List ℕ) (octet : ℕ) → BeginsWith rest octet more → all ≡ octets ++ ys → EncodesOctets rest ys
+    → (zs : List ℕ) × (all ≡ (octets ++ octet ∷ []) ++ zs) × EncodesOctets more zs
 only_step octets rest more [] all octet begins e told = absurd (none_left rest octet more begins told)
 only_step octets rest more (y ∷ ys) all octet begins e (after, at, told) =
     let same = begins_once rest more after octet y begins at in
@@ -68,42 +68,42 @@ only_step octets rest more (y ∷ ys) all octet begins e (after, at, told) =
 
 pub onto_step : (text octets rest more : List ℕ) (octet : ℕ) → Onto text octets rest → BeginsWith rest octet more → Onto text (octets ++ octet ∷ []) more
 onto_step text octets rest more octet onto begins = record {
-  leads = λ ys told. subst (λ (l : List ℕ). TellsOctets text l) (sym (append_assoc octets (octet ∷ []) ys)) (onto.leads (octet ∷ ys) (more, begins, told));
+  leads = λ ys told. subst (λ (l : List ℕ). EncodesOctets text l) (sym (append_assoc octets (octet ∷ []) ys)) (onto.leads (octet ∷ ys) (more, begins, told));
   only = λ all told. let h = onto.only all told in only_step octets rest more h.0 all octet begins h.1 h.2;
 }
 
 -- the rest is empty
-pub onto_end : (text octets rest : List ℕ) → Onto text octets rest → length rest ≡ 0 → TellsOctets text octets
-onto_end text octets [] onto none = subst (λ (l : List ℕ). TellsOctets text l) (append-nil octets) (onto.leads [] refl)
+pub onto_end : (text octets rest : List ℕ) → Onto text octets rest → length rest ≡ 0 → EncodesOctets text octets
+onto_end text octets [] onto none = subst (λ (l : List ℕ). EncodesOctets text l) (append-nil octets) (onto.leads [] refl)
 onto_end text octets (x ∷ rest) onto none = absurd (omega (arith, none))
 
-no_start : (rest ys : List ℕ) → (0 < length rest) → ((octet : ℕ) (more : List ℕ) → BeginsWith rest octet more → ⊥) → TellsOctets rest ys → ⊥
+no_start : (rest ys : List ℕ) → (0 < length rest) → ((octet : ℕ) (more : List ℕ) → BeginsWith rest octet more → ⊥) → EncodesOctets rest ys → ⊥
 no_start rest [] some none told = absurd (omega (arith, some, ap length told))
 no_start rest (y ∷ ys) some none (more, begins, told) = none y more begins
 
 -- the rest begins with no valid octet
 pub onto_none : (text octets rest : List ℕ) → Onto text octets rest → (0 < length rest) → ((octet : ℕ) (more : List ℕ) → BeginsWith rest octet more → ⊥)
-    → (all : List ℕ) → TellsOctets text all → ⊥
+    → (all : List ℕ) → EncodesOctets text all → ⊥
 onto_none text octets rest onto some none all told = let h = onto.only all told in no_start rest h.0 some none h.2
 
 -- the rest of a line, if it begins with SP
-pub no_last : (end text : List ℕ) → end ≡ 32 ∷ text → ((octets : List ℕ) → TellsOctets text octets → ⊥) → (octets : List ℕ) → TellsLast end octets → ⊥
+pub no_last : (end text : List ℕ) → end ≡ 32 ∷ text → ((octets : List ℕ) → EncodesOctets text octets → ⊥) → (octets : List ℕ) → EndsWith end octets → ⊥
 no_last end text e none [] told = absurd (omega (arith, ap length (sym e ∙ told)))
 no_last end text e none (octet ∷ octets) (other, is, told) =
-    none (octet ∷ octets) (subst (λ (l : List ℕ). TellsOctets l (octet ∷ octets)) (ap (λ (l : List ℕ). drop 1 l) (sym is ∙ e)) told)
+    none (octet ∷ octets) (subst (λ (l : List ℕ). EncodesOctets l (octet ∷ octets)) (ap (λ (l : List ℕ). drop 1 l) (sym is ∙ e)) told)
 
 -- a text encodes at most one list of octets
-pub tells_once : (text xs ys : List ℕ) → TellsOctets text xs → TellsOctets text ys → xs ≡ ys
-tells_once text [] [] h k = refl
-tells_once text [] (y ∷ ys) h (rest, begins, told) = absurd (none_left text y rest begins h)
-tells_once text (x ∷ xs) [] (rest, begins, told) k = absurd (none_left text x rest begins k)
-tells_once text (x ∷ xs) (y ∷ ys) (rest, begins, told) (more, at, tells) =
+pub describes_once : (text xs ys : List ℕ) → EncodesOctets text xs → EncodesOctets text ys → xs ≡ ys
+describes_once text [] [] h k = refl
+describes_once text [] (y ∷ ys) h (rest, begins, told) = absurd (none_left text y rest begins h)
+describes_once text (x ∷ xs) [] (rest, begins, told) k = absurd (none_left text x rest begins k)
+describes_once text (x ∷ xs) (y ∷ ys) (rest, begins, told) (more, at, tells) =
     let same = begins_once text rest more x y begins at in
-    rw (same.0, tells_once rest xs ys told (rw same.1 tells)) refl
+    rw (same.0, describes_once rest xs ys told (rw same.1 tells)) refl
 
-pub last_once : (end xs ys : List ℕ) → TellsLast end xs → TellsLast end ys → xs ≡ ys
+pub last_once : (end xs ys : List ℕ) → EndsWith end xs → EndsWith end ys → xs ≡ ys
 last_once end [] [] h k = refl
 last_once end [] (y ∷ ys) h (text, is, told) = absurd (omega (arith, ap length (sym is ∙ h)))
 last_once end (x ∷ xs) [] (text, is, told) k = absurd (omega (arith, ap length (sym is ∙ k)))
 last_once end (x ∷ xs) (y ∷ ys) (text, is, told) (more, at, tells) =
-    tells_once text (x ∷ xs) (y ∷ ys) told (subst (λ (l : List ℕ). TellsOctets l (y ∷ ys)) (ap (λ (l : List ℕ). drop 1 l) (sym at ∙ is)) tells)
+    describes_once text (x ∷ xs) (y ∷ ys) told (subst (λ (l : List ℕ). EncodesOctets l (y ∷ ys)) (ap (λ (l : List ℕ). drop 1 l) (sym at ∙ is)) tells)

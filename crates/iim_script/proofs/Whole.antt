@@ -1,5 +1,5 @@
 -- What is printed of an envelope is a script: a builder accepts its datasets.
-use Rattle.iim_script.proofs.Words.{◌≡◌, ℕ, ◌<◌, true, List, [], ◌∷◌, ◌++◌, append_assoc, length, refl, ap, sym, ◌∙◌, subst, arith, Option, None, map, AllByRecursion, flat_map, eq-eqb, Dataset, all_append, finish_fault, Limits, AreFieldLines, Header, IsHeader, text_word, NextLines, field_line, message_line, trailer_line}
+use Rattle.iim_script.proofs.Words.{◌≡◌, ℕ, ◌<◌, true, List, [], ◌∷◌, ◌++◌, append_assoc, length, refl, ap, sym, ◌∙◌, subst, arith, Option, None, map, AllByRecursion, flat_map, eq-eqb, Dataset, all_append, missing_field_fault, Limits, DescribeFields, Header, IsHeader, text_word, NextLines, field_line, message_line, trailer_line}
 use Rattle.std.specs.Option.{option_or}
 use Rattle.std.proofs.lemmas.List.Elements.{filter-append}
 use Rattle.std.proofs.lemmas.List.Folds.{list_any-append}
@@ -8,10 +8,10 @@ use Rattle.std.proofs.lemmas.List.{length-map}
 use Rattle.iim_dataset.specs.Format.Datasets.{of_record}
 use Rattle.iim_dataset.proofs.{Each.all_map, Lists.all_there}
 use Rattle.iim_fields.specs.{Format.Records.IsEnvelope, Format.Records.IsWithin, States.Standing.absent, Format.Causes.joined, Format.Causes.missing_fault}
-use Rattle.iim_fields.specs.Laws.{DatasetsOfEnvelopesAreAdded}
+use Rattle.iim_fields.specs.Laws.{BuildersAcceptEnvelopes}
 use Rattle.iim_tables.specs.Format.Records.{IsGoodDataset, mandatory, occurs}
 use Rattle.iim_fields.specs.declared.fault.FieldFault.{FieldFault}
-use Rattle.iim_script.proofs.Printing.{IsPrintable, field_words, field_told, fields_end, message_words, message_ends, head_told, trailer_words, trailer_ends, trailer_told}
+use Rattle.iim_script.proofs.Printing.{IsPrintable, field_words, field_described, fields_end, message_words, message_ends, head_described, trailer_words, trailer_ends, trailer_told}
 use Rattle.iim_script.proofs.{Cuts.ended, Plains.story_printed}
 use Rattle.std.specs.Prelude.{codes}
 use Rattle.iim_script.specs.{Laws.PrintedValuesAreScripts, Format.Scripts.script_of}
@@ -32,13 +32,13 @@ all_printable ds e =
 -- ---- no error
 
 -- the lines of the remaining datasets of an envelope, after those before them
-fields_are : DatasetsOfEnvelopesAreAdded → (limits : Limits) (before ds : List Dataset) → IsEnvelope (before ++ ds)
+fields_are : BuildersAcceptEnvelopes → (limits : Limits) (before ds : List Dataset) → IsEnvelope (before ++ ds)
     → IsWithin limits (length (joined (before ++ ds))) (length (before ++ ds))
-    → AllByRecursion IsPrintable ds → AreFieldLines limits before (map field_words ds) ds
+    → AllByRecursion IsPrintable ds → DescribeFields limits before (map field_words ds) ds
 fields_are added limits before [] e within all = tt
 fields_are added limits before (d ∷ ds) e within (printable, all) =
     let parts = sym (append_assoc before (d ∷ []) ds) in
-    (field_told d printable, added limits before ds d e within, fields_are added limits (before ++ d ∷ []) ds (rw parts at e) (rw parts at within) all)
+    (field_described d printable, added limits before ds d e within, fields_are added limits (before ++ d ∷ []) ds (rw parts at e) (rw parts at within) all)
 
 -- ---- nothing is missing
 
@@ -56,7 +56,7 @@ first_there ds e n h = rw (e.parts, filter-append, own 1 e.r1 e.envelope.each, l
 second_there : (ds : List Dataset) (e : IsEnvelope ds) (n : ℕ) → occurs n e.r2 ≡ true → occurs n (of_record 2 ds) ≡ true
 second_there ds e n h = rw (e.parts, filter-append, own 2 e.r2 e.application.each, list_any-append, h) (or-true _)
 
-pub whole : (ds : List Dataset) → IsEnvelope ds → finish_fault ds ≡ None
+pub whole : (ds : List Dataset) → IsEnvelope ds → missing_field_fault ds ≡ None
 whole ds e =
     let first : absent 1 ds ≡ None = nothing_absent 1 ds
     (all_map (λ n. occurs n e.r1 ≡ true) (λ n. occurs n (of_record 1 ds) ≡ true) (mandatory 1) (first_there ds e) e.envelope.mandatory) in
@@ -81,7 +81,7 @@ script_parts : (fields : List Dataset) (head : Header) (trailer story : List ℕ
     → script_of fields head trailer story ≡ flat_map field_line fields ++ (message_line head ++ (trailer_line trailer ++ (codes "text\n" ++ story)))
 script_parts fields head trailer story = simp append_assoc
 
-pub is_script : DatasetsOfEnvelopesAreAdded → PrintedValuesAreScripts
+pub is_script : BuildersAcceptEnvelopes → PrintedValuesAreScripts
 is_script added limits fields head trailer lines story envelope within is_header is_trailer some texts printed short = record {
   story = story;
   short = short;
@@ -93,7 +93,7 @@ is_script added limits fields head trailer lines story envelope within is_header
         (last_lines head trailer story is_header));
     are_fields = fields_are added limits [] fields envelope within (all_printable fields envelope);
     whole = whole fields envelope;
-    is_head = head_told head is_header;
+    is_head = head_described head is_header;
     is_trailer = (trailer_told trailer is_trailer.0, is_trailer);
     text_line_is = omega (arith, length-map fields field_words);
   };

@@ -2,12 +2,12 @@
 pub use Rattle.iim_dataset.proofs.Each.{all_append, all_front, all_last}
 pub use Rattle.iim_dataset.specs.Format.Datasets.{Dataset, shown, shown_octet}
 pub use Rattle.iim_dataset.specs.Format.Octets.{is_digit, is_letter}
-pub use Rattle.iim_fields.specs.States.Standing.{Building, add_fault, finish_fault}
+pub use Rattle.iim_fields.specs.States.Standing.{BuilderView, added_field_fault, missing_field_fault}
 pub use Rattle.iim_fields.specs.States.Walks.{rest_of}
 pub use Rattle.iim_fields.specs.declared.limits.Limits.{Limits}
-pub use Rattle.iim_script.specs.Format.Causes.{AfterMessage, AfterTrailer, BadTrailer, Field, HaveCome, InFields, IsNextWrong, IsScriptFault, OutOfMemory, ScriptCause, ScriptLine, Stage, Stands, TellsNone}
-pub use Rattle.iim_script.specs.Format.Scripts.{AreWords, TellsField, TellsHead, TellsNumber, TellsTrailer, head_words, text_word, HasNo, NextLine, NextLines, WithoutLast, field_line, message_line, trailer_line, AreFieldLines, AreTrailer, IsFront, IsScript, IsStory, max_script, IsHexDigit, TellsLast, TellsOctets}
-pub use Rattle.iim_script.specs.Steps.{TellsText}
+pub use Rattle.iim_script.specs.Format.Causes.{AfterMessage, AfterTrailer, BadTrailer, Field, ReachStage, InFields, IsNextBad, IsScriptFault, OutOfMemory, ScriptCause, ScriptLine, Stage, ReachesStage, HasNoForm}
+pub use Rattle.iim_script.specs.Format.Scripts.{AreFieldsOf, DescribesField, DescribesHead, EncodesNumber, DescribesTrailer, head_words, text_word, Lacks, NextLine, NextLines, WithoutLast, field_line, message_line, trailer_line, DescribeFields, DescribeTrailer, IsFront, IsScript, IsStory, max_script, IsHexDigit, EndsWith, EncodesOctets}
+pub use Rattle.iim_script.specs.Steps.{IsPackedTextOf}
 pub use Rattle.std.proofs.Common.{Bool, Bor, IfNone, IfSome, IsTrue, List, None, Option, Some, [], ap, append_assoc, arith, cond, count_by, drop, false, get_or, inl, inr, length, length-append, map, nat_eq, nat_le, nat_lt, not, refl, rules, subst, suc, sym, take, true, w8, zero, ℕ, ◌%◌, ◌&&◌, ◌*◌, ◌++◌, ◌+◌, ◌-◌, ◌/◌, ◌<◌, ◌==◌, ◌∙◌, ◌∷◌, ◌≡◌, ◌≤◌, ◌⊎◌}
 pub use Rattle.std.proofs.Math.Numerals.{one-add}
 pub use Rattle.std.proofs.lemmas.Bool.{and_from, and_parts, eq-eqb, eqb-true, false_from_ne_true, false≢true}

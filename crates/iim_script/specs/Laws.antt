@@ -6,7 +6,7 @@ use Rattle.iim_fields.specs.Format.Records.{IsEnvelope, IsWithin}
 use Rattle.iim_fields.specs.{Format.Causes.joined, declared.limits.Limits.Limits}
 use Rattle.wire_message.specs.Format.Messages.{Header, IsHeader, IsTrailer}
 use Rattle.wire_story.specs.Format.Texts.{IsLine}
-use Rattle.iim_script.specs.Format.Scripts.{NextLine, TellsField, TellsHead, TellsTrailer, text_word, PrintsStory, script_of, IsScript, max_script}
+use Rattle.iim_script.specs.Format.Scripts.{NextLine, DescribesField, DescribesHead, DescribesTrailer, text_word, PrintsStory, script_of, IsScript, max_script}
 use Rattle.iim_script.specs.Format.Causes.{IsScriptFault, OutOfMemory, ScriptCause}
 
 -- Octets have at most one next line, and at most one rest after it.
@@ -14,22 +14,22 @@ abbrev pub OctetsHaveOneNextLine : Type 0
 OctetsHaveOneNextLine = (octets line after other more : List ℕ) → NextLine octets line after → NextLine octets other more → (line ≡ other) × (after ≡ more)
 
 -- A line describes at most one dataset, one header and one trailer.
-abbrev pub LinesTellOneThing : Type 0
-LinesTellOneThing =
-    ((line : List ℕ) (d e : Dataset) → TellsField line d → TellsField line e → d ≡ e)
-    × ((line : List ℕ) (head other : Header) → TellsHead line head → TellsHead line other → head ≡ other)
-    × ((line octets other : List ℕ) → TellsTrailer line octets → TellsTrailer line other → octets ≡ other)
+abbrev pub LinesAreUnambiguous : Type 0
+LinesAreUnambiguous =
+    ((line : List ℕ) (d e : Dataset) → DescribesField line d → DescribesField line e → d ≡ e)
+    × ((line : List ℕ) (head other : Header) → DescribesHead line head → DescribesHead line other → head ≡ other)
+    × ((line octets other : List ℕ) → DescribesTrailer line octets → DescribesTrailer line other → octets ≡ other)
 
 -- No line has two of the forms that are allowed in the same state.
 abbrev pub FormsExcludeOneAnother : Type 0
 FormsExcludeOneAnother =
-    ((line : List ℕ) (d : Dataset) (head : Header) → TellsField line d → TellsHead line head → ⊥)
-    × ((octets : List ℕ) → TellsTrailer text_word octets → ⊥)
+    ((line : List ℕ) (d : Dataset) (head : Header) → DescribesField line d → DescribesHead line head → ⊥)
+    × ((octets : List ℕ) → DescribesTrailer text_word octets → ⊥)
 
 -- A script has unique contents: one list of datasets, one header, one trailer, one list of lines,
 -- and one number of the line `text`.
-abbrev pub ScriptsTellOneThing : Type 0
-ScriptsTellOneThing = (limits : Limits) (octets : List ℕ) (fields others : List Dataset) (head other : Header) (trailer end : List ℕ) (lines more : List (List ℕ)) (n m : ℕ)
+abbrev pub ScriptsAreUnambiguous : Type 0
+ScriptsAreUnambiguous = (limits : Limits) (octets : List ℕ) (fields others : List Dataset) (head other : Header) (trailer end : List ℕ) (lines more : List (List ℕ)) (n m : ℕ)
     → IsScript limits octets fields head trailer lines n → IsScript limits octets others other end more m
     → (fields ≡ others) × (head ≡ other) × (trailer ≡ end) × (lines ≡ more) × (n ≡ m)
 
@@ -58,10 +58,10 @@ PrintedValuesAreScripts = (limits : Limits) (fields : List Dataset) (head : Head
 pub record ScriptLaws : Type 0 where
   -- lines:
   pub octets_have_one_next_line : OctetsHaveOneNextLine
-  pub lines_tell_one_thing : LinesTellOneThing
+  pub lines_are_unambiguous : LinesAreUnambiguous
   pub forms_exclude_one_another : FormsExcludeOneAnother
   -- scripts:
-  pub scripts_tell_one_thing : ScriptsTellOneThing
+  pub scripts_are_unambiguous : ScriptsAreUnambiguous
   pub scripts_have_no_fault : ScriptsHaveNoFault
   pub octets_have_one_fault : OctetsHaveOneFault
   pub printed_values_are_scripts : PrintedValuesAreScripts

@@ -1,7 +1,7 @@
 //! Why a script does not describe an envelope.
 
 ghost use Rattle.std.specs.Prelude.{◌≡◌, ◌≤◌};
-ghost use Rattle.iim_script.specs.Format.Causes.{cause_number, cause_name};
+ghost use Rattle.iim_script.specs.Format.Causes.{script_cause_number, script_cause_name};
 ghost use Rattle.iim_script.specs.Steps.{number_after};
 ghost use Rattle.iim_script.specs.Format.Scripts.{max_script};
 
@@ -31,7 +31,7 @@ pub enum ScriptCause {
 impl ScriptCause {
     /// Returns the number as it is printed.
     pub fn number(self) -> u8
-        ensures { result ≡ cause_number self }
+        ensures { result ≡ script_cause_number self }
     {
         match self {
             ScriptCause::ScriptLine => 91,
@@ -45,7 +45,7 @@ impl ScriptCause {
 
     /// Returns the name as it is printed.
     pub fn name(self) -> &'static str
-        ensures { result.now ≡ cause_name self }
+        ensures { result.now ≡ script_cause_name self }
     {
         match self {
             ScriptCause::ScriptLine => "ScriptLine",

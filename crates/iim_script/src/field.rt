@@ -2,14 +2,14 @@
 
 ghost use Rattle.std.specs.Prelude.{◌≡◌, ◌⊎◌, not, ℕ, List, [], ◌∷◌, ◌++◌, None, IfErr, OnOk, OnErr, IfSome, IfNone};
 ghost use Rattle.std.specs.List.{position_or_len};
-ghost use Rattle.iim_script.specs.Format.Scripts.{TellsNames, TellsField, TellsHead};
+ghost use Rattle.iim_script.specs.Format.Scripts.{BeginsWithName, DescribesField, DescribesHead};
 ghost use Rattle.iim_dataset.specs.Format.Datasets.{Dataset};
 ghost use Rattle.iim_dataset.specs.Format.Octets.{is_digit};
-ghost use Rattle.iim_fields.specs.States.Standing.{add_fault};
-ghost use Rattle.iim_script.specs.Format.Causes.{InFields, TellsNone, IsWrong};
+ghost use Rattle.iim_fields.specs.States.Standing.{added_field_fault};
+ghost use Rattle.iim_script.specs.Format.Causes.{InFields, HasNoForm, IsBadLine};
 
 use crate::fault::ScriptCause;
-use crate::line::cut_at;
+use crate::line::split_on;
 use crate::number::{is_decimal, number};
 use crate::shown::read_last;
 use iim_fields::EnvelopeBuilder;
@@ -30,10 +30,10 @@ fn digits(octets: &[u8]) -> usize
 /// Parses the numbers of a line `R:D`. Returns them and the rest of the line, or `None` if the line
 /// has another form.
 fn names(line: &[u8]) -> Option<(u8, u8, &[u8])>
-    ensures some { IfSome result (λ names. TellsNames line.now names.0 names.1 names.2.now) }
-    ensures none { IfNone result ((rec set : ℕ) (end : List ℕ) → TellsNames line.now rec set end → ⊥) }
+    ensures some { IfSome result (λ names. BeginsWithName line.now names.0 names.1 names.2.now) }
+    ensures none { IfNone result ((rec set : ℕ) (end : List ℕ) → BeginsWithName line.now rec set end → ⊥) }
 {
-    let Some((before, after)) = cut_at(line, b':') else {
+    let Some((before, after)) = split_on(line, b':') else {
         return None;
     };
     let Some(rec) = number(before) else {
@@ -52,12 +52,12 @@ pub(crate) fn add_line(
     line: &[u8],
     builder: &mut EnvelopeBuilder,
 ) -> Result<(), ScriptCause>
-    ensures added { OnOk result ((d : Dataset) × TellsField line.now d
-        × (add_fault builder.old.limits builder.old.fields d ≡ None)
+    ensures added { OnOk result ((d : Dataset) × DescribesField line.now d
+        × (added_field_fault builder.old.limits builder.old.fields d ≡ None)
         × (builder.new.fields ≡ builder.old.fields ++ d ∷ [])) }
     ensures limits { builder.new.limits ≡ builder.old.limits }
-    ensures refused { IfErr result (λ cause. TellsNone TellsHead line.now →
-        (cause ≡ ScriptCause.OutOfMemory) ⊎ IsWrong builder.old.limits (InFields builder.old.fields) line.now cause) }
+    ensures refused { IfErr result (λ cause. HasNoForm DescribesHead line.now →
+        (cause ≡ ScriptCause.OutOfMemory) ⊎ IsBadLine builder.old.limits (InFields builder.old.fields) line.now cause) }
     ensures unchanged { OnErr result (builder.new ≡ builder.old) }
 {
     let Some((rec, set, end)) = names(line) else {

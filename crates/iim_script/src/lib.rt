@@ -4,7 +4,7 @@
 //! Depends on `iim_fields`, `wire_message` and `wire_story`, which check what the lines describe.
 //! The crates above use [`read_script`], which returns the contents of a script, or its first error
 //! by line. They print the lines of a script with [`push_fields`], [`push_message`] and
-//! [`push_trailer`], which use [`push_decimal`], [`push_printed`] and [`write_word`].
+//! [`push_trailer`], which use [`push_decimal`], [`push_display`] and [`write_word`].
 #![tactic(auto)]
 
 mod fault;
@@ -27,7 +27,7 @@ mod text;
 pub use fault::{ScriptCause, ScriptFault};
 pub use lines::split_text;
 pub use printer::{
-    push_decimal, push_fields, push_message, push_printed, push_trailer, write_word,
+    push_decimal, push_display, push_fields, push_message, push_trailer, write_word,
 };
 pub use reading::{MAX_SCRIPT, read_script};
 pub use script::Script;

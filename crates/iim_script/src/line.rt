@@ -3,13 +3,13 @@
 ghost use Rattle.std.specs.Prelude.{◌≡◌, ◌==◌, ◌+◌, ◌≤◌, ◌<◌, ◌++◌, ◌∷◌, ℕ, List, length, IfSome, IfNone};
 ghost use Rattle.std.specs.List.{position_or_len};
 ghost use Rattle.iim_dataset.specs.Format.Octets.{lf};
-ghost use Rattle.iim_script.specs.Format.Scripts.{HasNo, NextLine};
+ghost use Rattle.iim_script.specs.Format.Scripts.{Lacks, NextLine};
 
 use iim_dataset::octets::{CR, LF};
 use memchr::memchr;
 
 /// Returns the index of the first occurrence of `octet`, or the length if there is no such octet.
-pub(crate) fn before_first(octets: &[u8], octet: u8) -> usize
+pub(crate) fn index_of_first(octets: &[u8], octet: u8) -> usize
     ensures place { result ≡ position_or_len (λ b. b == octet) octets.now }
     ensures within { result ≤ length octets.now }
 {
@@ -18,12 +18,12 @@ pub(crate) fn before_first(octets: &[u8], octet: u8) -> usize
 
 /// Splits the octets around the first occurrence of `octet`. Returns `None` if there is no
 /// occurrence.
-pub(crate) fn cut_at(octets: &[u8], octet: u8) -> Option<(&[u8], &[u8])>
-    ensures found { IfSome result (λ parts. HasNo octet parts.0.now
+pub(crate) fn split_on(octets: &[u8], octet: u8) -> Option<(&[u8], &[u8])>
+    ensures found { IfSome result (λ parts. Lacks octet parts.0.now
         × (octets.now ≡ parts.0.now ++ octet ∷ parts.1.now)) }
-    ensures none { IfNone result (HasNo octet octets.now) }
+    ensures none { IfNone result (Lacks octet octets.now) }
 {
-    let end = before_first(octets, octet);
+    let end = index_of_first(octets, octet);
     if end < octets.len() {
         Some((&octets[..end], &octets[end + 1..]))
     } else {
@@ -36,9 +36,9 @@ pub(crate) fn cut_at(octets: &[u8], octet: u8) -> Option<(&[u8], &[u8])>
 pub(crate) fn next_line(octets: &[u8]) -> Option<(&[u8], &[u8])>
     ensures found { IfSome result (λ parts. NextLine octets.now parts.0.now parts.1.now) }
     ensures shorter { IfSome result (λ parts. length parts.0.now + length parts.1.now < length octets.now) }
-    ensures none { IfNone result (HasNo lf octets.now) }
+    ensures none { IfNone result (Lacks lf octets.now) }
 {
-    let (ended, after) = cut_at(octets, LF)?;
+    let (ended, after) = split_on(octets, LF)?;
     let len = ended.len();
     if len > 0 && ended[len - 1] == CR {
         return Some((&ended[..len - 1], after));

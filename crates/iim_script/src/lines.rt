@@ -5,7 +5,7 @@ ghost use Rattle.iim_dataset.specs.Format.Octets.{cr};
 ghost use Rattle.wire_story.specs.Format.Texts.{IsLine, IsText, max_returns};
 ghost use Rattle.iim_script.specs.Format.Scripts.{WithoutLast};
 
-use crate::line::cut_at;
+use crate::line::split_on;
 use iim_dataset::octets::LF;
 
 /// Removes one CR from the end of the octets, if there is one.
@@ -34,7 +34,7 @@ pub fn split_text(text: &[u8]) -> Option<(&[u8], &[u8])>
     ensures shorter { IfSome result (λ parts. length parts.1.now < length text.now) }
     ensures one { IfNone result ((lines : List (List ℕ)) → IsText text.now lines → lines ≡ text.now ∷ []) }
 {
-    match cut_at(text, LF) {
+    match split_on(text, LF) {
         Some((ended, rest)) => Some((without_returns(ended), rest)),
         None => None,
     }

@@ -2,9 +2,9 @@
 
 ghost use Rattle.std.specs.Prelude.{ℕ, List, [], IfOk, IfSome, IfNone};
 ghost use Rattle.wire_message.specs.Format.Messages.{Header, header_of};
-ghost use Rattle.iim_script.specs.Format.Scripts.{AreWords, TellsHead, TellsTrailer};
+ghost use Rattle.iim_script.specs.Format.Scripts.{AreFieldsOf, DescribesHead, DescribesTrailer};
 
-use crate::line::{after, before_first, cut_at};
+use crate::line::{after, index_of_first, split_on};
 use crate::shown::read_last;
 use std::alloc::{AllocError, Global};
 use wire_message::MessageHead;
@@ -28,25 +28,25 @@ struct Words<'a> {
 
 /// Splits the line at each SP into five fields and the rest. Returns `None` if there are fewer than
 /// five.
-fn cut_words(octets: &[u8]) -> Option<Words<'_>>
+fn split_fields(octets: &[u8]) -> Option<Words<'_>>
     ensures some { IfSome result (λ w.
-        AreWords octets.now (header_of w.source.now w.number.now w.priority.now w.category.now w.words.now [])
+        AreFieldsOf octets.now (header_of w.source.now w.number.now w.priority.now w.category.now w.words.now [])
         w.end.now) }
-    ensures none { IfNone result ((head : Header) (end : List ℕ) → AreWords octets.now head end → ⊥) }
+    ensures none { IfNone result ((head : Header) (end : List ℕ) → AreFieldsOf octets.now head end → ⊥) }
 {
-    let Some((source, after_source)) = cut_at(octets, b' ') else {
+    let Some((source, after_source)) = split_on(octets, b' ') else {
         return None;
     };
-    let Some((number, after_number)) = cut_at(after_source, b' ') else {
+    let Some((number, after_number)) = split_on(after_source, b' ') else {
         return None;
     };
-    let Some((priority, after_priority)) = cut_at(after_number, b' ') else {
+    let Some((priority, after_priority)) = split_on(after_number, b' ') else {
         return None;
     };
-    let Some((category, rest)) = cut_at(after_priority, b' ') else {
+    let Some((category, rest)) = split_on(after_priority, b' ') else {
         return None;
     };
-    let end = before_first(rest, b' ');
+    let end = index_of_first(rest, b' ');
     Some(Words {
         source,
         number,
@@ -59,13 +59,13 @@ fn cut_words(octets: &[u8]) -> Option<Words<'_>>
 
 /// Parses the header that a line describes. Returns `None` if the line has another form.
 pub(crate) fn read_head_line(alloc: Global, line: &[u8]) -> Result<Option<MessageHead>, AllocError>
-    ensures some { IfOk result (λ told. IfSome told (λ head. TellsHead line.now head)) }
-    ensures none { IfOk result (λ told. IfNone told ((head : Header) → TellsHead line.now head → ⊥)) }
+    ensures some { IfOk result (λ told. IfSome told (λ head. DescribesHead line.now head)) }
+    ensures none { IfOk result (λ told. IfNone told ((head : Header) → DescribesHead line.now head → ⊥)) }
 {
     let Some(rest) = after(line, MESSAGE) else {
         return Ok(None);
     };
-    let Some(words) = cut_words(rest) else {
+    let Some(words) = split_fields(rest) else {
         return Ok(None);
     };
     match read_last(alloc, words.end) {
@@ -84,8 +84,8 @@ pub(crate) fn read_head_line(alloc: Global, line: &[u8]) -> Result<Option<Messag
 
 /// Parses the trailer that a line describes. Returns `None` if the line has another form.
 pub(crate) fn read_trailer_line(alloc: Global, line: &[u8]) -> Result<Option<Vec<u8>>, AllocError>
-    ensures some { IfOk result (λ told. IfSome told (λ octets. TellsTrailer line.now octets.items)) }
-    ensures none { IfOk result (λ told. IfNone told ((octets : List ℕ) → TellsTrailer line.now octets → ⊥)) }
+    ensures some { IfOk result (λ told. IfSome told (λ octets. DescribesTrailer line.now octets.items)) }
+    ensures none { IfOk result (λ told. IfNone told ((octets : List ℕ) → DescribesTrailer line.now octets → ⊥)) }
 {
     match after(line, TRAILER) {
         Some(end) => read_last(alloc, end),

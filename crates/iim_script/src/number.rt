@@ -2,7 +2,7 @@
 
 ghost use Rattle.std.specs.Prelude.{◌≡◌, ◌+◌, ◌≤◌, ℕ, [], ◌∷◌, false, IsTrue, IfSome, IfNone};
 ghost use Rattle.iim_dataset.specs.Format.Octets.{digit_zero, is_digit};
-ghost use Rattle.iim_script.specs.Format.Scripts.{TellsNumber};
+ghost use Rattle.iim_script.specs.Format.Scripts.{EncodesNumber};
 
 /// Checks whether the octet is a decimal digit.
 pub(crate) fn is_decimal(octet: u8) -> bool
@@ -24,8 +24,8 @@ fn digit_value(octet: u8) -> Option<u16>
 
 /// Returns the number of three decimal digits, or `None` if it exceeds 255 or an octet is no digit.
 fn of_digits(hundreds: u8, tens: u8, ones: u8) -> Option<u8>
-    ensures some { IfSome result (λ n. TellsNumber (hundreds ∷ tens ∷ ones ∷ []) n) }
-    ensures none { IfNone result ((n : ℕ) → TellsNumber (hundreds ∷ tens ∷ ones ∷ []) n → ⊥) }
+    ensures some { IfSome result (λ n. EncodesNumber (hundreds ∷ tens ∷ ones ∷ []) n) }
+    ensures none { IfNone result ((n : ℕ) → EncodesNumber (hundreds ∷ tens ∷ ones ∷ []) n → ⊥) }
 {
     let value = digit_value(hundreds)? * 100 + digit_value(tens)? * 10 + digit_value(ones)?;
     if value > 255 {
@@ -36,8 +36,8 @@ fn of_digits(hundreds: u8, tens: u8, ones: u8) -> Option<u8>
 
 /// Parses a number of 1 to 3 decimal digits, at most 255. Returns `None` for other octets.
 pub(crate) fn number(digits: &[u8]) -> Option<u8>
-    ensures some { IfSome result (λ n. TellsNumber digits.now n) }
-    ensures none { IfNone result ((n : ℕ) → TellsNumber digits.now n → ⊥) }
+    ensures some { IfSome result (λ n. EncodesNumber digits.now n) }
+    ensures none { IfNone result ((n : ℕ) → EncodesNumber digits.now n → ⊥) }
 {
     match digits {
         [ones] => of_digits(b'0', b'0', *ones),

@@ -6,7 +6,7 @@ ghost use Rattle.iim_dataset.specs.Format.Octets.{sp};
 ghost use Rattle.iim_script.specs.Format.Scripts.{after_space, field_line, message_line, trailer_line};
 
 use crate::places::put_field;
-use iim_dataset::{DatasetName, push_shown};
+use iim_dataset::{DatasetName, push_with_escapes};
 use iim_fields::EnvelopeRef;
 use itoa::Buffer;
 use std::alloc::AllocError;
@@ -15,7 +15,7 @@ use std::io::Write;
 use wire_message::MessageHead;
 
 /// Appends the printed form of a value. An error means that the allocation failed.
-pub fn push_printed<D: Display + Drop>(text: &mut Vec<u8>, value: D) -> Result<(), AllocError>
+pub fn push_display<D: Display + Drop>(text: &mut Vec<u8>, value: D) -> Result<(), AllocError>
     ensures { OnOk result (IfSome (D.output value) (λ words. text.new.items ≡ text.old.items ++ words)) }
 {
     match text.write_fmt(value) {
@@ -51,7 +51,7 @@ fn push_after_space(text: &mut Vec<u8>, octets: &[u8]) -> Result<(), AllocError>
         return Ok(());
     }
     text.push(b' ')?;
-    push_shown(text, octets)
+    push_with_escapes(text, octets)
 }
 
 /// Extends a text with zeros to the length `places`. An error means that the allocation failed.

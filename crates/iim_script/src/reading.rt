@@ -1,16 +1,16 @@
 //! Parses a script.
 
 ghost use Rattle.std.specs.Prelude.{◌≡◌, ◌≤◌, ◌+◌, ◌⊎◌, ◌++◌, [], ℕ, List, length, slice_index, IfOk, IfErr, OnOk, None};
-ghost use Rattle.iim_fields.specs.States.Standing.{finish_fault};
-ghost use Rattle.iim_script.specs.Format.Scripts.{TellsField, TellsHead, TellsTrailer, text_word, NextLine, IsFront, IsScript, max_script, text_lines};
+ghost use Rattle.iim_fields.specs.States.Standing.{missing_field_fault};
+ghost use Rattle.iim_script.specs.Format.Scripts.{DescribesField, DescribesHead, DescribesTrailer, text_word, NextLine, IsFront, IsScript, max_script, text_lines};
 ghost use Rattle.wire_message.specs.Format.Messages.{Header, IsTrailer};
 ghost use Rattle.wire_story.specs.Format.Texts.{IsText, packed_text};
 ghost use Rattle.iim_dataset.specs.Format.Datasets.{Dataset};
 ghost use Rattle.iim_fields.specs.declared.limits.Limits.{Limits};
 ghost use Rattle.iim_fields.specs.declared.fault.FieldCause.{FieldCause};
 ghost use Rattle.iim_dataset.specs.Format.Octets.{is_digit};
-ghost use Rattle.iim_script.specs.Format.Causes.{Stage, Stands, InFields, AfterMessage, TellsNone, EndsTooSoon, IsWrong, IsScriptFault};
-ghost use Rattle.iim_script.specs.Steps.{NextMustBe, Refuses};
+ghost use Rattle.iim_script.specs.Format.Causes.{Stage, ReachesStage, InFields, AfterMessage, HasNoForm, IsIncompleteEnvelope, IsBadLine, IsScriptFault};
+ghost use Rattle.iim_script.specs.Steps.{NextLineIs, RejectsNextLine};
 
 use crate::fault::{ScriptCause, ScriptFault, fault_after};
 use crate::field::add_line;
@@ -58,8 +58,8 @@ fn read_fields<'a>(
     requires none { builder.old.fields ≡ [] }
     requires short { length script.now ≤ max_script }
     ensures stands { IfOk result (λ rest.
-        Stands builder.old.limits script.now (InFields builder.new.fields) rest.octets.now rest.lines) }
-    ensures all { IfOk result (λ rest. NextMustBe (TellsNone TellsField) rest.octets.now) }
+        ReachesStage builder.old.limits script.now (InFields builder.new.fields) rest.octets.now rest.lines) }
+    ensures all { IfOk result (λ rest. NextLineIs (HasNoForm DescribesField) rest.octets.now) }
     ensures fault { IfErr result (λ fault. IsScriptFault builder.old.limits script.now fault.line fault.cause) }
 {
     let mut rest = Rest {
@@ -86,11 +86,11 @@ fn read_fields<'a>(
 /// Parses the header in the next line. Returns it and the rest.
 fn read_head<'a>(alloc: Global, rest: Rest<'a>) -> Result<(MessageHead, Rest<'a>), ScriptFault>
     ensures told { IfOk result (λ read.
-        (line : List ℕ) × NextLine rest.entry.octets.now line read.1.octets.now × TellsHead line read.0) }
+        (line : List ℕ) × NextLine rest.entry.octets.now line read.1.octets.now × DescribesHead line read.0) }
     ensures counted { IfOk result (λ read. read.1.lines ≡ rest.entry.lines + 1) }
     ensures fault { IfErr result (λ fault.
-        (limits : Limits) (ds : List Dataset) → NextMustBe (TellsNone TellsField) rest.entry.octets.now →
-        Refuses limits (InFields ds) rest.entry.octets.now rest.entry.lines fault) }
+        (limits : Limits) (ds : List Dataset) → NextLineIs (HasNoForm DescribesField) rest.entry.octets.now →
+        RejectsNextLine limits (InFields ds) rest.entry.octets.now rest.entry.lines fault) }
 {
     let Some((line, after)) = next_line(rest.octets) else {
         return Err(fault_after(rest.lines, ScriptCause::ScriptLine));
@@ -113,11 +113,11 @@ fn read_head<'a>(alloc: Global, rest: Rest<'a>) -> Result<(MessageHead, Rest<'a>
 fn read_trailer<'a>(alloc: Global, rest: Rest<'a>) -> Result<(Vec<u8>, Rest<'a>), ScriptFault>
     ensures taken { IfOk result (λ read.
         ((line : List ℕ) × NextLine rest.entry.octets.now line read.1.octets.now
-        × TellsTrailer line read.0.items × IsTrailer read.0.items × (read.1.lines ≡ rest.entry.lines + 1))
-        ⊎ (NextMustBe (TellsNone TellsTrailer) rest.entry.octets.now × (read.0.items ≡ [])
+        × DescribesTrailer line read.0.items × IsTrailer read.0.items × (read.1.lines ≡ rest.entry.lines + 1))
+        ⊎ (NextLineIs (HasNoForm DescribesTrailer) rest.entry.octets.now × (read.0.items ≡ [])
         × (read.1.octets.now ≡ rest.entry.octets.now) × (read.1.lines ≡ rest.entry.lines))) }
     ensures fault { IfErr result (λ fault. (limits : Limits) (ds : List Dataset) (head : Header) →
-        Refuses limits (AfterMessage ds head) rest.entry.octets.now rest.entry.lines fault) }
+        RejectsNextLine limits (AfterMessage ds head) rest.entry.octets.now rest.entry.lines fault) }
 {
     let Some((line, after)) = next_line(rest.octets) else {
         return Ok((Vec::new(alloc), rest));
@@ -144,8 +144,8 @@ fn read_text<'a>(rest: Rest<'a>) -> Result<Rest<'a>, ScriptFault>
     ensures text { IfOk result (λ story. NextLine rest.entry.octets.now text_word story.octets.now) }
     ensures counted { IfOk result (λ story. story.lines ≡ rest.entry.lines + 1) }
     ensures fault { IfErr result (λ fault. (limits : Limits) (stage : Stage)
-        → NextMustBe (λ line. (line ≡ text_word → ⊥) → IsWrong limits stage line ScriptCause.ScriptLine)
-        rest.entry.octets.now → Refuses limits stage rest.entry.octets.now rest.entry.lines fault) }
+        → NextLineIs (λ line. (line ≡ text_word → ⊥) → IsBadLine limits stage line ScriptCause.ScriptLine)
+        rest.entry.octets.now → RejectsNextLine limits stage rest.entry.octets.now rest.entry.lines fault) }
 {
     let Some((line, after)) = next_line(rest.octets) else {
         return Err(fault_after(rest.lines, ScriptCause::ScriptLine));
@@ -162,11 +162,11 @@ fn read_text<'a>(rest: Rest<'a>) -> Result<Rest<'a>, ScriptFault>
 /// Returns the envelope of the builder, at the line `text` after `lines` lines.
 fn finish(builder: EnvelopeBuilder, lines: u64) -> Result<Envelope, ScriptFault>
     requires { lines ≤ max_script }
-    ensures whole { OnOk result (finish_fault builder.fields ≡ None) }
+    ensures whole { OnOk result (missing_field_fault builder.fields ≡ None) }
     ensures envelope { IfOk result (λ envelope. envelope ≡ builder.fields) }
     ensures line { IfErr result (λ fault. fault.line ≡ lines + 1) }
     ensures fault { IfErr result (λ fault. (cause : FieldCause) × (fault.cause ≡ ScriptCause.Field cause)
-        × EndsTooSoon builder.fields text_word cause) }
+        × IsIncompleteEnvelope builder.fields text_word cause) }
 {
     match builder.finish() {
         Ok(envelope) => Ok(envelope),

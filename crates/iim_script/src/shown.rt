@@ -2,7 +2,7 @@
 
 ghost use Rattle.std.specs.Prelude.{◌+◌, ◌≤◌, ◌∷◌, ℕ, List, IfOk, IfSome, IfNone};
 ghost use Rattle.iim_dataset.specs.Format.Octets.{sp, backslash};
-ghost use Rattle.iim_script.specs.Format.Scripts.{IsHexDigit, IsOfDigits, BeginsWith, TellsOctets, TellsLast};
+ghost use Rattle.iim_script.specs.Format.Scripts.{IsHexDigit, IsOfDigits, BeginsWith, EncodesOctets, EndsWith};
 
 use std::alloc::{AllocError, Global};
 
@@ -70,9 +70,9 @@ fn first_octet(shown: &[u8]) -> Option<(u8, &[u8])>
 }
 
 /// Parses a text with escapes. Returns its octets, or `None` if an escape is invalid.
-pub(crate) fn unshown(alloc: Global, shown: &[u8]) -> Result<Option<Vec<u8>>, AllocError>
-    ensures some { IfOk result (λ told. IfSome told (λ octets. TellsOctets shown.now octets.items)) }
-    ensures none { IfOk result (λ told. IfNone told ((octets : List ℕ) → TellsOctets shown.now octets → ⊥)) }
+pub(crate) fn unescape(alloc: Global, shown: &[u8]) -> Result<Option<Vec<u8>>, AllocError>
+    ensures some { IfOk result (λ told. IfSome told (λ octets. EncodesOctets shown.now octets.items)) }
+    ensures none { IfOk result (λ told. IfNone told ((octets : List ℕ) → EncodesOctets shown.now octets → ⊥)) }
 {
     let mut octets = Vec::new(alloc);
     let mut rest = shown;
@@ -89,13 +89,13 @@ pub(crate) fn unshown(alloc: Global, shown: &[u8]) -> Result<Option<Vec<u8>>, Al
 /// Parses a non-empty text with escapes. Returns its octets, or `None` if an escape is invalid or
 /// the text is empty.
 fn read_some(alloc: Global, shown: &[u8]) -> Result<Option<Vec<u8>>, AllocError>
-    ensures some { IfOk result (λ told. IfSome told (λ octets. TellsLast (sp ∷ shown.now) octets.items)) }
-    ensures none { IfOk result (λ told. IfNone told ((octets : List ℕ) → TellsLast (sp ∷ shown.now) octets → ⊥)) }
+    ensures some { IfOk result (λ told. IfSome told (λ octets. EndsWith (sp ∷ shown.now) octets.items)) }
+    ensures none { IfOk result (λ told. IfNone told ((octets : List ℕ) → EndsWith (sp ∷ shown.now) octets → ⊥)) }
 {
     if shown.is_empty() {
         return Ok(None);
     }
-    match unshown(alloc, shown) {
+    match unescape(alloc, shown) {
         Ok(Some(octets)) => Ok(Some(octets)),
         Ok(None) => Ok(None),
         Err(error) => Err(error),
@@ -105,8 +105,8 @@ fn read_some(alloc: Global, shown: &[u8]) -> Result<Option<Vec<u8>>, AllocError>
 /// Parses the end of a line: nothing, for no octets, or SP and at least one octet, escaped if
 /// necessary.
 pub(crate) fn read_last(alloc: Global, end: &[u8]) -> Result<Option<Vec<u8>>, AllocError>
-    ensures some { IfOk result (λ told. IfSome told (λ octets. TellsLast end.now octets.items)) }
-    ensures none { IfOk result (λ told. IfNone told ((octets : List ℕ) → TellsLast end.now octets → ⊥)) }
+    ensures some { IfOk result (λ told. IfSome told (λ octets. EndsWith end.now octets.items)) }
+    ensures none { IfOk result (λ told. IfNone told ((octets : List ℕ) → EndsWith end.now octets → ⊥)) }
 {
     if end.is_empty() {
         return Ok(Some(Vec::new(alloc)));

@@ -2,8 +2,8 @@
 
 ghost use Rattle.std.specs.Prelude.{◌≡◌, ◌+◌, ◌<◌, ◌⊎◌, [], length, IfOk, IfErr, IfSome, IfNone};
 ghost use Rattle.iim_dataset.specs.Format.Octets.{lf};
-ghost use Rattle.iim_script.specs.Format.Scripts.{HasNo, NextLine};
-ghost use Rattle.iim_script.specs.Steps.{TellsText};
+ghost use Rattle.iim_script.specs.Format.Scripts.{Lacks, NextLine};
+ghost use Rattle.iim_script.specs.Steps.{IsPackedTextOf};
 ghost use Rattle.iim_script.specs.Format.Causes.{IsBadStory};
 
 use crate::fault::{ScriptCause, ScriptFault, fault_after};
@@ -18,7 +18,7 @@ fn first_line(story: &[u8]) -> (&[u8], Option<&[u8]>)
     ensures shorter { IfSome result.1 (λ rest. length result.0.now + length rest.now < length story.now) }
     ensures nonempty { IfSome result.1 (λ rest. 0 < length rest.now) }
     ensures last { IfNone result.1
-        (NextLine story.now result.0.now [] ⊎ (HasNo lf story.now × (result.0.now ≡ story.now))) }
+        (NextLine story.now result.0.now [] ⊎ (Lacks lf story.now × (result.0.now ≡ story.now))) }
 {
     match next_line(story) {
         Some((line, after)) => {
@@ -35,7 +35,7 @@ fn first_line(story: &[u8]) -> (&[u8], Option<&[u8]>)
 /// Returns the text of a story, whose lines are checked one after another, or its first error by
 /// line.
 fn text_by_lines<'a>(story: Rest<'a>) -> Result<StoryText<'a>, ScriptFault>
-    ensures text { IfOk result (λ text. TellsText story.entry.octets.now text.octets.now text.packed_len) }
+    ensures text { IfOk result (λ text. IsPackedTextOf story.entry.octets.now text.octets.now text.packed_len) }
     ensures fault { IfErr result (λ fault. IsBadStory story.entry.octets.now story.entry.lines fault.line) }
     ensures cause { IfErr result (λ fault. fault.cause ≡ ScriptCause.BadTextOctet) }
 {
@@ -64,7 +64,7 @@ fn text_by_lines<'a>(story: Rest<'a>) -> Result<StoryText<'a>, ScriptFault>
 /// Returns the text of a story, or its first error. The line of the error counts the lines before
 /// the story.
 pub(crate) fn read_story<'a>(story: Rest<'a>) -> Result<StoryText<'a>, ScriptFault>
-    ensures text { IfOk result (λ text. TellsText story.entry.octets.now text.octets.now text.packed_len) }
+    ensures text { IfOk result (λ text. IsPackedTextOf story.entry.octets.now text.octets.now text.packed_len) }
     ensures fault { IfErr result (λ fault. IsBadStory story.entry.octets.now story.entry.lines fault.line) }
     ensures cause { IfErr result (λ fault. fault.cause ≡ ScriptCause.BadTextOctet) }
 {

@@ -6,7 +6,7 @@ ghost use Rattle.std.specs.Simd.Lanes.{mask_l};
 ghost use Rattle.iim_dataset.specs.Format.Octets.{lf};
 ghost use Rattle.iim_script.specs.Format.Scripts.{max_script, WithoutLast};
 ghost use Rattle.wire_story.specs.Steps.{is_low};
-ghost use Rattle.iim_script.specs.Steps.{is_plain, TellsText};
+ghost use Rattle.iim_script.specs.Steps.{is_plain, IsPackedTextOf};
 
 use iim_dataset::octets::{CR, EOT, ETX, LF, SOH, STX};
 use std::simd::prelude::*;
@@ -15,7 +15,7 @@ use std::simd::prelude::*;
 const BLOCK: usize = 16;
 
 /// All octets that are not allowed in a line are below this one. Few others are.
-const LEAST_CALM: u8 = 14;
+const LEAST_UNMARKED: u8 = 14;
 
 /// The text of a story, borrowed from the script, and the size of the packed text in octets.
 #[derive(Clone, Copy)]
@@ -25,7 +25,7 @@ pub(crate) struct StoryText<'a> {
 }
 
 /// Checks whether the octet is allowed in a line, or is LF.
-fn may_stand(octet: u8) -> bool
+fn is_allowed(octet: u8) -> bool
     ensures { result ≡ is_plain octet }
 {
     !(octet == SOH || octet == STX || octet == ETX || octet == EOT || octet == CR)
@@ -35,7 +35,7 @@ fn may_stand(octet: u8) -> bool
 fn are_plain(octets: &[u8]) -> bool
     ensures { result ≡ list_all is_plain octets.now }
 {
-    octets.iter().all(|octet| may_stand(*octet))
+    octets.iter().all(|octet| is_allowed(*octet))
 }
 
 /// Returns how many octets are LF.
@@ -58,14 +58,14 @@ fn feeds_in_rest(octets: &[u8]) -> Option<usize>
     }
 }
 
-/// Returns the mask of those of the first sixteen octets that are below `LEAST_CALM`.
+/// Returns the mask of those of the first sixteen octets that are below `LEAST_UNMARKED`.
 #[inline(always)]
 fn low_in_block(block: &[u8]) -> u64
     requires { 16 ≤ length block.now }
     ensures { result ≡ mask_l (map is_low (take 16 block.now)) }
 {
     let octets = u8x16::from_slice(block);
-    octets.simd_lt(u8x16::splat(LEAST_CALM)).to_bitmask()
+    octets.simd_lt(u8x16::splat(LEAST_UNMARKED)).to_bitmask()
 }
 
 /// Returns the mask of those of the first sixteen octets that are LF.
@@ -94,7 +94,7 @@ fn feeds_in_block(block: &[u8]) -> Option<usize>
 }
 
 /// Returns how many octets are LF, or `None` if an octet is neither LF nor allowed in a line.
-fn feeds_in(octets: &[u8]) -> Option<usize>
+fn count_feeds_checked(octets: &[u8]) -> Option<usize>
     ensures { IfSome result (λ count. IsTrue (list_all is_plain octets.now)
         × (count ≡ count_by (λ b. b == lf) octets.now)) }
 {
@@ -127,10 +127,10 @@ fn without_feed(story: &[u8]) -> &[u8]
 /// line.
 pub(crate) fn plain_text(story: &[u8]) -> Option<StoryText<'_>>
     requires { length story.now ≤ max_script }
-    ensures { IfSome result (λ text. TellsText story.now text.octets.now text.packed_len) }
+    ensures { IfSome result (λ text. IsPackedTextOf story.now text.octets.now text.packed_len) }
 {
     let octets = without_feed(story);
-    match feeds_in(octets) {
+    match count_feeds_checked(octets) {
         Some(feeds) => Some(StoryText {
             octets,
             packed_len: octets.len() as u64 + feeds as u64,

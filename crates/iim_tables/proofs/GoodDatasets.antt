@@ -5,19 +5,19 @@ use Rattle.std.proofs.lemmas.List.Sums.{sum_by-append, sum_by-cons}
 use Rattle.std.specs.List.{list_all}
 use Rattle.std.specs.Option.{option_map_or}
 use Rattle.iim_dataset.specs.{Format.Octets.IsOctet, Format.Octets.Octets, Format.Octets.greatest_size, Format.Datasets.Dataset}
-use Rattle.iim_tables.specs.Format.Rows.{row_of, table, is_admitted, Meets}
+use Rattle.iim_tables.specs.Format.Rows.{row_of, table, is_admitted, OctetsMeetRow}
 use Rattle.iim_tables.specs.Format.Records.{occurrences, occurs, repeats, IsGoodDataset}
 use Rattle.iim_tables.specs.declared.shape.Row.{Row}
 
 -- Octets meet a row that accepts them, and a row that they meet accepts them.
-pub meets_as : (rec set : ℕ) (row : Row) (xs : List ℕ) → row_of rec set ≡ Some row → is_admitted row xs ≡ true → Meets rec set xs
+pub meets_as : (rec set : ℕ) (row : Row) (xs : List ℕ) → row_of rec set ≡ Some row → is_admitted row xs ≡ true → OctetsMeetRow rec set xs
 meets_as rec set row xs known admitted = rw known admitted
 
-pub admitted_as : (rec set : ℕ) (row : Row) (xs : List ℕ) → row_of rec set ≡ Some row → Meets rec set xs → is_admitted row xs ≡ true
+pub admitted_as : (rec set : ℕ) (row : Row) (xs : List ℕ) → row_of rec set ≡ Some row → OctetsMeetRow rec set xs → is_admitted row xs ≡ true
 admitted_as rec set row xs known meets = rw known at meets
 
 -- No octets meet the row of a dataset that has no row.
-pub none_meets : (rec set : ℕ) (xs : List ℕ) → row_of rec set ≡ None → Meets rec set xs → ⊥
+pub none_meets : (rec set : ℕ) (xs : List ℕ) → row_of rec set ≡ None → OctetsMeetRow rec set xs → ⊥
 none_meets rec set xs none meets = rw none at meets
 
 -- Whether a dataset may repeat, by its row.
@@ -25,7 +25,7 @@ pub repeats_as : (rec n : ℕ) (o : Option Row) → row_of rec n ≡ o → repea
 repeats_as rec n o is = rw is refl
 
 -- A dataset of a record other than 1 is good if it meets its row.
-pub good_elsewhere : {d : Dataset} → nat_eq d.rec 1 ≡ false → IsOctet d.set → Octets d.octets → Meets d.rec d.set d.octets → IsGoodDataset d
+pub good_elsewhere : {d : Dataset} → nat_eq d.rec 1 ≡ false → IsOctet d.set → Octets d.octets → OctetsMeetRow d.rec d.set d.octets → IsGoodDataset d
 good_elsewhere other small octets meets = record { numbered = small; octets = octets; meets = meets; file_format = rw other refl }
 
 pub occurrences_append : (n : ℕ) (xs ys : List Dataset) → occurrences n (xs ++ ys) ≡ occurrences n xs + occurrences n ys
@@ -50,6 +50,6 @@ pub table_bounded : list_all (λ e. nat_le e.row.max greatest_size) table ≡ tr
 unfolding table
 table_bounded = refl
 
-pub part_meets : (xs : List ℕ) → length xs ≤ greatest_size → Meets 8 10 xs
+pub part_meets : (xs : List ℕ) → length xs ≤ greatest_size → OctetsMeetRow 8 10 xs
 unfolding row_of table
 part_meets xs le = rw (le-leb (length xs) greatest_size le, le-leb 0 (length xs) (omega arith)) refl

@@ -7,8 +7,8 @@ use Rattle.std.proofs.lemmas.Bool.{and_from, and_parts, eqb-true, leb-true}
 use Rattle.iim_dataset.specs.Format.Octets.{Octets as AreOctets, within, is_digit, is_letter, number, greatest_size}
 use Rattle.iim_dataset.proofs.OctetLists.{number-cons, octets_append, octets_same}
 use Rattle.iim_tables.specs.Format.Kinds.{is_graphic, is_spaced, is_spaced_or_line_end, size_octets, has_kind, is_size_from}
-use Rattle.iim_tables.specs.Format.Rows.{Entry, table, row_of, row_in, row_of_others, kept_row, is_admitted}
-use Rattle.iim_tables.specs.Format.Records.{HasValue}
+use Rattle.iim_tables.specs.Format.Rows.{Entry, table, row_of, row_in, row_of_unread, unread_row, is_admitted}
+use Rattle.iim_tables.specs.Format.Records.{HasValueOfLength}
 use Rattle.iim_tables.specs.declared.shape.Row.{Row}
 use Rattle.std.specs.Option.{option_map, option_or}
 use Rattle.std.proofs.lemmas.Bool.Decides.{nat_tests}
@@ -112,20 +112,20 @@ first_or_other : (a b : Option Row) (r : Row) → option_or a b ≡ Some r → (
 first_or_other (Some x) b r h = inl h
 first_or_other None b r h = inr h
 
-only_kept : (b : Bool) (r : Row) → (if b then Some kept_row else None) ≡ Some r → kept_row ≡ r
+only_kept : (b : Bool) (r : Row) → (if b then Some unread_row else None) ≡ Some r → unread_row ≡ r
 only_kept b r h = grind arith
 
 -- Each row of a dataset passes a test that each row of the table passes, and the row of unread
 -- datasets.
-row_passes : (q : Row → Bool) (rec set : ℕ) (r : Row) → list_all (λ e. q e.row) table ≡ true → q kept_row ≡ true → row_of rec set ≡ Some r → q r ≡ true
+row_passes : (q : Row → Bool) (rec set : ℕ) (r : Row) → list_all (λ e. q e.row) table ≡ true → q unread_row ≡ true → row_of rec set ≡ Some r → q r ≡ true
 unfolding row_of
-row_passes q rec set r all kept found = elim (first_or_other (row_in table rec set) (row_of_others rec) r found) [
+row_passes q rec set r all kept found = elim (first_or_other (row_in table rec set) (row_of_unread rec) r found) [
   | inl first ↦ found_passes (λ e. e.rec == rec && e.set == set) q table r all first
   | inr other ↦ rw (only_kept (rec == 1 || rec == 2) r other) at kept
 ]
 
 -- For each length that a row allows, some octets of that length meet it.
-pub row_values : (rec set n : ℕ) (r : Row) → row_of rec set ≡ Some r → within r.min r.max n ≡ true → HasValue rec set n
+pub row_values : (rec set n : ℕ) (r : Row) → row_of rec set ≡ Some r → within r.min r.max n ≡ true → HasValueOfLength rec set n
 row_values rec set n r found t =
     let fits = row_passes bounds_fit rec set r table_fits refl found in
     let ends = and_parts (has_length r.kind r.min) (has_length r.kind r.max) fits in

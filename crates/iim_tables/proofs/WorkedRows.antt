@@ -3,7 +3,7 @@ use Rattle.std.proofs.Common.{◌≡◌, true, false, Some, None, [], ◌∷◌,
 use Rattle.jiff_core.specs.Calendar.{days_from_civil, day_count, days_of_years, days_of_months}
 use Rattle.iim_dataset.specs.Format.Octets.{number}
 use Rattle.iim_tables.specs.Format.Dates.{is_date, is_part_date, date_text, is_time, instant_in, time_text}
-use Rattle.iim_tables.specs.Format.Rows.{row_of, table, kept_row}
+use Rattle.iim_tables.specs.Format.Rows.{row_of, table, unread_row}
 
 -- A leap day in 2024, and no such day in 2023 and 1900.
 leap_days : map is_date (codes "20240229" ∷ codes "20230229" ∷ codes "19000229" ∷ []) ≡ true ∷ false ∷ false ∷ []
@@ -24,7 +24,7 @@ written_time : time_text 23 59 59 true 1 30 ≡ codes "235959-0130"
 written_time = refl
 
 -- The row of a dataset that is stored unread, and a dataset without a row.
-rows : row_of 2 250 ∷ row_of 7 30 ∷ [] ≡ Some kept_row ∷ None ∷ []
+rows : row_of 2 250 ∷ row_of 7 30 ∷ [] ≡ Some unread_row ∷ None ∷ []
 unfolding row_of table
 rows = refl
 

@@ -51,7 +51,7 @@ fn day_of(year: u32, month: u16, day: u16) -> Option<Date>
 }
 
 /// Checks whether the month is missing and the day is 00 to 31, or the day is missing.
-fn lacks_part(month: u16, day: u16) -> bool
+fn has_missing_part(month: u16, day: u16) -> bool
     ensures { result ≡ (((month == 0) && nat_le day 31) || (within 1 12 month && (day == 0))) }
 {
     (month == 0 && day <= 31) || (is_month(month) && day == 0)
@@ -60,7 +60,7 @@ fn lacks_part(month: u16, day: u16) -> bool
 fn is_part_day(year: u32, month: u16, day: u16) -> bool
     ensures { result ≡ is_part_day year month day }
 {
-    day_of(year, month, day).is_some() || (is_year(year) && lacks_part(month, day))
+    day_of(year, month, day).is_some() || (is_year(year) && has_missing_part(month, day))
 }
 
 fn are_eight_digits(octets: &[u8]) -> bool

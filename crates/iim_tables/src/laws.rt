@@ -4,7 +4,7 @@ ghost use Rattle.std.specs.Prelude.{◌≡◌, ◌==◌, ◌<◌, ℕ, Bool, Lis
 ghost use Rattle.iim_dataset.specs.Format.Octets.{minus, within, greatest_size};
 ghost use Rattle.iim_tables.specs.Format.Dates.{pair_at, year_in, month_in, day_in, are_eight_digits, date_text, ReadsDate, has_time_form, time_text, ReadsTime};
 ghost use Rattle.iim_tables.specs.Format.Rows.{row_of};
-ghost use Rattle.iim_tables.specs.Format.Records.{HasValue};
+ghost use Rattle.iim_tables.specs.Format.Records.{HasValueOfLength};
 ghost use Rattle.iim_tables.specs.declared.shape.Row.{Row};
 
 /// Proves that eight digits are the text of exactly one year, month and day, and that parsing that
@@ -34,7 +34,7 @@ pub fn times_are_written_in_one_way()
 #[tactic(auto, using(crate::proofs::RowLemmas::row_values))]
 pub fn each_row_has_values()
     ensures { (rec set n : ℕ) (r : Row) → row_of rec set ≡ Some r → IsTrue (within r.min r.max n)
-        → HasValue rec set n }
+        → HasValueOfLength rec set n }
 {}
 
 /// Proves that no row allows more octets than the greatest size, so that a count can encode each

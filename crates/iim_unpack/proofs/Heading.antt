@@ -1,5 +1,5 @@
 -- The state of an unpacker's parts after a head, and why a head is rejected.
-use Rattle.iim_unpack.proofs.Words.{AreAfter, AreBetween, Bool, CountsFor, Dataset, DatasetEvent, FieldFault, FieldsPlace, HasFewSubfiles, Head, HeadLeads, HeadRead, InData, InTag, IsHeadFault, IsRefusedHead, List, LowerLaws, ObjectLanguage, ObjectLives, Option, Parts, PartsRefuse, SectionsLiveAt, Some, StandsAfter, StandsIn, State, SubfileBegun, TellsMessage, TellsParts, TextsStandBetweenStxAndEtx, TokenFault, Within, [], ap, append-nil, arith, cases_Bool, cond, events_at, events_of, false, flat_map, head_token, inl, inr, length, limits_of, max_subfiles, message_on, nat_eq, ne_eqb, object_of, object_so_far, octets_of, of_field, of_record, place_after_datasets, place_at, refl, same_Some, sections_last, subst, sym, text_so_far, too_many_on, true≢false, ℕ, ◌++◌, ◌<◌, ◌∙◌, ◌∷◌, ◌≡◌, ◌≤◌, ◌⊎◌}
+use Rattle.iim_unpack.proofs.Words.{PartsAreAfter, PartsAreBetween, Bool, CountsSinkFailure, Dataset, DatasetEvent, FieldFault, FieldsPlace, AllowsSubfile, Head, HeadLeads, HeadRead, InData, InTag, IsHeadFault, IsFaultOfHead, List, LayerLemmas, ObjectLanguage, ObjectIsViable, Option, Parts, PartsReject, AreViableSectionsWithHead, Some, HasReadDatasets, IsReadingDataset, State, SubfileBegun, MessageEmits, PartsEmit, TextsAreBetweenStxAndEtx, TokenFault, PartsAreIn, [], ap, append-nil, arith, cases_Bool, cond, events_at, events_of_dataset, false, flat_map, head_token, inl, inr, length, limits_of, max_subfiles, message_fault_on, nat_eq, ne_eqb, object_of, object_so_far, octets_of, fault_of_record, of_record, place_after_datasets, place_at, refl, same_Some, sections_last, subst, sym, text_so_far, count_fault_on, true≢false, ℕ, ◌++◌, ◌<◌, ◌∙◌, ◌∷◌, ◌≡◌, ◌≤◌, ◌⊎◌}
 use Rattle.std.proofs.lemmas.List.{length-map}
 use Rattle.iim_dataset.specs.Format.Octets as languages
 use Rattle.iim_object.specs.Format.Objects.{ObjectEnded}
@@ -7,10 +7,10 @@ use Rattle.iim_object.specs.States.Reading as objects
 use Rattle.wire_story.specs.Format.Texts as story
 use Rattle.wire_message.specs.States.Reading as wire
 use Rattle.wire_message.specs.declared.place.Place.{Place}
-use Rattle.iim_unpack.specs.Routes.{RefusesObject, RefusesSubfile}
-use Rattle.iim_places.specs.Format.Open.{IsUnfinished}
-use Rattle.iim_places.proofs.Places.{end_leads, subfile_leads}
-use Rattle.iim_unpack.proofs.{Faults.IsObjects, Faults.field_head, Faults.have_room, Faults.object_head, Faults.too_many_head, Sequences.ended_by_record}
+use Rattle.iim_unpack.specs.RouterSteps.{ObjectRejectsHead, RejectsSubfileHead}
+use Rattle.iim_places.specs.Format.Open.{IsBadEndAt}
+use Rattle.iim_places.proofs.Places.{end_reaches, subfile_reaches}
+use Rattle.iim_unpack.proofs.{Faults.IsObjects, Faults.field_head, Faults.head_within_limits, Faults.object_head, Faults.too_many_head, Sequences.ended_by_record}
 use Rattle.iim_unpack.proofs.Carrying.{after_all, all_for, counts_for, passes_on}
 
 -- the text is unchanged
@@ -28,8 +28,9 @@ no_more ds h = ap (λ (xs : List ℕ). object_of ds ++ xs) (either_way (nat_eq h
 none_in : (r : ℕ) → flat_map octets_of (events_at r) ≡ []
 none_in r = elim (cases_Bool (nat_eq r 9)) [ inl nine ↦ rw nine refl | inr other ↦ rw other refl ]
 
-same_text : TextsStandBetweenStxAndEtx → (old new : Option Place) (o more : List ℕ) → wire.LeadsOn old [] more new → wire.StandsAt old o (text_so_far o)
-    → wire.StandsAt new o (text_so_far o) × (text_so_far o ++ more ≡ text_so_far o)
+same_text : TextsAreBetweenStxAndEtx → (old new : Option Place) (o more : List ℕ) → wire.ChunkAdvancesMessage old [] more new → wire.MessageReaderHasRead old o
+    (text_so_far o)
+    → wire.MessageReaderHasRead new o (text_so_far o) × (text_so_far o ++ more ≡ text_so_far o)
 same_text texts old new o more goes at = rw (append-nil o) at (passes_on texts old new o [] more goes at)
 
 -- ---- each kind of head
@@ -38,23 +39,24 @@ same_text texts old new o more goes at = rw (append-nil o) at (passes_on texts o
 as_many : (ds : List Dataset) → length (place_after_datasets ds).lengths ≡ length (of_record 8 ds)
 as_many ds = length-map (of_record 8 ds) (λ (d : Dataset). length d.octets)
 
-few_of : (p : Parts) (ds : List Dataset) → AreAfter p ds → HasFewSubfiles p.object → length (of_record 8 ds) < max_subfiles
+few_of : (p : Parts) (ds : List Dataset) → PartsAreAfter p ds → AllowsSubfile p.object → length (of_record 8 ds) < max_subfiles
 few_of p ds at few = let n = few (place_after_datasets ds) at.object in omega (arith, n, as_many ds)
 
-leads_by : LowerLaws → (ds : List Dataset) (h : Head) → SectionsLiveAt ds h → IsObjects h.rec → (h.rec ≡ 8 → length (of_record 8 ds) < max_subfiles)
+consumes_by : LayerLemmas → (ds : List Dataset) (h : Head) → AreViableSectionsWithHead ds h → IsObjects h.rec → (h.rec ≡ 8 → length
+    (of_record 8 ds) < max_subfiles)
     → HeadLeads ds h
-leads_by laws ds h alive (inl eight) room = subfile_leads laws ds h alive eight (room eight)
-leads_by laws ds h alive (inr nine) room = end_leads laws ds h alive nine
+consumes_by laws ds h alive (inl eight) room = subfile_reaches laws ds h alive eight (room eight)
+consumes_by laws ds h alive (inr nine) room = end_reaches laws ds h alive nine
 
-pub begins_other : (p : Parts) (ds : List Dataset) (h : Head) (checker : FieldsPlace) → (h.rec ≡ 8 → ⊥) → (h.rec ≡ 9 → ⊥) → AreAfter p ds
-    → StandsIn checker ds h []
-    → Within (record p { fields = checker }) ds h []
+pub begins_other : (p : Parts) (ds : List Dataset) (h : Head) (checker : FieldsPlace) → (h.rec ≡ 8 → ⊥) → (h.rec ≡ 9 → ⊥) → PartsAreAfter p ds
+    → IsReadingDataset checker ds h []
+    → PartsAreIn (record p { fields = checker }) ds h []
 begins_other p ds h checker other8 other9 at inside =
     let elsewhere : place_at ds h ≡ place_after_datasets ds = rw (ne_eqb h.rec 8 other8, ne_eqb h.rec 9 other9) refl in
     record {
       octets = tt;
       fields = rw (either_way (nat_eq h.rec 8) []) inside;
-      object = subst (objects.StandsAt p.object) (sym elsewhere) at.object;
+      object = subst (objects.ObjectReaderStandsAt p.object) (sym elsewhere) at.object;
       few = at.few;
       room = λ is. absurd (other8 is);
       message = rw (no_more ds h) at.message;
@@ -63,13 +65,13 @@ begins_other p ds h checker other8 other9 at inside =
 
 module _ {S : Type 0} {goes : S → List story.StoryEvent → S → Type 0} {failures : S → ℕ} (p : Parts) (h : Head) where
   -- a head, after complete datasets
-  pub tells_parts_head : {new : Parts} {a b : S} (more : List ℕ) → AreBetween false p → limits_of new.fields ≡ limits_of p.fields
-      → goes a (story.delivered more) b → failures b ≡ failures a → ((ds : List Dataset) → AreAfter p ds → Within new ds h [] × AddsNone ds more)
-      → TellsParts goes failures (p, a) (HeadRead h ∷ []) (new, b)
-  tells_parts_head {new} more takes same told calm begins = record {
+  pub parts_emit_head : {new : Parts} {a b : S} (more : List ℕ) → PartsAreBetween false p → limits_of new.fields ≡ limits_of p.fields
+      → goes a (story.delivered more) b → failures b ≡ failures a → ((ds : List Dataset) → PartsAreAfter p ds → PartsAreIn new ds h [] × AddsNone ds more)
+      → PartsEmit goes failures (p, a) (HeadRead h ∷ []) (new, b)
+  parts_emit_head {new} more takes same told no_failure begins = record {
     more = more;
     told = told;
-    calm = calm;
+    no_failure = no_failure;
     leads = record {
       limits = same;
       leads = λ before text order led.
@@ -78,7 +80,7 @@ module _ {S : Type 0} {goes : S → List story.StoryEvent → S → Type 0} {fai
           record {
             whole = at.ds;
             begun = InData h [];
-            told = ap (λ (es : List DatasetEvent). es ++ HeadRead h ∷ []) (at.told ∙ append-nil (flat_map events_of at.ds));
+            told = ap (λ (es : List DatasetEvent). es ++ HeadRead h ∷ []) (at.told ∙ append-nil (flat_map events_of_dataset at.ds));
             stands = next.0;
             is_text = ap (λ (t : List ℕ). t ++ more) at.is_text ∙ next.1 ∙ ap text_so_far (sym (no_more at.ds h));
           };
@@ -86,18 +88,19 @@ module _ {S : Type 0} {goes : S → List story.StoryEvent → S → Type 0} {fai
   }
 
   -- a head of the object, which is not a value's
-  pub begins_object : LowerLaws → {a b : S} (ds : List Dataset) (checker : FieldsPlace) {object : Option State} {message : Option Place} → IsObjects h.rec
-      → (h.rec ≡ 8 → HasFewSubfiles p.object) → AreAfter p ds → StandsIn checker ds h [] → objects.LeadsOn p.object (head_token h.rec h.count) object
-      → (passed : TellsMessage goes failures (p.message, a) (events_at h.rec) (message, b))
-      → Within (record { fields = checker; object = object; message = message }) ds h [] × AddsNone ds passed.told.0
+  pub begins_object : LayerLemmas → {a b : S} (ds : List Dataset) (checker : FieldsPlace) {object : Option State} {message : Option Place} → IsObjects h.rec
+      → (h.rec ≡ 8 → AllowsSubfile p.object) → PartsAreAfter p ds → IsReadingDataset checker ds h [] → objects.TokenAdvancesObject p.object
+      (head_token h.rec h.count) object
+      → (passed : MessageEmits goes failures (p.message, a) (events_at h.rec) (message, b))
+      → PartsAreIn (record { fields = checker; object = object; message = message }) ds h [] × AddsNone ds passed.told.0
   begins_object laws ds checker {object} {message} is few at inside leads_on passed =
       let room : h.rec ≡ 8 → length (of_record 8 ds) < max_subfiles = λ eight. few_of p ds at (few eight) in
-      let leads = leads_by laws ds h inside.alive is room in
+      let leads = consumes_by laws ds h inside.alive is room in
       let text = same_text laws.texts p.message message (object_of ds) passed.told.0 (rw (none_in h.rec) at passed.told.2) at.message in (
         record {
           octets = tt;
           fields = rw (either_way (nat_eq h.rec 8) []) inside;
-          object = subst (objects.StandsAt object) leads.1 (leads_on (place_after_datasets ds) at.object leads.0);
+          object = subst (objects.ObjectReaderStandsAt object) leads.1 (leads_on (place_after_datasets ds) at.object leads.0);
           few = at.few;
           room = room;
           message = rw (no_more ds h) text.0;
@@ -109,11 +112,11 @@ module _ {S : Type 0} {goes : S → List story.StoryEvent → S → Type 0} {fai
   -- ---- refusals
 
   -- A head is rejected, and the sink received no more text.
-  stopped_head : {a b : S} {new : Parts} (fault : TokenFault) (more : List ℕ) → LowerLaws → AreBetween false p → goes a (story.delivered more) b
-      → CountsFor fault.cause (failures a) (failures b)
-      → ((ds : List Dataset) → AreAfter p ds
-      → (IsRefusedHead (limits_of p.fields) ds h fault ⊎ IsUnfinished (limits_of p.fields) ds h fault) × AddsNone ds more)
-      → PartsRefuse goes failures (Some fault) (p, a) [] (HeadRead h) (new, b)
+  stopped_head : {a b : S} {new : Parts} (fault : TokenFault) (more : List ℕ) → LayerLemmas → PartsAreBetween false p → goes a (story.delivered more) b
+      → CountsSinkFailure fault.cause (failures a) (failures b)
+      → ((ds : List Dataset) → PartsAreAfter p ds
+      → (IsFaultOfHead (limits_of p.fields) ds h fault ⊎ IsBadEndAt (limits_of p.fields) ds h fault) × AddsNone ds more)
+      → PartsReject goes failures (Some fault) (p, a) [] (HeadRead h) (new, b)
   stopped_head fault more laws takes told counts refuses = record {
     fault = fault;
     is_fault = refl;
@@ -136,26 +139,26 @@ module _ {S : Type 0} {goes : S → List story.StoryEvent → S → Type 0} {fai
         };
   }
 
-  pub stopped_field : {a : S} {new : Parts} (f : FieldFault) → h.set < 256 → LowerLaws → AreBetween false p → goes a [] a
-      → ((ds : List Dataset) → StandsAfter p.fields ds → IsHeadFault (limits_of p.fields) ds h f)
-      → PartsRefuse goes failures (Some (of_field f)) (p, a) [] (HeadRead h) (new, a)
+  pub stopped_field : {a : S} {new : Parts} (f : FieldFault) → h.set < 256 → LayerLemmas → PartsAreBetween false p → goes a [] a
+      → ((ds : List Dataset) → HasReadDatasets p.fields ds → IsHeadFault (limits_of p.fields) ds h f)
+      → PartsReject goes failures (Some (fault_of_record f)) (p, a) [] (HeadRead h) (new, a)
   stopped_field f small laws takes g is =
-      stopped_head (of_field f) [] laws takes g refl
+      stopped_head (fault_of_record f) [] laws takes g refl
       (λ ds at. (inl (field_head laws.heads_die (limits_of p.fields) ds h f small at.fields.alive (is ds at.fields)), append-nil (text_so_far (object_of ds))))
 
-  module _ (checker : FieldsPlace) (laws : LowerLaws) (takes : AreBetween false p)
-      (inside : (ds : List Dataset) → StandsAfter p.fields ds → StandsIn checker ds h []) where
+  module _ (checker : FieldsPlace) (laws : LayerLemmas) (takes : PartsAreBetween false p)
+      (inside : (ds : List Dataset) → HasReadDatasets p.fields ds → IsReadingDataset checker ds h []) where
     -- The object rejects it, or the message rejects the end of the object.
     pub stopped_by : {a b : S} {message : Option Place} {new : Parts} (fault : TokenFault)
-        → RefusesObject goes failures p.object h (p.message, a) (message, b) fault
-        → IsObjects h.rec → (h.rec ≡ 8 → HasFewSubfiles p.object) → PartsRefuse goes failures (Some fault) (p, a) [] (HeadRead h) (new, b)
+        → ObjectRejectsHead goes failures p.object h (p.message, a) (message, b) fault
+        → IsObjects h.rec → (h.rec ≡ 8 → AllowsSubfile p.object) → PartsReject goes failures (Some fault) (p, a) [] (HeadRead h) (new, b)
     stopped_by {a} {b} {message} fault (inl (bad, passed)) is few =
         stopped_head fault passed.told.0 laws takes passed.told.1
-        (subst (λ (f : TokenFault). CountsFor f.cause (failures a) (failures b)) (sym bad.2) passed.calm)
+        (subst (λ (f : TokenFault). CountsSinkFailure f.cause (failures a) (failures b)) (sym bad.2) passed.no_failure)
         (λ ds at.
         let alive = (inside ds at.fields).alive in
         let room : h.rec ≡ 8 → length (of_record 8 ds) < max_subfiles = λ eight. few_of p ds at (few eight) in
-        let leads = leads_by laws ds h alive is room in (
+        let leads = consumes_by laws ds h alive is room in (
           inl (object_head laws.heads_die laws.tokens (limits_of p.fields) ds h fault p.object at.fields.alive alive is room leads at.object bad),
           (same_text laws.texts p.message message (object_of ds) passed.told.0 passed.told.2 at.message).1,
         ))
@@ -164,33 +167,33 @@ module _ {S : Type 0} {goes : S → List story.StoryEvent → S → Type 0} {fai
     stopped_by {a} {b} fault (inr (why, is_fault, token, lives_with, halted)) (inr nine) few =
         let same : halted.why ≡ why = sym (same_Some _ _ halted.is_cause) in
         stopped_head fault halted.told.0 laws takes halted.told.1
-        (subst (λ (f : TokenFault). CountsFor f.cause (failures a) (failures b)) (sym is_fault)
-        (counts_for why (failures a) (failures b) (subst (wire.CountsCause (failures a) (failures b)) same halted.counts)))
+        (subst (λ (f : TokenFault). CountsSinkFailure f.cause (failures a) (failures b)) (sym is_fault)
+        (counts_for why (failures a) (failures b) (subst (wire.SinkCountsMessageCause (failures a) (failures b)) same halted.counts)))
         (λ ds at.
         let alive = (inside ds at.fields).alive in
-        let leads = end_leads laws ds h alive nine in
+        let leads = end_reaches laws ds h alive nine in
         let follows = sym (laws.tokens (place_after_datasets ds) (head_token h.rec h.count) leads.0) in
-        let lives : ObjectLives (place_at ds h) =
-        subst ObjectLives leads.1 (subst (languages.IsAlive ObjectLanguage) follows (lives_with (place_after_datasets ds) at.object leads.0)) in
-        let room = have_room (limits_of p.fields) ds h (inr nine) (λ eight. absurd (omega (arith, eight, nine))) in
+        let lives : ObjectIsViable (place_at ds h) =
+        subst ObjectIsViable leads.1 (subst (languages.IsViablePrefix ObjectLanguage) follows (lives_with (place_after_datasets ds) at.object leads.0)) in
+        let room = head_within_limits (limits_of p.fields) ds h (inr nine) (λ eight. absurd (omega (arith, eight, nine))) in
         let has = halted.has_cause (object_of ds) (text_so_far (object_of ds)) at.message in
         let next = halted.told.2 (object_of ds) (text_so_far (object_of ds)) at.message in (
           inr (record {
             last = nine;
             leads_on = record { records = alive; within = record { kept = at.fields.within; subfiles = at.few }; room = room; object = lives };
             dies = rw (append-nil (object_of ds)) at has.1;
-            is_fault = is_fault ∙ ap (message_on h) (sym same ∙ has.0);
+            is_fault = is_fault ∙ ap (message_fault_on h) (sym same ∙ has.0);
           }),
           laws.texts (object_of ds ++ []) (text_so_far (object_of ds) ++ halted.told.0) next.0 next.1 ∙ ap text_so_far (append-nil (object_of ds)),
         ))
 
     pub stopped_subfile : {a b : S} {message : Option Place} {new : Parts} → goes a [] a → h.rec ≡ 8 → (fault : TokenFault)
-        → RefusesSubfile goes failures p.object h (p.message, a) (message, b) fault → PartsRefuse goes failures (Some fault) (p, a) [] (HeadRead h) (new, b)
+        → RejectsSubfileHead goes failures p.object h (p.message, a) (message, b) fault → PartsReject goes failures (Some fault) (p, a) [] (HeadRead h) (new, b)
     stopped_subfile g eight fault (inl (many, is, same)) =
-        rw (same, is) (stopped_head (too_many_on h) [] laws takes g refl
+        rw (same, is) (stopped_head (count_fault_on h) [] laws takes g refl
         (λ ds at.
         let full : max_subfiles ≤ length (of_record 8 ds) = let n = many (place_after_datasets ds) at.object in omega (arith, n, as_many ds) in (
-          inl (too_many_head laws.heads_die (limits_of p.fields) ds h (too_many_on h) at.fields.alive (inside ds at.fields).alive eight full refl),
+          inl (too_many_head laws.heads_die (limits_of p.fields) ds h (count_fault_on h) at.fields.alive (inside ds at.fields).alive eight full refl),
           append-nil (text_so_far (object_of ds)),
         )))
     stopped_subfile g eight fault (inr (few, bad)) = stopped_by fault bad (inl eight) (λ _. few)

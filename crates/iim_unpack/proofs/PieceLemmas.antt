@@ -1,5 +1,5 @@
 -- What an unpacker returns for a stream that is split into chunks.
-use Rattle.iim_unpack.proofs.Words.{Answer, Answers, Bor, Cause, CountsFor, Delivers, DeliveryMayBeCut, Done, Err, Finished, Progresses, HasFedPieces, HasParts, InTag, IsDone, IsDoneWith, IsEnvelopeWithin, IsFinished, IsOpen, IsRefusedIn, IsTruncatedAt, IsTurnedDown, Limits, List, LowerLaws, More, None, Ok, Option, PlaceLaws, Progress, Refusal, Refused, Result, Some, Stands, StreamsHaveOneAnswer, Truncated, Unpacked, Unpacking, Value, [], ap, append-nil, append_assoc, arith, drop, flat_map-append, get_or, get_or-append-add, inl, inr, length, length-append, length-take-le, limits_in, object_of, raised, reads_envelope, refl, refusal_at, slice_index, stream_of, subst, sym, take, take-append-add, take-append-drop, text_so_far, ℕ, ◌++◌, ◌+◌, ◌-◌, ◌<◌, ◌^◌, ◌∙◌, ◌∷◌, ◌≡◌, ◌≤◌, ◌⊎◌}
+use Rattle.iim_unpack.proofs.Words.{Answer, Answers, Bor, Cause, CountsSinkFailure, Delivers, DeliveryOfChunksJoins, Done, Err, Finished, Progresses, HasFedChunks, HasParts, InTag, IsDone, IsDoneWith, IsEnvelopeWithin, IsFinished, IsIncomplete, IsRefusedIn, IsTruncatedAt, IsRejected, Limits, List, LayerLemmas, More, None, Ok, Option, PlaceLaws, Progress, Refusal, Refused, Result, Some, HasRead, StreamsHaveOneResult, Truncated, Unpacked, Unpacking, Value, [], ap, append-nil, append_assoc, arith, drop, flat_map-append, get_or, get_or-append-add, inl, inr, length, length-append, length-take-le, limits_in, object_of, sum_capped, reads_envelope, refl, refusal_at, slice_index, stream_of, subst, sym, take, take-append-add, take-append-drop, text_so_far, ℕ, ◌++◌, ◌+◌, ◌-◌, ◌<◌, ◌^◌, ◌∙◌, ◌∷◌, ◌≡◌, ◌≤◌, ◌⊎◌}
 use Rattle.std.proofs.Common.{IfErr}
 use Rattle.std.proofs.lemmas.List.{get_or_append_left, take-append-le, take_more}
 use Rattle.std.specs.Result.{IsErrAnd}
@@ -7,35 +7,37 @@ use Rattle.wire_story.specs.Format.Texts as story
 use Rattle.wire_story.specs.Laws.{TextsAreDeliveredAsLines}
 use Rattle.wire_message.specs.declared.place.Place.TheVariants.{AfterEnd}
 use Rattle.iim_places.specs.Format.Admitted.{Admits}
-use Rattle.iim_unpack.specs.{Format.Pieces.IsAnswer, Format.Pieces.IsUnpacked, Steps.DoneIn}
+use Rattle.iim_unpack.specs.{Format.Pieces.RepresentsResult, Format.Pieces.IsUnpacked, Steps.IsDoneWithin}
 use Rattle.iim_places.specs.declared.refusal.Cause.TheVariants.{Message}
 use Rattle.wire_message.specs.declared.fault.MessageCause.TheVariants.{Sink}
-use Rattle.iim_places.proofs.Answering.{leads_to, no_text}
-use Rattle.iim_unpack.proofs.{Feeding.one_text, Intakes.Joined, Intakes.adds_more, Intakes.not_told, Intakes.told_truncated}
+use Rattle.iim_places.proofs.StreamResults.{reaches_end, no_text}
+use Rattle.iim_unpack.proofs.{Feeding.one_text, Intakes.Joined, Intakes.adds_more, Intakes.sink_unchanged, Intakes.told_truncated}
 
 -- The limits are numbers of 32 bits.
 pub record AreLow (limits : Limits) : Type 0 where
   pub octets : limits.octets < 4294967296
   pub fields : limits.fields < 4294967296
 
-exact : (n k : ℕ) → n + k < 2 ^ 64 - 1 → raised n k ≡ n + k
+exact : (n k : ℕ) → n + k < 2 ^ 64 - 1 → sum_capped n k ≡ n + k
 exact n k less = omega (arith, less)
 
-module _ {S : Type 0} {goes : S → List story.StoryEvent → S → Type 0} (joined : Joined goes) (cut : DeliveryMayBeCut) (laws : PlaceLaws) {limits : Limits}
+module _ {S : Type 0} {goes : S → List story.StoryEvent → S → Type 0} (joined : Joined goes) (cut : DeliveryOfChunksJoins) (laws : PlaceLaws) {limits : Limits}
     (low : AreLow limits) (o piece : List ℕ) where
   -- ---- a chunk that was consumed
 
   -- the unpacker has consumed incomplete input, and the chunk too
-  on_more : {v : Unpacking} → limits_in v ≡ limits → Stands v (o ++ piece) (raised (length o) (length piece)) → Stands v (o ++ piece) (length (o ++ piece))
+  on_more : {v : Unpacking} → limits_in v ≡ limits → HasRead v (o ++ piece) (sum_capped (length o) (length piece)) → HasRead v (o ++ piece) (length
+      (o ++ piece))
   on_more {v} same at =
-      let less = laws.open_octets_are_bounded limits (o ++ piece) low.octets low.fields (subst (λ (l : Limits). IsOpen l (o ++ piece)) same at.is_open) in
+      let less = laws.incomplete_octets_are_bounded limits (o ++ piece) low.octets low.fields (subst (λ (l : Limits). IsIncomplete l
+      (o ++ piece)) same at.is_open) in
       let sum = length-append o piece in
-      subst (Stands v (o ++ piece)) (exact (length o) (length piece) (omega (arith, less, sum)) ∙ sym sum) at
+      subst (HasRead v (o ++ piece)) (exact (length o) (length piece) (omega (arith, less, sum)) ∙ sym sum) at
 
   -- or it has completed an envelope that is a prefix
   on_done : {v : Unpacking} (more next : List story.StoryEvent) (used : ℕ) → limits_in v ≡ limits → used ≤ length piece
-      → IsDoneWith v (o ++ take used piece) (raised (length o) used) → Delivers [] o more → Delivers o (take used piece) next
-      → DoneIn v (o ++ piece) (more ++ next)
+      → IsDoneWith v (o ++ take used piece) (sum_capped (length o) used) → Delivers [] o more → Delivers o (take used piece) next
+      → IsDoneWithin v (o ++ piece) (more ++ next)
   on_done {v} more next used same fits done before adds =
       let within : IsEnvelopeWithin limits (o ++ take used piece) done.value =
       subst (λ (l : Limits). IsEnvelopeWithin l (o ++ take used piece) done.value) same (record { admits = done.admits; within = done.within }) in
@@ -49,17 +51,17 @@ module _ {S : Type 0} {goes : S → List story.StoryEvent → S → Type 0} (joi
         adds = rw (take-append-add o piece used) (adds_more cut [] o (take used piece) more next before adds);
       }
 
-  pub feeds_on : {u v : Unpacking} {a b c : S} (progress : Progress) → HasFedPieces goes limits u a b o → limits_in v ≡ limits
-      → ((more : List story.StoryEvent) × goes b more c × ((p : List ℕ) (n : ℕ) → Stands u p n → Progresses v p n piece more progress))
-      → ((used : ℕ) → used ≤ length o → IsDoneWith u (take used o) used → (v ≡ u) × (c ≡ b)) → HasFedPieces goes limits v a c (o ++ piece)
+  pub feeds_on : {u v : Unpacking} {a b c : S} (progress : Progress) → HasFedChunks goes limits u a b o → limits_in v ≡ limits
+      → ((more : List story.StoryEvent) × goes b more c × ((p : List ℕ) (n : ℕ) → HasRead u p n → Progresses v p n piece more progress))
+      → ((used : ℕ) → used ≤ length o → IsDoneWith u (take used o) used → (v ≡ u) × (c ≡ b)) → HasFedChunks goes limits v a c (o ++ piece)
   feeds_on {u} {v} {a} {b} {c} progress fed same step done' = by fed.stood
     where
-      answered : (q : Progress) → Stands u o (length o) → Delivers [] o fed.more → Progresses v o (length o) piece step.0 q
-          → (Stands v (o ++ piece) (length (o ++ piece)) × Delivers [] (o ++ piece) (fed.more ++ step.0)) ⊎ DoneIn v (o ++ piece) (fed.more ++ step.0)
+      answered : (q : Progress) → HasRead u o (length o) → Delivers [] o fed.more → Progresses v o (length o) piece step.0 q
+          → (HasRead v (o ++ piece) (length (o ++ piece)) × Delivers [] (o ++ piece) (fed.more ++ step.0)) ⊎ IsDoneWithin v (o ++ piece) (fed.more ++ step.0)
       answered More at adds there = inl (on_more same there.0, adds_more cut [] o piece fed.more step.0 adds there.1)
       answered (Done used) at adds there = inr (on_done fed.more step.0 used same there.0 there.1 adds there.2)
 
-      by : (Stands u o (length o) × Delivers [] o fed.more) ⊎ DoneIn u o fed.more → HasFedPieces goes limits v a c (o ++ piece)
+      by : (HasRead u o (length o) × Delivers [] o fed.more) ⊎ IsDoneWithin u o fed.more → HasFedChunks goes limits v a c (o ++ piece)
       by (inl (at, adds)) = record {
         limits_are = same;
         more = fed.more ++ step.0;
@@ -87,13 +89,13 @@ module _ {S : Type 0} {goes : S → List story.StoryEvent → S → Type 0} (joi
   refused_there r =
       let front : List ℕ = o ++ take r.k piece in
       let within = r.within in
-      let is_open = laws.refused_octets_were_open limits front (slice_index piece r.k) r.fault r.refuses in
-      let less = laws.open_octets_are_bounded limits front low.octets low.fields is_open in
+      let is_open = laws.refused_octets_were_incomplete limits front (slice_index piece r.k) r.fault r.refuses in
+      let less = laws.incomplete_octets_are_bounded limits front low.octets low.fields is_open in
       let sum = length-append o (take r.k piece) ∙ ap (λ (n : ℕ). length o + n) (length-take-le r.k piece (omega (arith, within))) in
       ap (λ (x : Refusal). x.octet) r.refusal ∙ exact (length o) r.k (omega (arith, less, sum))
 
   was_refused : {a b c : S} (rest : List ℕ) (more next : List story.StoryEvent) {e : Refusal} → goes a more b → goes b next c → Delivers [] o more
-      → IsRefusedIn limits o (length o) piece next e → IsTurnedDown goes limits (o ++ (piece ++ rest)) a c e
+      → IsRefusedIn limits o (length o) piece next e → IsRejected goes limits (o ++ (piece ++ rest)) a c e
   was_refused {a} {b} {c} rest more next {e} told then' adds r =
       let within = r.within in
       let stream : List ℕ = o ++ (piece ++ rest) in
@@ -115,9 +117,9 @@ module _ {S : Type 0} {goes : S → List story.StoryEvent → S → Type 0} (joi
       )
 
   -- the result of feeding it
-  pub turned_down : {u : Unpacking} {a b c : S} (rest : List ℕ) {answer : Result Progress Refusal} {e : Refusal} → HasFedPieces goes limits u a b o
-      → answer ≡ Err e → ((more : List story.StoryEvent) × goes b more c × ((p : List ℕ) (n : ℕ) → Stands u p n → IsRefusedIn (limits_in u) p n piece more e))
-      → (IsDone u → answer ≡ Ok (Done 0)) → IsTurnedDown goes limits (o ++ (piece ++ rest)) a c e
+  pub turned_down : {u : Unpacking} {a b c : S} (rest : List ℕ) {answer : Result Progress Refusal} {e : Refusal} → HasFedChunks goes limits u a b o
+      → answer ≡ Err e → ((more : List story.StoryEvent) × goes b more c × ((p : List ℕ) (n : ℕ) → HasRead u p n → IsRefusedIn (limits_in u) p n piece more e))
+      → (IsDone u → answer ≡ Ok (Done 0)) → IsRejected goes limits (o ++ (piece ++ rest)) a c e
   turned_down rest {answer} {e} fed is step done' = elim fed.stood [
     | inl (at, adds) ↦
         was_refused rest fed.more step.0 fed.told step.1 adds
@@ -128,12 +130,12 @@ module _ {S : Type 0} {goes : S → List story.StoryEvent → S → Type 0} (joi
 -- ---- the end
 
 -- the text delivered of an envelope is its lines
-lines_of : LowerLaws → TextsAreDeliveredAsLines → (octets : List ℕ) (v : Value) (more : List story.StoryEvent) → Admits octets v → Delivers [] octets more
+lines_of : LayerLemmas → TextsAreDeliveredAsLines → (octets : List ℕ) (v : Value) (more : List story.StoryEvent) → Admits octets v → Delivers [] octets more
     → more ≡ story.events_of_lines v.lines
 lines_of laws delivered octets v more a adds =
     let (added, is, told) = adds [] no_text in
     let text : a.text ≡ text_so_far (object_of a.datasets) = laws.texts (object_of a.datasets) a.text
-    (AfterEnd v.head (record { items = v.trailer }) (length a.message.after)) (leads_to octets v a) in
+    (AfterEnd v.head (record { items = v.trailer }) (length a.message.after)) (reaches_end octets v a) in
     let same : added ≡ text_so_far (object_of a.datasets) = one_text laws octets added (text_so_far (object_of a.datasets)) is
     (a.datasets, InTag [], reads_envelope octets v a, refl) in
     told ∙ ap story.delivered (same ∙ sym text) ∙ delivered a.text v.lines a.lines
@@ -142,9 +144,9 @@ lines_of laws delivered octets v more a adds =
 pub record Finishes {S : Type 0} (goes : S → List story.StoryEvent → S → Type 0) (v : Unpacking) (a b : S) (stream : List ℕ) : Type 0 where
   pub more : List story.StoryEvent
   pub told : goes a more b
-  pub done : DoneIn v stream more
+  pub done : IsDoneWithin v stream more
 
-pub is_unpacked : {S : Type 0} (goes : S → List story.StoryEvent → S → Type 0) → LowerLaws → TextsAreDeliveredAsLines
+pub is_unpacked : {S : Type 0} (goes : S → List story.StoryEvent → S → Type 0) → LayerLemmas → TextsAreDeliveredAsLines
     → {limits : Limits} {v : Unpacking} (a b : S)
     {stream : List ℕ} {got : Unpacked} {used : ℕ} → limits_in v ≡ limits → (f : Finishes goes v a b stream)
     → ((p : List ℕ) (n : ℕ) → IsDoneWith v p n → (w : Value) → Admits p w → HasParts got w) → used ≡ v.octets → IsUnpacked goes limits stream a b got used
@@ -177,55 +179,55 @@ stream_rest ps k d less =
     ∙ append_assoc (stream_of (take k ps)) (get_or ps k d).now (stream_of (drop (k + 1) ps))
 
 pub still_taking : {S : Type 0} {goes : S → List story.StoryEvent → S → Type 0} {limits : Limits} {u : Unpacking} {a b : S} {o : List ℕ}
-    → HasFedPieces goes limits u a b o → u.refused ≡ None
+    → HasFedChunks goes limits u a b o → u.refused ≡ None
 still_taking fed = elim fed.stood [ inl at ↦ at.0.taking | inr d ↦ d.done.taking ]
 
 -- ---- the result of a stream
 
-module _ {S : Type 0} (goes : S → List story.StoryEvent → S → Type 0) (one : StreamsHaveOneAnswer) {limits : Limits} {stream : List ℕ} {a b : S} where
-  pub only_down : {e : Refusal} → IsTurnedDown goes limits stream a b e → (answer : Answer) → Answers limits stream answer → (e.cause ≡ Message Sink → ⊥)
-      → IsAnswer (Err e) answer
+module _ {S : Type 0} (goes : S → List story.StoryEvent → S → Type 0) (one : StreamsHaveOneResult) {limits : Limits} {stream : List ℕ} {a b : S} where
+  pub only_down : {e : Refusal} → IsRejected goes limits stream a b e → (answer : Answer) → Answers limits stream answer → (e.cause ≡ Message Sink → ⊥)
+      → RepresentsResult (Err e) answer
   only_down {e} (inl (refused, told)) answer is other = rw (← one limits stream (Refused e) answer (refused, other) is) refl
   only_down {e} (inr (short, told)) answer is other = rw (← one limits stream (Truncated e) answer short is) refl
 
   pub only_up : {got : Unpacked} {used : ℕ} → IsUnpacked goes limits stream a b got used → (answer : Answer) → Answers limits stream answer
-      → IsAnswer (Ok (got, used)) answer
+      → RepresentsResult (Ok (got, used)) answer
   only_up {got} {used} up answer is =
-      subst (λ (x : Answer). IsAnswer (Ok (got, used)) x) (one limits stream (Finished used up.value) answer up.finished is) (up.parts, refl)
+      subst (λ (x : Answer). RepresentsResult (Ok (got, used)) x) (one limits stream (Finished used up.value) answer up.finished is) (up.parts, refl)
 
 pub only_on : (limits : Limits) (stream : List ℕ) (r : Result (Unpacked × ℕ) Refusal) (e : Refusal) → IsErrAnd r (λ x. x ≡ e)
-    → ((answer : Answer) → Answers limits stream answer → (e.cause ≡ Message Sink → ⊥) → IsAnswer (Err e) answer)
-    → (answer : Answer) → Answers limits stream answer → IfErr r (λ x. x.cause ≡ Message Sink → ⊥) → IsAnswer r answer
+    → ((answer : Answer) → Answers limits stream answer → (e.cause ≡ Message Sink → ⊥) → RepresentsResult (Err e) answer)
+    → (answer : Answer) → Answers limits stream answer → IfErr r (λ x. x.cause ≡ Message Sink → ⊥) → RepresentsResult r answer
 only_on limits stream (Ok got) e is only answer answers other = absurd is
 only_on limits stream (Err f) e is only answer answers other =
-    subst (λ (x : Refusal). IsAnswer (Err x) answer) (sym is) (only answer answers (subst (λ (x : Refusal). x.cause ≡ Message Sink → ⊥) is other))
+    subst (λ (x : Refusal). RepresentsResult (Err x) answer) (sym is) (only answer answers (subst (λ (x : Refusal). x.cause ≡ Message Sink → ⊥) is other))
 
 -- what is missing at the end, after all chunks
 module _ {S : Type 0} {goes : S → List story.StoryEvent → S → Type 0} {limits : Limits} {v : Unpacking} {a b : S} {stream : List ℕ} {answer : Option Refusal}
-    (fed : HasFedPieces goes limits v a b stream) (truncated : (p : List ℕ) (n : ℕ) → Stands v p n → (f : Refusal) × (answer ≡ Some f) × IsTruncatedAt p n f)
+    (fed : HasFedChunks goes limits v a b stream) (truncated : (p : List ℕ) (n : ℕ) → HasRead v p n → (f : Refusal) × (answer ≡ Some f) × IsTruncatedAt p n f)
   where
     -- nothing is missing if the envelope has ended
-    not_done : {e : Refusal} → answer ≡ Some e → (IsDone v → answer ≡ None) → DoneIn v stream fed.more → ⊥
+    not_done : {e : Refusal} → answer ≡ Some e → (IsDone v → answer ≡ None) → IsDoneWithin v stream fed.more → ⊥
     not_done {e} is done' d = let bad : Some e ≡ None = sym is ∙ done' (d.done.taking, d.done.ended) in cc
 
-    pub ends_short : {e : Refusal} → answer ≡ Some e → (IsDone v → answer ≡ None) → IsTurnedDown goes limits stream a b e
+    pub ends_short : {e : Refusal} → answer ≡ Some e → (IsDone v → answer ≡ None) → IsRejected goes limits stream a b e
     ends_short {e} is done' = elim fed.stood [
       | inl (at, adds) ↦
           let t = told_truncated stream (length stream) answer e is (truncated stream (length stream) at) in
-          inr (record { is_open = subst (λ (l : Limits). IsOpen l stream) fed.limits_are at.is_open; refusal = t }, (fed.more, fed.told, adds))
+          inr (record { is_open = subst (λ (l : Limits). IsIncomplete l stream) fed.limits_are at.is_open; refusal = t }, (fed.more, fed.told, adds))
       | inr d ↦ absurd (not_done is done' d)
     ]
 
-    pub short_counts : {e : Refusal} {old new : ℕ} → answer ≡ Some e → (IsDone v → answer ≡ None) → new ≡ old → CountsFor e.cause old new
-    short_counts {e} {old} {new} is done' calm = elim fed.stood [
+    pub short_counts : {e : Refusal} {old new : ℕ} → answer ≡ Some e → (IsDone v → answer ≡ None) → new ≡ old → CountsSinkFailure e.cause old new
+    short_counts {e} {old} {new} is done' no_failure = elim fed.stood [
       | inl (at, adds) ↦
           let t = told_truncated stream (length stream) answer e is (truncated stream (length stream) at) in
-          subst (λ (x : Cause). CountsFor x old new) (sym (ap (λ (x : Refusal). x.cause) t.refusal)) calm
+          subst (λ (x : Cause). CountsSinkFailure x old new) (sym (ap (λ (x : Refusal). x.cause) t.refusal)) no_failure
       | inr d ↦ absurd (not_done is done' d)
     ]
 
     pub ends_done : answer ≡ None → Finishes goes v a b stream
     ends_done is = elim fed.stood [
-      | inl (at, adds) ↦ absurd (not_told answer stream (length stream) is (truncated stream (length stream) at))
+      | inl (at, adds) ↦ absurd (sink_unchanged answer stream (length stream) is (truncated stream (length stream) at))
       | inr d ↦ record { more = fed.more; told = fed.told; done = d }
     ]

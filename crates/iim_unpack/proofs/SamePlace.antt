@@ -1,19 +1,19 @@
 -- Octets that reach one position leave the parts of an unpacker in the same state. The results of
 -- unpackers in the same state, and that a restored one is in the state of the saved one.
-use Rattle.iim_unpack.proofs.Words.{AllCanContinue, Answer, Answers, AreAfter, AreWithin, Begun, CanContinue, CanContinueAt, Dataset, Done, Err, Finished, Head, InData, InTag, IsDoneWith, IsEnvelopeWithin, IsFinished, IsKeptAs, IsOpen, IsRefusedIn, Limits, List, LowerLaws, More, Octets, Ok, Parts, Place, Progress, Reads, Refusal, Refused, Result, Stands, PartsStandAt, StreamsHaveOneAnswer, TokenFault, Truncated, Unpacking, Within, [], alive_of, ap, are_some, arith, begun_number, begun_record, count_octets, fields_after, fields_in, get_or-append-add, handed_on, head_alive, if◌then◌else◌, inl, inr, length, length-append, limits_in, nat_eq, object_of, object_so_far, one_reading, opened, place_after_datasets, place_at, place_of, raised, refl, refusal_at, section_after, slice_index, some_read, stated_after_all, subst, sym, take, take-append-add, text_so_far, ℕ, ◌++◌, ◌+◌, ◌==◌, ◌∙◌, ◌∷◌, ◌≡◌, ◌≤◌, ◌⊎◌}
+use Rattle.iim_unpack.proofs.Words.{AllCanContinue, Answer, Answers, PartsAreAfter, AreWithinLimits, PartialDataset, CanContinue, CanContinueAt, Dataset, Done, Err, Finished, Head, InData, InTag, IsDoneWith, IsEnvelopeWithin, IsFinished, StoresPartial, IsIncomplete, IsRefusedIn, Limits, List, LayerLemmas, More, Octets, Ok, Parts, Place, Progress, ReadsAsDatasets, Refusal, Refused, Result, HasRead, PartsAreAt, StreamsHaveOneResult, TokenFault, Truncated, Unpacking, PartsAreIn, [], alive_of, ap, is_non_empty, arith, partial_number, partial_record, count_octets, fields_after, fields_in, get_or-append-add, emitted_events, head_alive, if◌then◌else◌, inl, inr, length, length-append, limits_in, nat_eq, object_of, object_so_far, one_reading, opened, place_after_datasets, place_at, place_of, sum_capped, refl, refusal_at, section_after, slice_index, some_read, stated_after_all, subst, sym, take, take-append-add, text_so_far, ℕ, ◌++◌, ◌+◌, ◌==◌, ◌∙◌, ◌∷◌, ◌≡◌, ◌≤◌, ◌⊎◌}
 use Rattle.iim_fields.specs.States.Standing as records
-use Rattle.iim_unpack.specs.Laws.{AnswersPiece, IsOfNoSink, PieceIsAnsweredAlike, PiecesAreAnsweredAlike, RestoredStandAlike, RestoredStandAsSaved, StandAlike, StandOnSame, UnpackersStandByPlace}
+use Rattle.iim_unpack.specs.Laws.{ReturnsForChunk, IsNotFromSink, EquivalentUnpackersReturnTheSame, SavedStateResumesExactly, RestoredUnpackersAreEquivalent, RestoredStateIsTheSavedState, AreEquivalent, HaveReadTheSame, PlacesDetermineUnpackers}
 use Rattle.iim_unpack.proofs.Sequences.{reached}
 use Rattle.iim_places.proofs.{SameRecords.same_records, SameRecords.stated_at, Saved.at_restored, Saved.open_wider, Saved.whole_wider}
-use Rattle.iim_places.proofs.SamePlace.{SameAll, SameBegun, SameWhole, count_as, has_as, held_open, keeps_as, message_as, object_as, object_at_as, object_lives_after_as, octets_of, same_begun, same_message, total_as}
+use Rattle.iim_places.proofs.SamePlace.{SameAll, SameBegun, SameWhole, count_as, has_as, partial_incomplete, keeps_as, message_as, object_as, object_at_as, object_lives_after_as, octets_of, same_begun, same_message, total_as}
 use Rattle.std.proofs.Common.{rules}
-use Rattle.iim_places.specs.{Format.Open.RefusesNext, Format.Streams.IsRefused, Format.Streams.IsTruncated, Laws.TicketsTellOnePlace}
+use Rattle.iim_places.specs.{Format.Open.RefusesNext, Format.Streams.IsRefused, Format.Streams.IsTruncated, Laws.TicketsEncodeOnePlace}
 use Rattle.iim_places.specs.Format.Open as opens
 
 -- ---- the parts
 
-module _ (laws : LowerLaws) (limits : Limits) (parts : Parts) (ds es : List Dataset) (ended : nat_eq (section_after ds) 9 ≡ nat_eq (section_after es) 9) where
-  after_as : {x y : List ℕ} → AreAfter parts ds → SameAll ds es (InTag x) (InTag y) → CanContinue limits es → AreAfter parts es
+module _ (laws : LayerLemmas) (limits : Limits) (parts : Parts) (ds es : List Dataset) (ended : nat_eq (section_after ds) 9 ≡ nat_eq (section_after es) 9) where
+  after_as : {x y : List ℕ} → PartsAreAfter parts ds → SameAll ds es (InTag x) (InTag y) → CanContinue limits es → PartsAreAfter parts es
   after_as at all goes =
       let m = all.message in
       let same : SameWhole ds es = record {
@@ -29,9 +29,9 @@ module _ (laws : LowerLaws) (limits : Limits) (parts : Parts) (ds es : List Data
         ended = λ nine. at.ended (all.section ∙ nine);
       }
 
-  within_as : (h : Head) (xs ys : List ℕ) → length xs ≡ length ys → Octets ys → Within parts ds h xs
+  within_as : (h : Head) (xs ys : List ℕ) → length xs ≡ length ys → Octets ys → PartsAreIn parts ds h xs
       → (if h.rec == 8 then [] else xs) ≡ (if h.rec == 8 then [] else ys) → SameAll ds es (InData h xs) (InData h ys) → CanContinueAt limits es h
-      → Within parts es h ys
+      → PartsAreIn parts es h ys
   within_as h xs ys many octets at given all goes =
       let m = all.message in
       let same : SameWhole ds es = record {
@@ -41,7 +41,7 @@ module _ (laws : LowerLaws) (limits : Limits) (parts : Parts) (ds es : List Data
       let recs =
       same_records laws ds es (head_alive ds h at.fields.alive) (head_alive es h goes.records) at.few goes.within.subfiles same.fields in record {
         octets = octets;
-        fields = subst (records.StandsIn parts.fields es h) given
+        fields = subst (records.IsReadingDataset parts.fields es h) given
             (fields_in laws.values_die parts.fields ds es h (if h.rec == 8 then [] else xs) at.fields goes.records same.fields.fields recs);
         object = object_as parts.object (place_at ds h) (place_at es h) at.object (object_at_as ds es h same)
             (stated_at laws es h goes.records goes.within.subfiles goes.room.subfiles) goes.object;
@@ -51,22 +51,23 @@ module _ (laws : LowerLaws) (limits : Limits) (parts : Parts) (ds es : List Data
         ended = at.ended;
       }
 
-  parts_as : (c d : Begun) (q : List ℕ) → SameBegun c d → Reads count_octets q es d → PartsStandAt parts ds c → SameAll ds es c d → AllCanContinue limits es d
-      → PartsStandAt parts es d
+  parts_as : (c d : PartialDataset) (q : List ℕ) → SameBegun c d → ReadsAsDatasets count_octets q es d → PartsAreAt parts ds c → SameAll ds es c d
+      → AllCanContinue limits es d
+      → PartsAreAt parts es d
   parts_as (InTag x) (InTag y) q same reads at all goes = after_as at all goes.sizes
   parts_as (InData h xs) (InData k ys) q same reads at all goes =
       subst (λ (g : Head). (if h.rec == 8 then [] else xs) ≡ (if g.rec == 8 then [] else ys) → SameAll ds es (InData h xs) (InData g ys)
-      → CanContinueAt limits es g → Within parts es g ys) same.head (within_as h xs ys same.many (octets_of q es k ys reads) at) same.given all goes.sizes
+      → CanContinueAt limits es g → PartsAreIn parts es g ys) same.head (within_as h xs ys same.many (octets_of q es k ys reads) at) same.given all goes.sizes
   parts_as c d q same reads at all goes = absurd same
 
 -- ---- the complete unpacker
 
-pub same_stands : LowerLaws → UnpackersStandByPlace
-same_stands laws u p q a place at there stands opens =
+pub same_has_consumed : LayerLemmas → PlacesDetermineUnpackers
+same_has_consumed laws u p q a place at there stands opens =
     let led = stands.is_led in
     let r = reached laws.events_tell led.leads led.led in
     let one = one_reading laws p r.whole at.whole r.begun at.begun r.reads at.reads in
-    let mine : PartsStandAt u.parts at.whole at.begun = rw (one.whole_is, one.begun_is) at r.stands in
+    let mine : PartsAreAt u.parts at.whole at.begun = rw (one.whole_is, one.partial_is) at r.stands in
     let was = opened laws (limits_in u) p at.whole at.begun at.reads stands.is_open in
     let now = opened laws (limits_in u) q there.whole there.begun there.reads opens in
     let e : place_of at.whole at.begun at.message ≡ place_of there.whole there.begun there.message = sym at.is_place ∙ there.is_place in
@@ -81,8 +82,8 @@ same_stands laws u p q a place at there stands opens =
     } in
     let same =
     same_begun p q at.whole there.whole at.begun there.begun at.reads there.reads all.section (ap (λ (x : Place). x.phase) e)
-    (held_open at.whole at.begun there.begun was.ended) in
-    let some : are_some p ≡ are_some q = some_read p at.whole at.begun at.reads
+    (partial_incomplete at.whole at.begun there.begun was.ended) in
+    let some : is_non_empty p ≡ is_non_empty q = some_read p at.whole at.begun at.reads
     ∙ has_as at.whole there.whole at.begun there.begun same (alive_of (limits_in u) at.whole at.begun was.goes.sizes)
     (alive_of (limits_in u) there.whole there.begun now.goes.sizes) all.section
     ∙ sym (some_read q there.whole there.begun there.reads) in
@@ -92,12 +93,12 @@ same_stands laws u p q a place at there stands opens =
       counts = stands.counts;
       begun = stands.begun ∙ some;
       is_led = record {
-        events = handed_on there.whole there.begun;
+        events = emitted_events there.whole there.begun;
         text = text_so_far (object_so_far there.whole there.begun);
         leads = record {
           begun = there.begun;
           hands = record { whole = there.whole; reads = there.reads; handed = refl };
-          keeps = keeps_as u.reader.place at.begun there.begun same (subst (IsKeptAs u.reader.place) one.begun_is r.keeps);
+          keeps = keeps_as u.reader.place at.begun there.begun same (subst (StoresPartial u.reader.place) one.partial_is r.keeps);
         };
         led = record {
           whole = there.whole;
@@ -118,7 +119,7 @@ same_stands laws u p q a place at there stands opens =
 abbrev Matches : ℕ → ℕ → Result Progress Refusal → Answer → Type 0
 Matches n a (Ok More) (Truncated e) = Unit {0}
 Matches n a (Ok (Done used)) (Finished all value) = all ≡ n + used
-Matches n a (Err e) (Refused f) = (k : ℕ) × (fault : TokenFault) × (f ≡ refusal_at (n + k) fault) × (e ≡ refusal_at (raised a k) fault)
+Matches n a (Err e) (Refused f) = (k : ℕ) × (fault : TokenFault) × (f ≡ refusal_at (n + k) fault) × (e ≡ refusal_at (sum_capped a k) fault)
 Matches n a _ _ = ⊥
 
 same_refusal : (n a : ℕ) (e e' f : Refusal) → Matches n a (Err e) (Refused f) → Matches n a (Err e') (Refused f) → e ≡ e'
@@ -135,29 +136,29 @@ one_answer n a one other all h k = absurd (search rules)
 abbrev AnswersAll : Limits → List ℕ → ℕ → ℕ → Result Progress Refusal → Type 0
 AnswersAll limits stream n a answer = (all : Answer) × Answers limits stream all × Matches n a answer all
 
-answers_all : (u u' : Unpacking) (p piece : List ℕ) (a : ℕ) (answer : Result Progress Refusal) → Stands u p a → AnswersPiece u u' piece answer
-    → IsOfNoSink answer → AnswersAll (limits_in u) (p ++ piece) (length p) a answer
-answers_all u u' p piece a (Ok More) at w calm =
-    let stands : Stands u' (p ++ piece) (raised a (length piece)) = (w.goes.1 p a at).0 in
-    let is : IsOpen (limits_in u) (p ++ piece) = subst (λ (l : Limits). IsOpen l (p ++ piece)) (w.limits at.taking) stands.is_open in
-    let e : Refusal = opens.truncated_in (length (p ++ piece)) (begun_record is.begun, begun_number is.begun) in
+answers_all : (u u' : Unpacking) (p piece : List ℕ) (a : ℕ) (answer : Result Progress Refusal) → HasRead u p a → ReturnsForChunk u u' piece answer
+    → IsNotFromSink answer → AnswersAll (limits_in u) (p ++ piece) (length p) a answer
+answers_all u u' p piece a (Ok More) at w no_failure =
+    let stands : HasRead u' (p ++ piece) (sum_capped a (length piece)) = (w.goes.1 p a at).0 in
+    let is : IsIncomplete (limits_in u) (p ++ piece) = subst (λ (l : Limits). IsIncomplete l (p ++ piece)) (w.limits at.taking) stands.is_open in
+    let e : Refusal = opens.truncation_refusal (length (p ++ piece)) (partial_record is.begun, partial_number is.begun) in
     let short : IsTruncated (limits_in u) (p ++ piece) e = record {
       is_open = is;
       refusal = record { whole = is.whole; begun = is.begun; reads = is.reads; refusal = refl };
     } in
     (Truncated e, short, tt)
-answers_all u u' p piece a (Ok (Done used)) at w calm =
+answers_all u u' p piece a (Ok (Done used)) at w no_failure =
     let goes = w.goes.1 p a at in
     let fits : used ≤ length piece = goes.0 in
-    let done : IsDoneWith u' (p ++ take used piece) (raised a used) = goes.1 in
+    let done : IsDoneWith u' (p ++ take used piece) (sum_capped a used) = goes.1 in
     let within : IsEnvelopeWithin (limits_in u) (p ++ take used piece) done.value =
-    record { admits = done.admits; within = subst (λ (l : Limits). AreWithin l done.admits.datasets) (w.limits at.taking) done.within } in
+    record { admits = done.admits; within = subst (λ (l : Limits). AreWithinLimits l done.admits.datasets) (w.limits at.taking) done.within } in
     let whole : IsFinished (limits_in u) (p ++ piece) (length p + used) done.value = record {
       fits = omega (arith, fits, length-append p piece);
       envelope = subst (λ (octets : List ℕ). IsEnvelopeWithin (limits_in u) octets done.value) (sym (take-append-add p piece used)) within;
     } in
     (Finished (length p + used) done.value, whole, refl)
-answers_all u u' p piece a (Err e) at w calm =
+answers_all u u' p piece a (Err e) at w no_failure =
     let r : IsRefusedIn (limits_in u) p a piece w.refused.0 e = w.refused.1 p a at in
     let stream : List ℕ = p ++ piece in
     let refuses : RefusesNext (limits_in u) (take (length p + r.k) stream) (slice_index stream (length p + r.k)) r.fault =
@@ -168,51 +169,54 @@ answers_all u u' p piece a (Err e) at w calm =
       refusal = refl;
       refuses = refuses;
     } in
-    (Refused (refusal_at (length p + r.k) r.fault), (was, λ is. calm (ap (λ (x : Refusal). x.cause) r.refusal ∙ is)), (r.k, r.fault, refl, r.refusal))
+    (Refused (refusal_at (length p + r.k) r.fault), (was, λ is. no_failure (ap (λ (x : Refusal). x.cause) r.refusal ∙ is)), (r.k, r.fault, refl, r.refusal))
 
 -- ---- after a chunk
 
 -- two results of the same octets are equal
-same_answers : StreamsHaveOneAnswer → (limits : Limits) (stream : List ℕ) (n a : ℕ) (one other : Result Progress Refusal) → AnswersAll limits stream n a one
+same_answers : StreamsHaveOneResult → (limits : Limits) (stream : List ℕ) (n a : ℕ) (one other : Result Progress Refusal) → AnswersAll limits stream n a one
     → AnswersAll limits stream n a other → one ≡ other
 same_answers law limits stream n a one other (all, is, h) (all', is', k) =
     one_answer n a one other all' (subst (λ (x : Answer). Matches n a one x) (law limits stream all all' is is') h) k
 
-then_alike : (u v u' v' : Unpacking) (p piece : List ℕ) (a : ℕ) (answer : Result Progress Refusal) → limits_in v ≡ limits_in u → Stands u p a → Stands v p a
-    → AnswersPiece u u' piece answer → AnswersPiece v v' piece answer → StandAlike u' v'
+then_alike : (u v u' v' : Unpacking) (p piece : List ℕ) (a : ℕ) (answer : Result Progress Refusal) → limits_in v ≡ limits_in u → HasRead u p a → HasRead v p a
+    → ReturnsForChunk u u' piece answer → ReturnsForChunk v v' piece answer → AreEquivalent u' v'
 then_alike u v u' v' p piece a (Ok More) same at at' w w' = inl (record {
   limits = w'.limits at'.taking ∙ (same ∙ sym (w.limits at.taking));
   octets = p ++ piece;
-  count = raised a (length piece);
+  count = sum_capped a (length piece);
   both = inl ((w.goes.1 p a at).0, (w'.goes.1 p a at').0);
 })
 then_alike u v u' v' p piece a (Ok (Done used)) same at at' w w' = inl (record {
   limits = w'.limits at'.taking ∙ (same ∙ sym (w.limits at.taking));
   octets = p ++ take used piece;
-  count = raised a used;
+  count = sum_capped a used;
   both = inr ((w.goes.1 p a at).1, (w'.goes.1 p a at').1);
 })
 then_alike u v u' v' p piece a (Err e) same at at' w w' = inr (e.octet, w.failed, w'.failed)
 
-pub piece_alike : StreamsHaveOneAnswer → PieceIsAnsweredAlike
-piece_alike law u v u' v' piece one other alike w w' calm calm' = by alike
+pub chunk_equivalent : StreamsHaveOneResult → EquivalentUnpackersReturnTheSame
+chunk_equivalent law u v u' v' piece one other alike w w' no_failure calm' = by alike
   where
-    on_same : (s : StandOnSame u v) → (Stands u s.octets s.count × Stands v s.octets s.count)
-        ⊎ (IsDoneWith u s.octets s.count × IsDoneWith v s.octets s.count) → (one ≡ other) × StandAlike u' v'
+    on_same : (s : HaveReadTheSame u v) → (HasRead u s.octets s.count × HasRead v s.octets s.count)
+        ⊎ (IsDoneWith u s.octets s.count × IsDoneWith v s.octets s.count) → (one ≡ other) × AreEquivalent u' v'
     on_same s (inl (at, at')) =
         let stream : List ℕ = s.octets ++ piece in
         let n : ℕ = length s.octets in
         let its : AnswersAll (limits_in u) stream n s.count other =
         subst (λ (l : Limits). AnswersAll l stream n s.count other) s.limits (answers_all v v' s.octets piece s.count other at' w' calm') in
-        let is = same_answers law (limits_in u) stream n s.count one other (answers_all u u' s.octets piece s.count one at w calm) its in
-        (is, then_alike u v u' v' s.octets piece s.count one s.limits at at' w (subst (λ (x : Result Progress Refusal). AnswersPiece v v' piece x) (sym is) w'))
+        let is = same_answers law (limits_in u) stream n s.count one other (answers_all u u' s.octets piece s.count one at w no_failure) its in (
+          is,
+          then_alike u v u' v' s.octets piece s.count one s.limits at at' w (subst (λ (x : Result Progress Refusal). ReturnsForChunk v v' piece x)
+              (sym is) w'),
+        )
     -- nothing changes after an envelope, and after a refusal
     on_same s (inr (d, d')) =
         let mine = w.done (d.taking, d.ended) in
         let its = w'.done (d'.taking, d'.ended) in
         (mine.0 ∙ sym its.0, rw (mine.1, its.1) (inl s))
 
-    by : StandAlike u v → (one ≡ other) × StandAlike u' v'
+    by : AreEquivalent u v → (one ≡ other) × AreEquivalent u' v'
     by (inl s) = on_same s s.both
     by (inr r) =
         let mine = w.again r.0 r.1 in
@@ -221,25 +225,25 @@ piece_alike law u v u' v' piece one other alike w w' calm calm' = by alike
 
 -- ---- chunk after chunk
 
-pub pieces_alike : StreamsHaveOneAnswer → PiecesAreAnsweredAlike
-pieces_alike law u v [] [] [] alike w w' = refl
-pieces_alike law u v (piece ∷ pieces) (one ∷ ones) (other ∷ others) alike (u', w, calm, rest) (v', w', calm', rest') =
-    let (same, then_) = piece_alike law u v u' v' piece one other alike w w' calm calm' in
-    let more = pieces_alike law u' v' pieces ones others then_ rest rest' in
+pub chunks_equivalent : StreamsHaveOneResult → SavedStateResumesExactly
+chunks_equivalent law u v [] [] [] alike w w' = refl
+chunks_equivalent law u v (piece ∷ pieces) (one ∷ ones) (other ∷ others) alike (u', w, no_failure, rest) (v', w', calm', rest') =
+    let (same, then_) = chunk_equivalent law u v u' v' piece one other alike w w' no_failure calm' in
+    let more = chunks_equivalent law u' v' pieces ones others then_ rest rest' in
     λ i. same i ∷ more i
-pieces_alike law u v pieces ones others alike w w' = absurd (search rules)
+chunks_equivalent law u v pieces ones others alike w w' = absurd (search rules)
 
 -- ---- a restored unpacker
 
-pub restored_alike : RestoredStandAsSaved → RestoredStandAlike
-restored_alike law u v p ticket a octets fields stood is restored =
+pub restored_equivalent : RestoredStateIsTheSavedState → RestoredUnpackersAreEquivalent
+restored_equivalent law u v p ticket a octets fields stood is restored =
     let stands = law u v p ticket a octets fields is restored in
     inl (record { limits = restored.limits_are; octets = p; count = a; both = elim stood [ inl at ↦ inl (at, stands.0 at) | inr d ↦ inr (d, stands.1 d) ] })
 
 -- ---- a restored unpacker is in the state of the saved one
 
-pub restored_stand : TicketsTellOnePlace → RestoredStandAsSaved
-restored_stand one u v p ticket a less few is restored = (
+pub restored_as_saved : TicketsEncodeOnePlace → RestoredStateIsTheSavedState
+restored_as_saved one u v p ticket a less few is restored = (
   (λ stands.
       let place = at_restored one p ticket is.place restored.place is.is_place (inl (open_wider _ p less few stands.is_open)) is.spelled restored.is_ticket in
       restored.stands p place stands.is_open),

@@ -6,5 +6,5 @@ pub mod States
 pub mod Laws
 -- Definitions that only proofs and private clauses cite.
 pub mod Steps
-pub mod Routes
+pub mod RouterSteps
 pub mod TicketOuts

@@ -2,27 +2,27 @@
 
 ghost use Rattle.std.specs.Prelude.{◌≡◌, ◌<◌, [], ℕ, List, Option, Some, None, Ok, Err, true, false, length, IfSome, IfNone, IfOk, IfErr, IsTrue, OnOk, OnErr, ◌↔◌};
 ghost use Rattle.std.specs.Io.KnownBytes.{IsAtEnd};
-ghost use Rattle.iim_dataset.specs.States.Devices.{HasGiven, MissedAfter, WithinInterruptionLimit};
-ghost use Rattle.iim_unpack.specs.States.Blocks.{with_held};
-ghost use Rattle.iim_unpack.specs.States.Intakes.{in_line, IsReady, GivesNothing, FedEnvelope, FedPiece, Gives, ReadsWhereEmpty, WasRefused};
+ghost use Rattle.iim_dataset.specs.States.Devices.{ReadsGave, ReadFailedAfter, WithinInterruptionLimit};
+ghost use Rattle.iim_unpack.specs.States.Blocks.{with_unread};
+ghost use Rattle.iim_unpack.specs.States.Intakes.{input_of, AcceptsInput, ReturnsNone, FedEnvelope, FedChunk, Gives, ReadsOnlyIfEmpty, HasRefused};
 ghost use Rattle.iim_unpack.specs.Steps.{read_fault};
 ghost use Rattle.iim_places.specs.Format.Open.{IsTruncatedAt};
-ghost use Rattle.iim_unpack.specs.States.Unpacking.{Unpacking, Stands, failed_at};
-ghost use Rattle.iim_places.specs.Format.Streams.{raised};
+ghost use Rattle.iim_unpack.specs.States.Unpacking.{Unpacking, HasRead, failed_at};
+ghost use Rattle.iim_places.specs.Format.Streams.{sum_capped};
 ghost use Rattle.iim_unpack.specs.declared.intake.IntakeFault.TheVariants.{Refused as RefusedFault};
 ghost use Rattle.iim_places.specs.declared.refusal.Refusal.{Refusal as RefusalValue};
 
 pub(crate) mod block;
 
 use crate::intake::block::Block;
-use crate::unpacker::{Progress, Unpacked, Unpacker, failed_at, raised};
-use iim_dataset::device_laws::gifts_join;
+use crate::unpacker::{Progress, Unpacked, Unpacker, failed_at, sum_capped};
+use iim_dataset::device_laws::reads_join;
 use iim_dataset::{IoFault, Source};
 use iim_places::Refusal;
 use iim_places::laws::place_laws;
 use thiserror::Error;
 use wire_story::StorySink;
-use wire_story::laws::delivery_may_be_cut;
+use wire_story::laws::delivery_of_chunks_joins;
 
 /// Why an intake returned no envelope.
 #[derive(Clone, Copy, Debug, PartialEq, Eq, Error)]
@@ -67,19 +67,19 @@ impl IntakeFault {
 /// Reads once if the block is empty. Returns `false` at the end of the source, otherwise the block
 /// is non-empty.
 fn next_piece<R: Source>(block: &mut Block, reader: &mut R) -> Result<bool, IoFault>
-    ensures given { OnOk result (HasGiven (with_held block.old (R.state reader.old))
-        (with_held block.new (R.state reader.new)) []) }
+    ensures given { OnOk result (ReadsGave (with_unread block.old (R.state reader.old))
+        (with_unread block.new (R.state reader.new)) []) }
     ensures some { IfOk result (λ more. more ≡ true → 0 < length block.new) }
-    ensures end { IfOk result (λ more. more ≡ false → IsAtEnd (with_held block.new (R.state reader.new)).octets) }
-    ensures missed { IfErr result (MissedAfter (with_held block.old (R.state reader.old))
-        (with_held block.new (R.state reader.new)) []) }
+    ensures end { IfOk result (λ more. more ≡ false → IsAtEnd (with_unread block.new (R.state reader.new)).octets) }
+    ensures missed { IfErr result (ReadFailedAfter (with_unread block.old (R.state reader.old))
+        (with_unread block.new (R.state reader.new)) []) }
     ensures ended { IfOk result (λ more. more ≡ false → block.old ≡ []) }
     ensures empty { OnErr result (block.old ≡ []) }
     ensures held { 0 < length block.old → reader.new ≡ reader.old }
-    ensures patience { WithinInterruptionLimit 1 (R.state reader.old) (R.state reader.new) }
+    ensures retry_limit { WithinInterruptionLimit 1 (R.state reader.old) (R.state reader.new) }
     ensures leads { R.leads reader.old reader.new }
 {
-    gifts_join();
+    reads_join();
     if !block.held().is_empty() {
         return Ok(true);
     }
@@ -112,8 +112,8 @@ pub enum Fed {
 /// Returns the refusal at the end of the input, or `None` if the unpacker has consumed no octet.
 #[tactic(auto, using(crate::proofs::Intakes::none_missing, crate::proofs::Intakes::some_missing))]
 fn missing_at_end(unpacker: &Unpacker) -> Option<Refusal>
-    ensures none { IfNone result ((p : List ℕ) (n : ℕ) → Stands unpacker.now p n → p ≡ []) }
-    ensures truncated { IfSome result (λ e. (p : List ℕ) (n : ℕ) → Stands unpacker.now p n
+    ensures none { IfNone result ((p : List ℕ) (n : ℕ) → HasRead unpacker.now p n → p ≡ []) }
+    ensures truncated { IfSome result (λ e. (p : List ℕ) (n : ℕ) → HasRead unpacker.now p n
         → (p ≡ [] → ⊥) × IsTruncatedAt p n e) }
 {
     if unpacker.is_fresh() {
@@ -157,40 +157,41 @@ impl<R: Source> Intake<R> {
     }
 
     /// Checks whether octets are buffered. If so, the next [`Intake::next_piece`] does not read.
-    pub fn holds_octets(&self) -> bool
+    pub fn has_buffered_octets(&self) -> bool
         ensures { IsTrue result ↔ (0 < length self.now.block) }
     {
         !self.block.held().is_empty()
     }
 
     /// Feeds the buffered octets to an unpacker.
-    fn feed_held<S: StorySink>(
+    fn feed_buffered<S: StorySink>(
         &mut self,
         unpacker: &mut Unpacker,
         sink: &mut S,
     ) -> Result<Fed, IntakeFault>
-        requires ready { IsReady unpacker.old }
+        requires ready { AcceptsInput unpacker.old }
         requires some { 0 < length self.old.block }
-        ensures fed { IfOk result (FedPiece S.goes (in_line R.state self.old, unpacker.old, sink.old)
-            (in_line R.state self.new, unpacker.new, sink.new)) }
+        ensures fed { IfOk result (FedChunk S.goes (input_of R.state self.old, unpacker.old, sink.old)
+            (input_of R.state self.new, unpacker.new, sink.new)) }
         ensures not_end { IfOk result (λ fed. fed ≡ Fed.End → ⊥) }
-        ensures calm { OnOk result ((self.new.failed ≡ self.old.failed) × (S.failures sink.new ≡ S.failures sink.old)) }
+        ensures no_failure { OnOk result ((self.new.failed ≡ self.old.failed) × (S.failures sink.new
+            ≡ S.failures sink.old)) }
         ensures refused { IfErr result (λ fault. (e : RefusalValue) × (fault ≡ RefusedFault e)
             × (self.new.failed ≡ Some e.octet)
-            × WasRefused S.goes S.failures (in_line R.state self.old) (in_line R.state self.new)
+            × HasRefused S.goes S.failures (input_of R.state self.old) (input_of R.state self.new)
             unpacker.old unpacker.new sink.old sink.new e) }
         ensures keeps { (self.new.reader ≡ self.old.reader) × (self.new.octets ≡ self.old.octets) }
     {
-        unpacker.stands_somewhere();
+        unpacker.is_reachable();
         let count = self.block.held().len();
         match unpacker.feed(self.block.held(), sink) {
             Ok(Progress::More) => {
                 self.block.pass(count);
-                Ok(Fed::More(raised(0, count as u64)))
+                Ok(Fed::More(sum_capped(0, count as u64)))
             }
             Ok(Progress::Done { used: last }) => {
                 self.block.pass(last);
-                Ok(Fed::Done(raised(0, last as u64)))
+                Ok(Fed::Done(sum_capped(0, last as u64)))
             }
             Err(refusal) => {
                 self.block.pass(count);
@@ -210,17 +211,17 @@ impl<R: Source> Intake<R> {
         unpacker: &mut Unpacker,
         sink: &mut S,
     ) -> Result<Fed, IntakeFault>
-        requires ready { IsReady unpacker.old }
-        ensures fed { self.old.failed ≡ None → IfOk result (FedPiece S.goes
-            (in_line R.state self.old, unpacker.old, sink.old) (in_line R.state self.new, unpacker.new, sink.new)) }
-        ensures calm { OnOk result ((self.new.failed ≡ None) × (S.failures sink.new ≡ S.failures sink.old)) }
-        ensures faults { self.old.failed ≡ None → IfErr result (GivesNothing S.goes S.failures R.state
+        requires ready { AcceptsInput unpacker.old }
+        ensures fed { self.old.failed ≡ None → IfOk result (FedChunk S.goes
+            (input_of R.state self.old, unpacker.old, sink.old) (input_of R.state self.new, unpacker.new, sink.new)) }
+        ensures no_failure { OnOk result ((self.new.failed ≡ None) × (S.failures sink.new ≡ S.failures sink.old)) }
+        ensures faults { self.old.failed ≡ None → IfErr result (ReturnsNone S.goes S.failures R.state
             (self.old, unpacker.old, sink.old) (self.new, unpacker.new, sink.new)) }
         // If octets were buffered, nothing is read: so there is no error of the reader, and no end
         // of the input. At an error of the reader nothing was fed.
-        ensures reads { ReadsWhereEmpty self.old self.new unpacker.old unpacker.new sink.old sink.new result }
+        ensures reads { ReadsOnlyIfEmpty self.old self.new unpacker.old unpacker.new sink.old sink.new result }
         // There were at most a million interruptions.
-        ensures patience { WithinInterruptionLimit 1 (R.state self.old.reader) (R.state self.new.reader) }
+        ensures retry_limit { WithinInterruptionLimit 1 (R.state self.old.reader) (R.state self.new.reader) }
         ensures octets { self.new.octets ≡ self.old.octets }
         ensures again { (octet : ℕ) → self.old.failed ≡ Some octet → (result ≡ Err (RefusedFault (failed_at octet)))
             × (unpacker.new ≡ unpacker.old) × (sink.new ≡ sink.old) × (self.new ≡ self.old) }
@@ -229,10 +230,10 @@ impl<R: Source> Intake<R> {
         if let Some(octet) = self.failed {
             return Err(IntakeFault::Refused(failed_at(octet)));
         }
-        gifts_join();
-        unpacker.stands_somewhere();
+        reads_join();
+        unpacker.is_reachable();
         match next_piece(&mut self.block, &mut self.reader) {
-            Ok(true) => self.feed_held(unpacker, sink),
+            Ok(true) => self.feed_buffered(unpacker, sink),
             Ok(false) => match missing_at_end(unpacker) {
                 None => Ok(Fed::End),
                 Some(refusal) => {
@@ -258,21 +259,21 @@ impl<R: Source> Intake<R> {
         unpacker: &mut Unpacker,
         sink: &mut S,
     ) -> Result<bool, IntakeFault>
-        requires ready { IsReady unpacker.old }
-        ensures fed { IfOk result (FedEnvelope S.goes (in_line R.state self.old, unpacker.old, sink.old)
-            (in_line R.state self.new, unpacker.new, sink.new) self.new.octets) }
-        ensures calm { OnOk result ((self.new.failed ≡ None) × (S.failures sink.new ≡ S.failures sink.old)) }
-        ensures faults { self.old.failed ≡ None → IfErr result (GivesNothing S.goes S.failures R.state
+        requires ready { AcceptsInput unpacker.old }
+        ensures fed { IfOk result (FedEnvelope S.goes (input_of R.state self.old, unpacker.old, sink.old)
+            (input_of R.state self.new, unpacker.new, sink.new) self.new.octets) }
+        ensures no_failure { OnOk result ((self.new.failed ≡ None) × (S.failures sink.new ≡ S.failures sink.old)) }
+        ensures faults { self.old.failed ≡ None → IfErr result (ReturnsNone S.goes S.failures R.state
             (self.old, unpacker.old, sink.old) (self.new, unpacker.new, sink.new)) }
         ensures none { OnErr result (self.new.octets ≡ 0) }
         ensures again { (octet : ℕ) → self.old.failed ≡ Some octet → (result ≡ Err (RefusedFault (failed_at octet)))
             × (unpacker.new ≡ unpacker.old) × (sink.new ≡ sink.old) × (self.new ≡ record (self.old) { octets = 0 }) }
         ensures leads { R.leads self.old.reader self.new.reader }
     {
-        gifts_join();
-        delivery_may_be_cut();
+        reads_join();
+        delivery_of_chunks_joins();
         place_laws();
-        unpacker.stands_somewhere();
+        unpacker.is_reachable();
         self.octets = 0;
         if let Some(octet) = self.failed {
             return Err(IntakeFault::Refused(failed_at(octet)));
@@ -280,9 +281,9 @@ impl<R: Source> Intake<R> {
         let mut used: u64 = 0;
         'feeding: loop {
             match self.next_piece(unpacker, sink) {
-                Ok(Fed::More(more)) => used = raised(used, more),
+                Ok(Fed::More(more)) => used = sum_capped(used, more),
                 Ok(Fed::Done(last)) => {
-                    self.octets = raised(used, last);
+                    self.octets = sum_capped(used, last);
                     return Ok(true);
                 }
                 Ok(Fed::End) => return Ok(false),
@@ -299,19 +300,19 @@ impl<R: Source> Intake<R> {
         unpacker: Unpacker,
         sink: &mut S,
     ) -> Result<Option<Unpacked>, IntakeFault>
-        requires ready { IsReady unpacker }
+        requires ready { AcceptsInput unpacker }
         ensures gives { self.old.failed ≡ None → IfOk result (Gives S.goes
-            (in_line R.state self.old, unpacker, sink.old) (in_line R.state self.new, sink.new) self.new.octets) }
-        ensures calm { OnOk result ((self.new.failed ≡ None) × (S.failures sink.new ≡ S.failures sink.old)) }
+            (input_of R.state self.old, unpacker, sink.old) (input_of R.state self.new, sink.new) self.new.octets) }
+        ensures no_failure { OnOk result ((self.new.failed ≡ None) × (S.failures sink.new ≡ S.failures sink.old)) }
         ensures faults { self.old.failed ≡ None → IfErr result (λ fault. (left : Unpacking)
-            × GivesNothing S.goes S.failures R.state (self.old, unpacker, sink.old) (self.new, left, sink.new) fault) }
+            × ReturnsNone S.goes S.failures R.state (self.old, unpacker, sink.old) (self.new, left, sink.new) fault) }
         ensures none { OnErr result (self.new.octets ≡ 0) }
         ensures again { (octet : ℕ) → self.old.failed ≡ Some octet → (result ≡ Err (RefusedFault (failed_at octet)))
             × (sink.new ≡ sink.old) × (self.new ≡ record (self.old) { octets = 0 }) }
         ensures leads { R.leads self.old.reader self.new.reader }
     {
         let mut unpacker = unpacker;
-        unpacker.stands_somewhere();
+        unpacker.is_reachable();
         match self.feed_envelope(&mut unpacker, sink) {
             Ok(true) => match unpacker.into_unpacked() {
                 Ok(got) => Ok(Some(got)),

@@ -1,24 +1,24 @@
 //! Lemmas about all unpackers.
 
 ghost use Rattle.std.specs.Prelude.{◌≡◌, ℕ, List, None};
-ghost use Rattle.iim_unpack.specs.States.Unpacking.{HoldsFew, IsDone, IsDoneWith, Stands};
+ghost use Rattle.iim_unpack.specs.States.Unpacking.{StoresFew, IsDone, IsDoneWith, HasRead};
 ghost use Rattle.iim_unpack.specs.Laws.{UnpackerLaws};
 
 use crate::unpacker::Unpacker;
-use iim_places::laws::lower_laws;
+use iim_places::laws::layer_lemmas;
 pub use iim_places::laws::place_laws;
 
 /// Proves that an unpacker without a refusal has consumed some incomplete input or an envelope. It
 /// stores what its limits allow, and at most 256 octets more.
-#[tactic(auto, using(crate::proofs::Feeding::stood_done))]
-pub fn unpackers_stand_somewhere(unpacker: &Unpacker)
+#[tactic(auto, using(crate::proofs::Feeding::reachable_done))]
+pub fn unpackers_are_reachable(unpacker: &Unpacker)
     ensures stands { unpacker.now.refused ≡ None → (IsDone unpacker.now → ⊥) → (octets : List ℕ) × (count : ℕ)
-        × Stands unpacker.now octets count }
+        × HasRead unpacker.now octets count }
     ensures done { IsDone unpacker.now → (octets : List ℕ) × (count : ℕ) × IsDoneWith unpacker.now octets count }
-    ensures held { unpacker.now.refused ≡ None → HoldsFew unpacker.now }
+    ensures held { unpacker.now.refused ≡ None → StoresFew unpacker.now }
 {
-    lower_laws();
-    unpacker.stands_somewhere();
+    layer_lemmas();
+    unpacker.is_reachable();
 }
 
 /// Proves the lemmas about unpackers at one position, and about saved and restored ones. The record
@@ -26,6 +26,6 @@ pub fn unpackers_stand_somewhere(unpacker: &Unpacker)
 pub fn unpacker_laws()
     ensures { UnpackerLaws }
 {
-    lower_laws();
+    layer_lemmas();
     place_laws();
 }

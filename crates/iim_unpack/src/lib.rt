@@ -9,8 +9,8 @@
 //!   cause of the refusal;
 //! - [`Unpacker::save`] and [`Unpacker::restore`], to stop and to resume later;
 //! - [`Intake`], which reads one envelope after another from a source;
-//! - the lemmas that a stream has one result (`streams_have_one_answer`), and that octets at one
-//!   position have the same continuations (`places_continue_alike`).
+//! - the lemmas that a stream has one result (`streams_have_one_result`), and that octets at one
+//!   position have the same continuations (`places_determine_continuations`).
 #![tactic(auto)]
 
 mod intake;

@@ -2,12 +2,12 @@
 
 ghost use Rattle.std.specs.Prelude.{◌≡◌, true, false, IsTrue, ◌<◌, ◌≤◌, ◌-◌, ℕ, nat_lt, [], ◌∷◌, length, map, take, slice_index, Some, None, IsSome, IfSome, IfOk, IfErr, OnOk};
 ghost use Rattle.iim_dataset.specs.States.Reading.{HeadRead, DataOctet, DatasetEnd};
-ghost use Rattle.iim_fields.specs.States.Standing.{room_of, IsBetween};
+ghost use Rattle.iim_fields.specs.States.Standing.{reader_capacity, IsBetweenDatasets};
 ghost use Rattle.iim_object.specs.Format.Objects.{head_token, value_token, max_subfiles};
-ghost use Rattle.iim_object.specs.States.Reading.{EndsAs, LeadsOn, events_at};
-ghost use Rattle.wire_message.specs.States.Reading.{IsWhole};
-ghost use Rattle.iim_places.specs.Format.Causes.{message_on, too_many_on};
-ghost use Rattle.iim_unpack.specs.Routes.{TellsMessage, IsObjectFault, HasFewSubfiles, RefusesSubfile, AreBetween, TakesData, LeadsParts, TellsParts, TellsWhole, PartsRefuse, NotClosed, TookWhole};
+ghost use Rattle.iim_object.specs.States.Reading.{ObjectMayEndAs, TokenAdvancesObject, events_at};
+ghost use Rattle.wire_message.specs.States.Reading.{IsCompleteMessage};
+ghost use Rattle.iim_places.specs.Format.Causes.{message_fault_on, count_fault_on};
+ghost use Rattle.iim_unpack.specs.RouterSteps.{MessageEmits, IsFaultOfObject, AllowsSubfile, RejectsSubfileHead, PartsAreBetween, PartsAcceptData, PartsConsume, PartsEmit, ConsumesWhole, PartsReject, RejectsClose, ConsumedWholeDataset};
 ghost use Rattle.iim_unpack.specs.States.Unpacking.{has_ended};
 
 pub(crate) mod message;
@@ -17,8 +17,10 @@ use crate::parts::message::{pass_head, pass_octets};
 use iim_dataset::{Head, Step};
 use iim_fields::Fields;
 use iim_object::{MAX_SUBFILES, ObjectFault, ObjectReader};
-use iim_places::internals::{TokenFault, message_on, of_field, size_on, too_many_on};
-use iim_places::laws::lower_laws;
+use iim_places::internals::{
+    TokenFault, count_fault_on, fault_of_record, message_fault_on, size_fault_on,
+};
+use iim_places::laws::layer_lemmas;
 use iim_tables::number_of;
 use iim_tables::records::{OBJECT, POST_OBJECT, PRE_OBJECT};
 use wire_message::{MessageFault, MessageReader};
@@ -38,7 +40,7 @@ pub(crate) struct Parts {
 
 /// A rejected octet of data.
 #[derive(Clone, Copy)]
-pub(crate) struct Halt {
+pub(crate) struct Rejection {
     /// How many octets of the data precede the rejected one.
     pub taken: usize,
     /// The error.
@@ -46,12 +48,12 @@ pub(crate) struct Halt {
 }
 
 /// Returns the error for a rejected octet of a subfile.
-fn halt_on(head: Head, fault: MessageFault) -> Halt
-    ensures { result ≡ record { taken = fault.taken; fault = message_on head fault.cause } }
+fn rejection_on(head: Head, fault: MessageFault) -> Rejection
+    ensures { result ≡ record { taken = fault.taken; fault = message_fault_on head fault.cause } }
 {
-    Halt {
+    Rejection {
         taken: fault.taken,
-        fault: message_on(head, fault.cause),
+        fault: message_fault_on(head, fault.cause),
     }
 }
 
@@ -74,30 +76,30 @@ fn subfile<S: StorySink>(
     requires object { IsSome object.old }
     requires message { IsSome message.old }
     ensures takes_calls { OnOk result (IsSome object.new) }
-    ensures leads_on { OnOk result (LeadsOn object.old (head_token head.rec head.count) object.new) }
-    ensures told { OnOk result (TellsMessage S.goes S.failures (message.old, sink.old) (events_at head.rec)
+    ensures leads_on { OnOk result (TokenAdvancesObject object.old (head_token head.rec head.count) object.new) }
+    ensures told { OnOk result (MessageEmits S.goes S.failures (message.old, sink.old) (events_at head.rec)
         (message.new, sink.new)) }
-    ensures few { OnOk result (HasFewSubfiles object.old) }
-    ensures refused { IfErr result (RefusesSubfile S.goes S.failures object.old head (message.old, sink.old)
+    ensures few { OnOk result (AllowsSubfile object.old) }
+    ensures refused { IfErr result (RejectsSubfileHead S.goes S.failures object.old head (message.old, sink.old)
         (message.new, sink.new)) }
 {
     if !may_begin(object.subfiles()) {
-        return Err(too_many_on(head));
+        return Err(count_fault_on(head));
     }
     pass_head(object, message, head, sink)
 }
 
 /// Passes the number of a value to the object.
 #[inline(always)]
-fn tell_number(object: &mut ObjectReader, head: Head, number: u64) -> Result<(), TokenFault>
+fn pass_number(object: &mut ObjectReader, head: Head, number: u64) -> Result<(), TokenFault>
     requires { IsSome object.old }
     ensures takes_calls { OnOk result (IsSome object.new) }
-    ensures leads_on { OnOk result (LeadsOn object.old (value_token head.rec head.set number) object.new) }
-    ensures refused { IfErr result (IsObjectFault object.old (value_token head.rec head.set number) head) }
+    ensures leads_on { OnOk result (TokenAdvancesObject object.old (value_token head.rec head.set number) object.new) }
+    ensures refused { IfErr result (IsFaultOfObject object.old (value_token head.rec head.set number) head) }
 {
     match object.value(head.rec, head.set, number) {
         Ok(()) => Ok(()),
-        Err(ObjectFault::Size { cause }) => Err(size_on(head, cause)),
+        Err(ObjectFault::Size { cause }) => Err(size_fault_on(head, cause)),
         Err(ObjectFault::Stopped(_)) => unreachable!(),
     }
 }
@@ -106,8 +108,8 @@ fn tell_number(object: &mut ObjectReader, head: Head, number: u64) -> Result<(),
 #[inline(always)]
 fn may_end(object: &ObjectReader, message: &MessageReader, number: u64) -> bool
     requires { IsSome object.now }
-    ensures whole { IsTrue result → IsWhole message.now }
-    ensures ends { IsTrue result → EndsAs object.now number object.now }
+    ensures whole { IsTrue result → IsCompleteMessage message.now }
+    ensures ends { IsTrue result → ObjectMayEndAs object.now number object.now }
 {
     message.is_whole() && object.may_end(number)
 }
@@ -118,22 +120,22 @@ impl Parts {
     pub(crate) fn has_ended(&self) -> bool
         ensures { result ≡ has_ended self.now }
     {
-        self.fields.section() == POST_OBJECT && self.fields.begun_head().is_none()
+        self.fields.section() == POST_OBJECT && self.fields.current_head().is_none()
     }
 
     /// Consumes the next head, or returns its first error.
     pub(crate) fn head<S: StorySink>(&mut self, head: Head, sink: &mut S) -> Result<(), TokenFault>
-        requires { AreBetween false self.old }
-        ensures takes { OnOk result (TakesData self.new head.count) }
-        ensures went { OnOk result (TellsParts S.goes S.failures (self.old, sink.old) (HeadRead head ∷ [])
+        requires { PartsAreBetween false self.old }
+        ensures takes { OnOk result (PartsAcceptData self.new head.count) }
+        ensures went { OnOk result (PartsEmit S.goes S.failures (self.old, sink.old) (HeadRead head ∷ [])
             (self.new, sink.new)) }
         ensures stopped { IfErr result (λ fault.
-            PartsRefuse S.goes S.failures (Some fault) (self.old, sink.old) [] (HeadRead head) (self.new, sink.new)) }
-        ensures room { room_of self.new.fields ≡ room_of self.old.fields }
+            PartsReject S.goes S.failures (Some fault) (self.old, sink.old) [] (HeadRead head) (self.new, sink.new)) }
+        ensures room { reader_capacity self.new.fields ≡ reader_capacity self.old.fields }
     {
-        lower_laws();
+        layer_lemmas();
         if let Err(fault) = self.fields.begin(head) {
-            return Err(of_field(fault));
+            return Err(fault_of_record(fault));
         }
         if head.rec == OBJECT {
             return subfile(&mut self.object, &mut self.message, head, sink);
@@ -148,15 +150,15 @@ impl Parts {
     /// nothing.
     #[inline(never)]
     fn whole_number(&mut self, set: u8, count: u64, octets: &[u8]) -> bool
-        requires takes { AreBetween false self.old }
+        requires takes { PartsAreBetween false self.old }
         requires count { count ≡ length octets.now }
-        ensures takes { AreBetween false self.new }
+        ensures takes { PartsAreBetween false self.new }
         ensures whole { IsTrue result
-            → TellsWhole self.old (record { rec = 7; set = set; count = count }) octets.now self.new }
+            → ConsumesWhole self.old (record { rec = 7; set = set; count = count }) octets.now self.new }
         ensures left { result ≡ false → self.new ≡ self.old }
-        ensures room { room_of self.new.fields ≡ room_of self.old.fields }
+        ensures room { reader_capacity self.new.fields ≡ reader_capacity self.old.fields }
     {
-        lower_laws();
+        layer_lemmas();
         let Some(number) = number_of(octets) else {
             return false;
         };
@@ -177,15 +179,15 @@ impl Parts {
     /// `false` and changes nothing.
     #[inline(never)]
     fn whole_end(&mut self, set: u8, count: u64, octets: &[u8]) -> bool
-        requires takes { AreBetween false self.old }
+        requires takes { PartsAreBetween false self.old }
         requires count { count ≡ length octets.now }
-        ensures ended { IsTrue result → AreBetween true self.new }
+        ensures ended { IsTrue result → PartsAreBetween true self.new }
         ensures whole { IsTrue result
-            → TellsWhole self.old (record { rec = 9; set = set; count = count }) octets.now self.new }
+            → ConsumesWhole self.old (record { rec = 9; set = set; count = count }) octets.now self.new }
         ensures left { result ≡ false → self.new ≡ self.old }
-        ensures room { room_of self.new.fields ≡ room_of self.old.fields }
+        ensures room { reader_capacity self.new.fields ≡ reader_capacity self.old.fields }
     {
-        lower_laws();
+        layer_lemmas();
         let Some(number) = number_of(octets) else {
             return false;
         };
@@ -205,14 +207,14 @@ impl Parts {
     /// changes nothing.
     #[inline(always)]
     fn whole_field(&mut self, head: Head, octets: &[u8]) -> bool
-        requires takes { AreBetween false self.old }
+        requires takes { PartsAreBetween false self.old }
         requires count { head.count ≡ length octets.now }
-        ensures takes { AreBetween false self.new }
-        ensures whole { IsTrue result → TellsWhole self.old head octets.now self.new }
+        ensures takes { PartsAreBetween false self.new }
+        ensures whole { IsTrue result → ConsumesWhole self.old head octets.now self.new }
         ensures left { result ≡ false → self.new ≡ self.old }
-        ensures room { room_of self.new.fields ≡ room_of self.old.fields }
+        ensures room { reader_capacity self.new.fields ≡ reader_capacity self.old.fields }
     {
-        lower_laws();
+        layer_lemmas();
         self.fields.whole(head, octets)
     }
 
@@ -224,19 +226,19 @@ impl Parts {
         head: Head,
         octets: &[u8],
         sink: &mut S,
-    ) -> Result<Option<Step>, Halt>
-        requires takes { AreBetween false self.old }
+    ) -> Result<Option<Step>, Rejection>
+        requires takes { PartsAreBetween false self.old }
         requires subfile { head.rec ≡ 8 }
-        ensures taken { IfOk result (TookWhole S.goes S.failures (self.old, sink.old) head octets.now
+        ensures taken { IfOk result (ConsumedWholeDataset S.goes S.failures (self.old, sink.old) head octets.now
             (self.new, sink.new)) }
         ensures before { IfErr result (λ halt. halt.taken < length octets.now) }
         ensures stopped { IfErr result (λ halt.
-            PartsRefuse S.goes S.failures (Some halt.fault) (self.old, sink.old)
+            PartsReject S.goes S.failures (Some halt.fault) (self.old, sink.old)
             (HeadRead head ∷ map DataOctet (take halt.taken octets.now))
             (DataOctet (slice_index octets.now halt.taken)) (self.new, sink.new)) }
-        ensures room { room_of self.new.fields ≡ room_of self.old.fields }
+        ensures room { reader_capacity self.new.fields ≡ reader_capacity self.old.fields }
     {
-        lower_laws();
+        layer_lemmas();
         if !self.object.accepts_subfile(head.count) {
             return Ok(None);
         }
@@ -246,7 +248,7 @@ impl Parts {
         self.object.put_subfile(head.count);
         match pass_octets(&mut self.object, &mut self.message, octets, sink) {
             Ok(()) => Ok(Some(Step::More)),
-            Err(fault) => Err(halt_on(head, fault)),
+            Err(fault) => Err(rejection_on(head, fault)),
         }
     }
 
@@ -258,17 +260,17 @@ impl Parts {
         head: Head,
         octets: &[u8],
         sink: &mut S,
-    ) -> Result<Option<Step>, Halt>
-        requires takes { AreBetween false self.old }
+    ) -> Result<Option<Step>, Rejection>
+        requires takes { PartsAreBetween false self.old }
         requires count { head.count ≡ length octets.now }
-        ensures taken { IfOk result (TookWhole S.goes S.failures (self.old, sink.old) head octets.now
+        ensures taken { IfOk result (ConsumedWholeDataset S.goes S.failures (self.old, sink.old) head octets.now
             (self.new, sink.new)) }
         ensures before { IfErr result (λ halt. halt.taken < length octets.now) }
         ensures stopped { IfErr result (λ halt.
-            PartsRefuse S.goes S.failures (Some halt.fault) (self.old, sink.old)
+            PartsReject S.goes S.failures (Some halt.fault) (self.old, sink.old)
             (HeadRead head ∷ map DataOctet (take halt.taken octets.now))
             (DataOctet (slice_index octets.now halt.taken)) (self.new, sink.new)) }
-        ensures room { room_of self.new.fields ≡ room_of self.old.fields }
+        ensures room { reader_capacity self.new.fields ≡ reader_capacity self.old.fields }
     {
         match head.rec {
             OBJECT => self.whole_subfile(head, octets, sink),
@@ -286,21 +288,21 @@ impl Parts {
 
     /// Consumes octets of the partial dataset. On an error it has consumed those before the
     /// rejected one.
-    pub(crate) fn run<S: StorySink>(&mut self, run: &[u8], sink: &mut S) -> Result<(), Halt>
-        requires { (left : ℕ) × TakesData self.old left × (length run.now ≤ left) }
-        ensures takes { OnOk result ((left : ℕ) → TakesData self.old left
-            → TakesData self.new (left - length run.now)) }
-        ensures went { OnOk result (TellsParts S.goes S.failures (self.old, sink.old) (map DataOctet run.now)
+    pub(crate) fn run<S: StorySink>(&mut self, run: &[u8], sink: &mut S) -> Result<(), Rejection>
+        requires { (left : ℕ) × PartsAcceptData self.old left × (length run.now ≤ left) }
+        ensures takes { OnOk result ((left : ℕ) → PartsAcceptData self.old left
+            → PartsAcceptData self.new (left - length run.now)) }
+        ensures went { OnOk result (PartsEmit S.goes S.failures (self.old, sink.old) (map DataOctet run.now)
             (self.new, sink.new)) }
         ensures before { IfErr result (λ halt. halt.taken < length run.now) }
         ensures stopped { IfErr result (λ halt.
-            PartsRefuse S.goes S.failures (Some halt.fault) (self.old, sink.old)
+            PartsReject S.goes S.failures (Some halt.fault) (self.old, sink.old)
             (map DataOctet (take halt.taken run.now)) (DataOctet (slice_index run.now halt.taken))
             (self.new, sink.new)) }
-        ensures room { room_of self.new.fields ≡ room_of self.old.fields }
+        ensures room { reader_capacity self.new.fields ≡ reader_capacity self.old.fields }
     {
-        lower_laws();
-        let Some(head) = self.fields.begun_head() else {
+        layer_lemmas();
+        let Some(head) = self.fields.current_head() else {
             unreachable!()
         };
         if head.rec != OBJECT {
@@ -309,28 +311,28 @@ impl Parts {
         }
         match pass_octets(&mut self.object, &mut self.message, run, sink) {
             Ok(()) => Ok(()),
-            Err(fault) => Err(halt_on(head, fault)),
+            Err(fault) => Err(rejection_on(head, fault)),
         }
     }
 
     /// Ends the partial dataset, or returns the first error of its value.
     pub(crate) fn close(&mut self) -> Result<(), TokenFault>
-        requires { TakesData self.old 0 }
+        requires { PartsAcceptData self.old 0 }
         ensures object { OnOk result (IsSome self.new.object) }
         ensures message { OnOk result (IsSome self.new.message) }
-        ensures between { OnOk result (IsBetween self.new.fields) }
-        ensures closed { OnOk result (LeadsParts self.old (DatasetEnd ∷ []) [] self.new) }
-        ensures refused { IfErr result (NotClosed self.old) }
-        ensures room { room_of self.new.fields ≡ room_of self.old.fields }
+        ensures between { OnOk result (IsBetweenDatasets self.new.fields) }
+        ensures closed { OnOk result (PartsConsume self.old (DatasetEnd ∷ []) [] self.new) }
+        ensures refused { IfErr result (RejectsClose self.old) }
+        ensures room { reader_capacity self.new.fields ≡ reader_capacity self.old.fields }
     {
-        lower_laws();
-        let Some(head) = self.fields.begun_head() else {
+        layer_lemmas();
+        let Some(head) = self.fields.current_head() else {
             unreachable!()
         };
         match self.fields.close() {
-            Ok(Some(number)) => tell_number(&mut self.object, head, number),
+            Ok(Some(number)) => pass_number(&mut self.object, head, number),
             Ok(None) => Ok(()),
-            Err(fault) => Err(of_field(fault)),
+            Err(fault) => Err(fault_of_record(fault)),
         }
     }
 }

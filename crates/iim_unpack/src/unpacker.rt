@@ -1,32 +1,32 @@
 //! The streaming parser of one envelope.
 
 ghost use Rattle.std.specs.Prelude.{◌≡◌, ◌+◌, ◌*◌, ◌^◌, [], is_some, ◌<◌, ◌≤◌, ◌⊎◌, ◌||◌, ℕ, List, Option, Some, None, Ok, Err, false, length, IsTrue, ◌↔◌, IsSome, IsOk, IfSome, IfOk, IfErr, OnOk, OnErr};
-ghost use Rattle.iim_dataset.specs.States.Reading.{to_come, TakesCalls, tag_cause_of};
-ghost use Rattle.iim_fields.specs.States.Standing.{StandsAfter, limits_of, room_of, room_for};
+ghost use Rattle.iim_dataset.specs.States.Reading.{to_come, DatasetReaderAccepts, tag_cause_of};
+ghost use Rattle.iim_fields.specs.States.Standing.{HasReadDatasets, limits_of, reader_capacity, room_for};
 ghost use Rattle.wire_story.specs.Format.Texts as story;
-ghost use Rattle.iim_unpack.specs.States.Unpacking.{CountsFor, failed_at, Stands, IsDoneWith, IsDone, IsRefusedIn, Progresses, limits_in, room_in, LeftAs, HoldsFew};
+ghost use Rattle.iim_unpack.specs.States.Unpacking.{CountsSinkFailure, failed_at, HasRead, IsDoneWith, IsDone, IsRefusedIn, Progresses, limits_in, capacity_in, AreSame, StoresFew};
 ghost use Rattle.iim_places.specs.Format.Causes.{refusal_at};
-ghost use Rattle.iim_unpack.specs.Routes.{Takes};
-ghost use Rattle.iim_unpack.specs.Steps.{HasAdvanced, IsStoppedBy, IsStoppedWith, tag_fault, IsUnpacking, StandsSomewhere};
-ghost use Rattle.iim_places.specs.Format.Streams.{are_some, raised};
-ghost use Rattle.iim_unpack.specs.States.Restored.{HasTicketIn};
+ghost use Rattle.iim_unpack.specs.RouterSteps.{Takes};
+ghost use Rattle.iim_unpack.specs.Steps.{HasAdvanced, IsRejectedBy, IsRejectedWith, tag_fault, IsConsistent, IsReachable};
+ghost use Rattle.iim_places.specs.Format.Streams.{is_non_empty, sum_capped};
+ghost use Rattle.iim_unpack.specs.States.Restored.{WritesTicketOf};
 ghost use Rattle.iim_places.specs.Format.Open.{IsTruncatedAt};
 ghost use Rattle.iim_places.specs.Format.Admitted.{Value, Admits};
 ghost use Rattle.iim_places.specs.Format.Tickets.{IsTicketOf};
-ghost use Rattle.iim_unpack.specs.Format.Pieces.{HasParts, ShowsParts};
+ghost use Rattle.iim_unpack.specs.Format.Pieces.{HasParts, HasBorrowedParts};
 ghost use Rattle.iim_places.specs.declared.refusal.Refusal.{Refusal as RefusalValue};
 
-use crate::parts::message::give_back;
+use crate::parts::message::end_borrow;
 use crate::parts::router::Router;
-use crate::parts::{Halt, Parts};
-use crate::ticket::spelling::{SaveFault, spell_at, spell_ticket};
+use crate::parts::{Parts, Rejection};
+use crate::ticket::spelling::{SaveFault, encode_ticket, encode_ticket_at};
 use arrayvec::ArrayVec;
 use iim_dataset::{Fault as TagFault, FaultCause, HeadReader};
 use iim_fields::{Envelope, EnvelopeRef, Fields, Limits};
-use iim_object::laws::readers_tell_sizes;
+use iim_object::laws::readers_return_sizes;
 use iim_object::{ObjectReader, Sizes};
 use iim_places::internals::TokenFault;
-use iim_places::laws::{lower_laws, place_laws};
+use iim_places::laws::{layer_lemmas, place_laws};
 use iim_places::{Cause, Layer, Refusal};
 use std::alloc::{AllocError, Global};
 use std::marker::Model;
@@ -49,7 +49,7 @@ fn feed_router<'p, 's, S: StorySink>(
     piece: &[u8],
     router: &mut Router<'p, 's, S>,
 ) -> Result<usize, TagFault>
-    requires takes_calls { TakesCalls reader.old }
+    requires takes_calls { DatasetReaderAccepts reader.old }
     requires stands { Takes router.old.parts.now (to_come reader.old.place) }
     ensures parts { router.new.parts.ghost_name ≡ router.old.parts.ghost_name }
     ensures sink { router.new.sink.ghost_name ≡ router.old.sink.ghost_name }
@@ -58,10 +58,10 @@ fn feed_router<'p, 's, S: StorySink>(
         (reader.new, router.new.parts.now, router.new.sink.now)) }
     ensures before { IfErr result (λ fault. fault.used < length piece.now) }
     ensures fails { IfErr result (λ fault.
-        IsStoppedBy S.goes S.failures (tag_cause_of fault.cause) router.new.refused
+        IsRejectedBy S.goes S.failures (tag_cause_of fault.cause) router.new.refused
         (reader.old.place, router.old.parts.now, router.old.sink.now) piece.now fault.used
         (reader.new.place, router.new.parts.now, router.new.sink.now)) }
-    ensures room { room_of router.new.parts.now.fields ≡ room_of router.old.parts.now.fields }
+    ensures room { reader_capacity router.new.parts.now.fields ≡ reader_capacity router.old.parts.now.fields }
 {
     reader.feed(piece, router)
 }
@@ -84,16 +84,16 @@ fn advance<S: StorySink>(
     parts: &mut Parts,
     piece: &[u8],
     sink: &mut S,
-) -> Result<usize, Halt>
-    requires takes_calls { TakesCalls reader.old }
+) -> Result<usize, Rejection>
+    requires takes_calls { DatasetReaderAccepts reader.old }
     requires stands { Takes parts.old (to_come reader.old.place) }
     ensures taken { IfOk result (HasAdvanced S.goes S.failures (reader.old.place, parts.old, sink.old) piece.now
         (reader.new, parts.new, sink.new)) }
     ensures before { IfErr result (λ halt. halt.taken < length piece.now) }
     ensures fails { IfErr result (λ halt.
-        IsStoppedWith S.goes S.failures (reader.old.place, parts.old, sink.old) piece.now halt.taken halt.fault
+        IsRejectedWith S.goes S.failures (reader.old.place, parts.old, sink.old) piece.now halt.taken halt.fault
         (reader.new.place, parts.new, sink.new)) }
-    ensures room { room_of parts.new.fields ≡ room_of parts.old.fields }
+    ensures room { reader_capacity parts.new.fields ≡ reader_capacity parts.old.fields }
 {
     let mut router = Router {
         parts,
@@ -106,7 +106,7 @@ fn advance<S: StorySink>(
         sink: same,
         refused,
     } = router;
-    give_back(same);
+    end_borrow(same);
     match answer {
         Ok(used) => Ok(used),
         Err(fault) => {
@@ -118,7 +118,7 @@ fn advance<S: StorySink>(
                     None => unreachable!(),
                 },
             };
-            Err(Halt {
+            Err(Rejection {
                 taken: fault.used,
                 fault: why,
             })
@@ -171,14 +171,14 @@ pub struct Unpacker {
 impl Model for Unpacker {
     ghost use Rattle.iim_unpack.specs.States.Unpacking.{Unpacking};
     ghost use Rattle.std.specs.Prelude.{◌≡◌, None};
-    ghost use Rattle.iim_unpack.specs.Steps.{IsUnpacking};
+    ghost use Rattle.iim_unpack.specs.Steps.{IsConsistent};
 
     ghost Value = { Unpacking };
 
     ghost view = { λ u. record
         { reader = u.reader; parts = u.parts; octets = u.octets; begun = u.begun; refused = u.refused } };
 
-    ghost invariant = { λ u. u.refused ≡ None → IsUnpacking
+    ghost invariant = { λ u. u.refused ≡ None → IsConsistent
         (record { reader = u.reader; parts = u.parts; octets = u.octets; begun = u.begun; refused = u.refused }) };
 }
 
@@ -209,15 +209,15 @@ pub(crate) fn failed_at(octet: u64) -> Refusal
 }
 
 /// Adds to a count, saturating at the greatest number of 64 bits.
-pub(crate) fn raised(octets: u64, more: u64) -> u64
-    ensures { result ≡ raised octets more }
+pub(crate) fn sum_capped(octets: u64, more: u64) -> u64
+    ensures { result ≡ sum_capped octets more }
 {
     octets.saturating_add(more)
 }
 
 /// Checks whether an octet was received, after a chunk.
 fn begins(begun: bool, piece: &[u8]) -> bool
-    ensures { result ≡ (begun || are_some piece.now) }
+    ensures { result ≡ (begun || is_non_empty piece.now) }
 {
     begun || !piece.is_empty()
 }
@@ -226,21 +226,21 @@ impl Unpacker {
     /// Creates an unpacker that has consumed nothing. Allocates exactly the memory that the limits
     /// require: no later call allocates. An error means that the allocation failed.
     pub fn new(alloc: Global, limits: Limits) -> Result<Unpacker, AllocError>
-        ensures stands { IfOk result (λ u. Stands u [] 0) }
+        ensures stands { IfOk result (λ u. HasRead u [] 0) }
         ensures limits { IfOk result (λ u. limits_in u ≡ limits) }
-        ensures room { IfOk result (λ u. room_in u ≡ room_for limits) }
+        ensures room { IfOk result (λ u. capacity_in u ≡ room_for limits) }
     {
         Ok(Unpacker::begin(Fields::new(alloc, limits)?))
     }
 
     /// Returns an unpacker that has consumed nothing.
     fn begin(fields: Fields) -> Unpacker
-        requires { StandsAfter fields [] }
-        ensures stands { Stands result [] 0 }
+        requires { HasReadDatasets fields [] }
+        ensures stands { HasRead result [] 0 }
         ensures limits { limits_in result ≡ limits_of fields }
-        ensures room { room_in result ≡ room_of fields }
+        ensures room { capacity_in result ≡ reader_capacity fields }
     {
-        lower_laws();
+        layer_lemmas();
         Unpacker {
             reader: HeadReader::new(),
             parts: Parts {
@@ -257,11 +257,11 @@ impl Unpacker {
     /// Resets the unpacker, with the same memory and limits, to one that has consumed nothing.
     /// Allocates nothing.
     pub fn again(&mut self)
-        ensures stands { Stands self.new [] 0 }
+        ensures stands { HasRead self.new [] 0 }
         ensures limits { limits_in self.new ≡ limits_in self.old }
-        ensures room { room_in self.new ≡ room_in self.old }
+        ensures room { capacity_in self.new ≡ capacity_in self.old }
     {
-        lower_laws();
+        layer_lemmas();
         self.reader = HeadReader::new();
         self.parts.fields.again();
         self.parts.object = ObjectReader::new();
@@ -274,7 +274,7 @@ impl Unpacker {
     /// Returns an unpacker with these readers, which has consumed `octets` octets. `begun` states
     /// whether any octet was received.
     pub(crate) fn at_place(reader: HeadReader, parts: Parts, octets: u64, begun: bool) -> Unpacker
-        requires { IsUnpacking (record
+        requires { IsConsistent (record
             { reader = reader; parts = parts; octets = octets; begun = begun; refused = None }) }
         ensures { result ≡ record { reader = reader; parts = parts; octets = octets; begun = begun; refused = None } }
     {
@@ -302,8 +302,8 @@ impl Unpacker {
     }
 
     /// Proves that an unpacker without a refusal has consumed some incomplete input or an envelope.
-    pub(crate) fn stands_somewhere(&self)
-        ensures stood { self.now.refused ≡ None → StandsSomewhere self.now }
+    pub(crate) fn is_reachable(&self)
+        ensures stood { self.now.refused ≡ None → IsReachable self.now }
         ensures counts { self.now.octets < 2 ^ 64 }
         ensures octets { (limits_in self.now).octets < 2 ^ 32 }
         ensures fields { (limits_in self.now).fields < 2 ^ 32 }
@@ -315,7 +315,7 @@ impl Unpacker {
 
     /// Checks whether no octet was consumed.
     pub(crate) fn is_fresh(&self) -> bool
-        ensures { (p : List ℕ) (a : ℕ) → Stands self.now p a → IsTrue result ↔ (p ≡ []) }
+        ensures { (p : List ℕ) (a : ℕ) → HasRead self.now p a → IsTrue result ↔ (p ≡ []) }
     {
         !self.begun
     }
@@ -339,26 +339,27 @@ impl Unpacker {
         // chunk adds, and did not fail.
         ensures goes { IfOk result (λ progress. (S.failures sink.new ≡ S.failures sink.old)
             × ((more : List story.StoryEvent) × S.goes sink.old more sink.new
-            × ((p : List ℕ) (a : ℕ) → Stands self.old p a → Progresses self.new p a piece.now more progress))) }
+            × ((p : List ℕ) (a : ℕ) → HasRead self.old p a → Progresses self.new p a piece.now more progress))) }
 
         // Octet k completes the first rejected token. The sink received the text that the octets
         // before it add.
         ensures refused { IfErr result (λ e. (more : List story.StoryEvent) × S.goes sink.old more sink.new
-            × ((p : List ℕ) (a : ℕ) → Stands self.old p a → IsRefusedIn (limits_in self.old) p a piece.now more e)) }
-        ensures counted { IfErr result (λ e. CountsFor e.cause (S.failures sink.old) (S.failures sink.new)) }
+            × ((p : List ℕ) (a : ℕ) → HasRead self.old p a → IsRefusedIn (limits_in self.old) p a piece.now more e)) }
+        ensures counted { IfErr result (λ e. CountsSinkFailure e.cause (S.failures sink.old) (S.failures sink.new)) }
         ensures failed { IfErr result (λ e. self.new.refused ≡ Some e.octet) }
 
         // After an envelope and after a refusal, calls change nothing.
-        ensures done { IsDone self.old → (result ≡ Ok (Progress.Done 0)) × LeftAs self.old sink.old self.new sink.new }
+        ensures done { IsDone self.old → (result ≡ Ok (Progress.Done 0)) × AreSame self.old sink.old self.new sink.new }
         ensures again { (octet : ℕ) → self.old.refused ≡ Some octet → (result ≡ Err (failed_at octet))
-            × LeftAs self.old sink.old self.new sink.new }
+            × AreSame self.old sink.old self.new sink.new }
         ensures limits { self.old.refused ≡ None → OnOk result (limits_in self.new ≡ limits_in self.old) }
         // It stores what the limits allow and at most 256 octets more. It never allocates, whatever
         // it returns.
-        ensures memory { (room_in self.new ≡ room_in self.old) × (self.new.refused ≡ None → HoldsFew self.new) }
+        ensures memory { (capacity_in self.new ≡ capacity_in self.old) × (self.new.refused ≡ None
+            → StoresFew self.new) }
     {
-        lower_laws();
-        readers_tell_sizes();
+        layer_lemmas();
+        readers_return_sizes();
         place_laws();
         if let Some(octet) = self.refused {
             return Err(failed_at(octet));
@@ -368,7 +369,7 @@ impl Unpacker {
         }
         match advance(&mut self.reader, &mut self.parts, piece, sink) {
             Ok(used) => {
-                self.octets = raised(self.octets, used as u64);
+                self.octets = sum_capped(self.octets, used as u64);
                 self.begun = begins(self.begun, piece);
                 if self.parts.has_ended() {
                     return Ok(Progress::Done { used });
@@ -376,7 +377,7 @@ impl Unpacker {
                 Ok(Progress::More)
             }
             Err(halt) => {
-                let octet = raised(self.octets, halt.taken as u64);
+                let octet = sum_capped(self.octets, halt.taken as u64);
                 self.refused = Some(octet);
                 Err(refusal_at(octet, halt.fault))
             }
@@ -388,7 +389,7 @@ impl Unpacker {
     pub fn end_of_input(&self) -> Option<Refusal>
         ensures done { IsDone self.now → result ≡ None }
         ensures failed { (octet : ℕ) → self.now.refused ≡ Some octet → result ≡ Some (failed_at octet) }
-        ensures truncated { (p : List ℕ) (a : ℕ) → Stands self.now p a → (e : RefusalValue) × (result ≡ Some e)
+        ensures truncated { (p : List ℕ) (a : ℕ) → HasRead self.now p a → (e : RefusalValue) × (result ≡ Some e)
             × IsTruncatedAt p a e }
     {
         if let Some(octet) = self.refused {
@@ -413,7 +414,7 @@ impl Unpacker {
     pub fn save(&self, alloc: Global) -> Result<Vec<u8>, SaveFault>
         ensures failed { (octet : ℕ) → self.now.refused ≡ Some octet → result ≡ Err SaveFault.Failed }
         ensures memory { self.now.refused ≡ None → IfErr result (λ fault. fault ≡ SaveFault.OutOfMemory) }
-        ensures ticket { IfOk result (λ ticket. (p : List ℕ) (a : ℕ) → Stands self.now p a ⊎ IsDoneWith self.now p a
+        ensures ticket { IfOk result (λ ticket. (p : List ℕ) (a : ℕ) → HasRead self.now p a ⊎ IsDoneWith self.now p a
             → IsTicketOf p ticket.items) }
         ensures short { IfOk result (λ ticket. length ticket.items ≤ (limits_in self.now).octets
             + 6 * (limits_in self.now).fields + 256) }
@@ -421,9 +422,9 @@ impl Unpacker {
         if self.refused.is_some() {
             return Err(SaveFault::Failed);
         }
-        lower_laws();
-        self.stands_somewhere();
-        match spell_ticket(alloc, &self.reader, &self.parts) {
+        layer_lemmas();
+        self.is_reachable();
+        match encode_ticket(alloc, &self.reader, &self.parts) {
             Some(ticket) => Ok(ticket),
             None => Err(SaveFault::OutOfMemory),
         }
@@ -434,14 +435,14 @@ impl Unpacker {
     pub fn save_at(&self, out: &mut [u8]) -> Result<usize, SaveFault>
         ensures failed { (octet : ℕ) → self.now.refused ≡ Some octet → result ≡ Err SaveFault.Failed }
         ensures saved { self.now.refused ≡ None → IsOk result }
-        ensures ticket { IfOk result (HasTicketIn self.now out.new) }
+        ensures ticket { IfOk result (WritesTicketOf self.now out.new) }
     {
         if self.refused.is_some() {
             return Err(SaveFault::Failed);
         }
-        lower_laws();
-        self.stands_somewhere();
-        Ok(spell_at(out, &self.reader, &self.parts))
+        layer_lemmas();
+        self.is_reachable();
+        Ok(encode_ticket_at(out, &self.reader, &self.parts))
     }
 
     /// Returns the value of a complete envelope, borrowed from the unpacker, or `None` if the
@@ -449,9 +450,9 @@ impl Unpacker {
     pub fn unpacked(&self) -> Option<UnpackedRef<'_>>
         ensures done { IsSome result ↔ IsDone self.now }
         ensures value { IfSome result (λ got. (p : List ℕ) (a : ℕ) → IsDoneWith self.now p a → (v : Value) → Admits p v
-            → ShowsParts got v) }
+            → HasBorrowedParts got v) }
     {
-        lower_laws();
+        layer_lemmas();
         place_laws();
         if !self.is_done() {
             return None;
@@ -477,9 +478,9 @@ impl Unpacker {
         ensures value { IfOk result (λ got. (p : List ℕ) (a : ℕ) → IsDoneWith self p a → (v : Value) → Admits p v
             → HasParts got v) }
         ensures not_done { OnErr result (IsDone self → ⊥) }
-        ensures handed_back { IfErr result (λ u. u ≡ self) }
+        ensures returned_unchanged { IfErr result (λ u. u ≡ self) }
     {
-        lower_laws();
+        layer_lemmas();
         place_laws();
         if !self.is_done() {
             return Err(self);

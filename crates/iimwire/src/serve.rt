@@ -1,8 +1,8 @@
 //! The program, after it has its arguments and its input.
 
-ghost use Rattle.iimwire.specs.Format.{Served};
+ghost use Rattle.iimwire.specs.Format.{Serves};
 
-use crate::start::{RunFault, answer};
+use crate::start::{RunFault, print_text_or_reason};
 use iim_commands::{Request, run};
 use iim_dataset::{Source, Target};
 use std::alloc::Global;
@@ -15,7 +15,7 @@ pub fn serve<R: Source + Drop, W: Target, E: Target>(
     output: W,
     errors: E,
 ) -> (u8, W, E)
-    ensures { Served R.state R.leads begun.entry (W.state output, E.state errors) (W.state result.1, E.state result.2)
+    ensures { Serves R.state R.leads begun.entry (W.state output, E.state errors) (W.state result.1, E.state result.2)
         result.0 }
 {
     match begun {
@@ -23,7 +23,7 @@ pub fn serve<R: Source + Drop, W: Target, E: Target>(
         Err(fault) => {
             let mut output = output;
             let mut errors = errors;
-            let status = answer(alloc, fault, &mut output, &mut errors);
+            let status = print_text_or_reason(alloc, fault, &mut output, &mut errors);
             (status, output, errors)
         }
     }

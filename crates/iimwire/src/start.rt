@@ -6,7 +6,7 @@ use clap::Error;
 use clap::error::ErrorKind;
 use iim_commands::UsageFault;
 use iim_commands::fault::CommandFault;
-use iim_commands::lines::tell;
+use iim_commands::lines::write_with_status;
 use iim_commands::shown::push_name;
 use iim_commands::status::{ACCEPTED, FAILED, USAGE};
 use iim_dataset::{Target, put};
@@ -25,12 +25,12 @@ pub enum RunFault<'a> {
     OutOfMemory,
 }
 
-ghost use Rattle.iim_request.specs.Format.{shown_name};
-ghost use Rattle.iimwire.specs.Format.{asks_for_text, is_text_asked, status_of_start, IsAnswered, IsHindered, IsShown, IsTextShown, TellsRunFault};
+ghost use Rattle.iim_request.specs.Format.{escaped_name};
+ghost use Rattle.iimwire.specs.Format.{requests_text, is_text_requested, run_fault_status, PrintsTextOrReason, PrintsReason, WritesText, PrintsText, IsRunFaultText};
 
 /// Checks whether an error of `clap` is the text of `--help` or `--version`.
-pub fn asks_for_text(error: &Error) -> bool
-    ensures { result ≡ asks_for_text error.now }
+pub fn requests_text(error: &Error) -> bool
+    ensures { result ≡ requests_text error.now }
 {
     match error.kind() {
         ErrorKind::DisplayHelp | ErrorKind::DisplayVersion => true,
@@ -39,18 +39,18 @@ pub fn asks_for_text(error: &Error) -> bool
 }
 
 /// Checks whether the arguments only request the text of `--help` or `--version`.
-fn is_text_asked(fault: &RunFault<'_>) -> bool
-    ensures { result ≡ is_text_asked fault.now }
+fn is_text_requested(fault: &RunFault<'_>) -> bool
+    ensures { result ≡ is_text_requested fault.now }
 {
     match fault {
-        RunFault::Usage(UsageFault::Words(error)) => asks_for_text(error),
+        RunFault::Usage(UsageFault::Words(error)) => requests_text(error),
         _ => false,
     }
 }
 
 /// Returns the status for an error of `clap`.
-fn words_status(error: &Error) -> u8
-    ensures { result ≡ status_of_start (RunFault.Usage (UsageFault.Words error.now)) }
+fn clap_status(error: &Error) -> u8
+    ensures { result ≡ run_fault_status (RunFault.Usage (UsageFault.Words error.now)) }
 {
     match error.kind() {
         ErrorKind::DisplayHelp | ErrorKind::DisplayVersion => ACCEPTED,
@@ -60,10 +60,10 @@ fn words_status(error: &Error) -> u8
 
 /// Returns the status for a usage error.
 fn usage_status(fault: &UsageFault) -> u8
-    ensures { result ≡ status_of_start (RunFault.Usage fault.now) }
+    ensures { result ≡ run_fault_status (RunFault.Usage fault.now) }
 {
     match fault {
-        UsageFault::Words(error) => words_status(error),
+        UsageFault::Words(error) => clap_status(error),
         UsageFault::MaxNeedsUnknown | UsageFault::BadNow => USAGE,
         UsageFault::OutOfMemory => FAILED,
     }
@@ -71,7 +71,7 @@ fn usage_status(fault: &UsageFault) -> u8
 
 /// Returns the status for an error.
 fn status(fault: &RunFault<'_>) -> u8
-    ensures { result ≡ status_of_start fault.now }
+    ensures { result ≡ run_fault_status fault.now }
 {
     match fault {
         RunFault::Usage(fault) => usage_status(fault),
@@ -81,8 +81,8 @@ fn status(fault: &RunFault<'_>) -> u8
 }
 
 /// Returns the text of a usage error.
-fn usage_text(alloc: Global, fault: &UsageFault) -> Result<Vec<u8>, AllocError>
-    ensures { IfOk result (λ text. TellsRunFault (RunFault.Usage fault.now) text.items) }
+fn usage_error_text(alloc: Global, fault: &UsageFault) -> Result<Vec<u8>, AllocError>
+    ensures { IfOk result (λ text. IsRunFaultText (RunFault.Usage fault.now) text.items) }
 {
     match fault {
         UsageFault::Words(error) => {
@@ -98,8 +98,8 @@ fn usage_text(alloc: Global, fault: &UsageFault) -> Result<Vec<u8>, AllocError>
 }
 
 /// Returns the text that the file with this name cannot be opened.
-fn cannot_open(alloc: Global, name: &str) -> Result<Vec<u8>, AllocError>
-    ensures { IfOk result (λ text. text.items ≡ codes "cannot open " ++ (shown_name name.now ++ codes "\n")) }
+fn cannot_open_text(alloc: Global, name: &str) -> Result<Vec<u8>, AllocError>
+    ensures { IfOk result (λ text. text.items ≡ codes "cannot open " ++ (escaped_name name.now ++ codes "\n")) }
 {
     let mut text = Vec::from_slice(alloc, b"cannot open ")?;
     push_name(&mut text, name)?;
@@ -109,12 +109,12 @@ fn cannot_open(alloc: Global, name: &str) -> Result<Vec<u8>, AllocError>
 
 /// Returns the text of an error.
 fn text(alloc: Global, fault: &RunFault<'_>) -> Result<Vec<u8>, AllocError>
-    ensures { IfOk result (λ text. TellsRunFault fault.now text.items) }
+    ensures { IfOk result (λ text. IsRunFaultText fault.now text.items) }
 {
     match fault {
-        RunFault::Usage(fault) => usage_text(alloc, fault),
+        RunFault::Usage(fault) => usage_error_text(alloc, fault),
         RunFault::NoText => Vec::from_slice(alloc, b"arguments are no text\n"),
-        RunFault::CannotOpen(name) => cannot_open(alloc, name),
+        RunFault::CannotOpen(name) => cannot_open_text(alloc, name),
         RunFault::OutOfMemory => {
             Vec::from_slice(alloc, CommandFault::OutOfMemory.line().as_bytes())
         }
@@ -122,24 +122,25 @@ fn text(alloc: Global, fault: &RunFault<'_>) -> Result<Vec<u8>, AllocError>
 }
 
 /// Prints why a run cannot begin, and returns the status.
-fn hinder<E: Target>(alloc: Global, fault: RunFault<'_>, errors: &mut E) -> u8
-    ensures { IsHindered fault.entry (E.state errors.old) (E.state errors.new) result }
+fn print_reason<E: Target>(alloc: Global, fault: RunFault<'_>, errors: &mut E) -> u8
+    ensures { PrintsReason fault.entry (E.state errors.old) (E.state errors.new) result }
 {
     match text(alloc, &fault) {
-        Ok(text) => tell(errors, text.as_slice(), status(&fault)),
-        Err(_) => tell(errors, CommandFault::OutOfMemory.line().as_bytes(), FAILED),
+        Ok(text) => write_with_status(errors, text.as_slice(), status(&fault)),
+        Err(_) => write_with_status(errors, CommandFault::OutOfMemory.line().as_bytes(), FAILED),
     }
 }
 
 /// Writes a text to the output, and returns `status`. If the write fails, prints that to the
 /// errors, and returns the status of a failure.
 fn show<W: Target, E: Target>(text: &[u8], status: u8, output: &mut W, errors: &mut E) -> u8
-    ensures { IsShown text.now status (W.state output.old, E.state errors.old) (W.state output.new, E.state errors.new)
+    ensures { WritesText text.now status (W.state output.old, E.state errors.old)
+        (W.state output.new, E.state errors.new)
         result }
 {
     match put(output, text) {
         Ok(()) => status,
-        Err(_) => tell(errors, CommandFault::CannotWrite.line().as_bytes(), FAILED),
+        Err(_) => write_with_status(errors, CommandFault::CannotWrite.line().as_bytes(), FAILED),
     }
 }
 
@@ -150,28 +151,28 @@ fn show_text<W: Target, E: Target>(
     output: &mut W,
     errors: &mut E,
 ) -> u8
-    ensures { IsTextShown fault.now (W.state output.old, E.state errors.old) (W.state output.new, E.state errors.new)
+    ensures { PrintsText fault.now (W.state output.old, E.state errors.old) (W.state output.new, E.state errors.new)
         result }
 {
     match text(alloc, fault) {
         Ok(text) => show(text.as_slice(), status(fault), output, errors),
-        Err(_) => tell(errors, CommandFault::OutOfMemory.line().as_bytes(), FAILED),
+        Err(_) => write_with_status(errors, CommandFault::OutOfMemory.line().as_bytes(), FAILED),
     }
 }
 
 /// Writes the text that the arguments request, or prints why a run cannot begin. Returns the
 /// status.
-pub fn answer<W: Target, E: Target>(
+pub fn print_text_or_reason<W: Target, E: Target>(
     alloc: Global,
     fault: RunFault<'_>,
     output: &mut W,
     errors: &mut E,
 ) -> u8
-    ensures { IsAnswered (is_text_asked fault.entry) fault.entry (W.state output.old, E.state errors.old)
+    ensures { PrintsTextOrReason (is_text_requested fault.entry) fault.entry (W.state output.old, E.state errors.old)
         (W.state output.new, E.state errors.new) result }
 {
-    if is_text_asked(&fault) {
+    if is_text_requested(&fault) {
         return show_text(alloc, &fault, output, errors);
     }
-    hinder(alloc, fault, errors)
+    print_reason(alloc, fault, errors)
 }

@@ -1,10 +1,10 @@
 //! Usage errors as they are printed.
 
 ghost use Rattle.std.specs.Prelude.{◌≡◌, IfOk, IsUtf8, string_bytes};
-ghost use Rattle.iim_request.specs.Format.{shown_name};
-ghost use Rattle.iimwire.specs.Format.{IsMistakeOf, IsPrintedAs};
+ghost use Rattle.iim_request.specs.Format.{escaped_name};
+ghost use Rattle.iimwire.specs.Format.{IsUsageErrorFor, IsPrintedAs};
 
-use crate::start::asks_for_text;
+use crate::start::requests_text;
 use clap::Error;
 use iim_commands::shown::push_name;
 use iim_commands::{UsageFault, parse_files};
@@ -12,8 +12,8 @@ use std::alloc::{AllocError, Global};
 
 /// Returns an argument with its control characters and backslashes escaped. The result is UTF-8;
 /// if it were not, the argument would be unchanged.
-fn shown_word(alloc: Global, word: &str) -> Result<String, AllocError>
-    ensures { IfOk result (λ shown. IsUtf8 (shown_name word.now) → string_bytes shown ≡ shown_name word.now) }
+fn escaped_argument(alloc: Global, word: &str) -> Result<String, AllocError>
+    ensures { IfOk result (λ shown. IsUtf8 (escaped_name word.now) → string_bytes shown ≡ escaped_name word.now) }
 {
     let mut shown = Vec::new(alloc);
     push_name(&mut shown, word)?;
@@ -24,33 +24,33 @@ fn shown_word(alloc: Global, word: &str) -> Result<String, AllocError>
 }
 
 /// Returns the arguments with their control characters and backslashes escaped.
-fn shown_words(alloc: Global, words: &[String]) -> Result<Vec<String>, AllocError> {
+fn escaped_arguments(alloc: Global, words: &[String]) -> Result<Vec<String>, AllocError> {
     let mut shown = Vec::new(alloc);
     for word in words {
-        shown.push(shown_word(alloc, word.as_str())?)?;
+        shown.push(escaped_argument(alloc, word.as_str())?)?;
     }
     Ok(shown)
 }
 
 /// Returns `other`, or `error` if `other` is the text of `--help` or `--version`.
-fn mistake_or(other: Error, error: Error) -> UsageFault
-    ensures { IsMistakeOf error result }
+fn usage_error_or(other: Error, error: Error) -> UsageFault
+    ensures { IsUsageErrorFor error result }
 {
-    if asks_for_text(&other) {
+    if requests_text(&other) {
         return UsageFault::Words(error);
     }
     UsageFault::Words(other)
 }
 
 /// Returns a usage error as it is printed: the error that `clap` has for the escaped arguments.
-fn printed_mistake(alloc: Global, words: &[String], error: Error) -> UsageFault
-    ensures { IsMistakeOf error result }
+fn printed_usage_error(alloc: Global, words: &[String], error: Error) -> UsageFault
+    ensures { IsUsageErrorFor error result }
 {
-    let Ok(shown) = shown_words(alloc, words) else {
+    let Ok(shown) = escaped_arguments(alloc, words) else {
         return UsageFault::OutOfMemory;
     };
     match parse_files(alloc, shown.as_slice()) {
-        Err(UsageFault::Words(other)) => mistake_or(other, error),
+        Err(UsageFault::Words(other)) => usage_error_or(other, error),
         Err(UsageFault::OutOfMemory) => UsageFault::OutOfMemory,
         _ => UsageFault::Words(error),
     }
@@ -60,10 +60,10 @@ fn printed_mistake(alloc: Global, words: &[String], error: Error) -> UsageFault
 fn printed_error(alloc: Global, words: &[String], error: Error) -> UsageFault
     ensures { IsPrintedAs (UsageFault.Words error) result }
 {
-    if asks_for_text(&error) {
+    if requests_text(&error) {
         return UsageFault::Words(error);
     }
-    printed_mistake(alloc, words, error)
+    printed_usage_error(alloc, words, error)
 }
 
 /// Returns a usage error as it is printed. An error of `clap` is replaced by the one for the

@@ -1,8 +1,8 @@
 //! The limits of wire copy, and causes and faults as they are printed.
 
-use crate::told::Told;
+use crate::told::TestLog;
 use iim_dataset::{Fault, FaultCause, IoFault, Stop};
-use iim_fields::laws::wire_limits_are_told;
+use iim_fields::laws::wire_limits_are_stated;
 use iim_fields::{CopyFault, FieldCause, FieldFault, Limits};
 use iim_object::{ObjectFault, PackCause, SizeCause, StartFault};
 use std::error::Error;
@@ -16,7 +16,7 @@ const TEXT_CAUSES: [TextCause; 3] = [
     TextCause::Sink,
 ];
 
-pub(crate) fn tell(told: &mut Told) {
+pub(crate) fn tell(told: &mut TestLog) {
     limits_of_wire_copy(told);
     causes_of_texts_are_printed(told);
     faults_of_records_are_printed(told);
@@ -26,8 +26,8 @@ pub(crate) fn tell(told: &mut Told) {
     a_fault_of_a_writer_is_printed(told);
 }
 
-fn limits_of_wire_copy(told: &mut Told) {
-    wire_limits_are_told();
+fn limits_of_wire_copy(told: &mut TestLog) {
+    wire_limits_are_stated();
     let Limits { octets, fields } = Limits::WIRE;
     told.begin("limits_of_wire_copy", " ", &octets);
     told.answer(" octets, ", &fields);
@@ -35,21 +35,21 @@ fn limits_of_wire_copy(told: &mut Told) {
 }
 
 /// Logs each value by its name and as it is printed.
-fn tell_printed<T: Error>(told: &mut Told, trial: &str, values: &[T]) {
+fn log_printed<T: Error>(told: &mut TestLog, trial: &str, values: &[T]) {
     for value in values {
         told.begin(trial, " ", value);
         told.end_shown(": ", value);
     }
 }
 
-fn causes_of_texts_are_printed(told: &mut Told) {
-    tell_printed(told, "causes_of_texts_are_printed", &TEXT_CAUSES);
+fn causes_of_texts_are_printed(told: &mut TestLog) {
+    log_printed(told, "causes_of_texts_are_printed", &TEXT_CAUSES);
 }
 
 /// The name of the tests of faults.
 const FAULTS: &str = "faults_are_printed";
 
-fn faults_of_records_are_printed(told: &mut Told) {
+fn faults_of_records_are_printed(told: &mut TestLog) {
     let missing = FieldFault {
         rec: 1,
         set: 70,
@@ -60,55 +60,55 @@ fn faults_of_records_are_printed(told: &mut Told) {
         set: 0,
         cause: FieldCause::Repeated,
     };
-    tell_printed(told, FAULTS, &[missing, record]);
+    log_printed(told, FAULTS, &[missing, record]);
     let full = CopyFault::Passed(FieldCause::HeaderFull);
-    tell_printed(told, FAULTS, &[full, CopyFault::OutOfMemory]);
+    log_printed(told, FAULTS, &[full, CopyFault::OutOfMemory]);
 }
 
-fn faults_of_objects_are_printed(told: &mut Told) {
+fn faults_of_objects_are_printed(told: &mut TestLog) {
     let short = ObjectFault::Size {
         cause: SizeCause::Short,
     };
     let stopped = ObjectFault::Stopped(Stop { taken: 0 });
-    tell_printed(told, FAULTS, &[short, stopped]);
-    tell_printed(told, FAULTS, &[PackCause::BadTrailer]);
-    tell_printed(told, FAULTS, &[SizeCause::ModeClash]);
-    tell_printed(told, FAULTS, &[IoFault::Interrupted, IoFault::Failed]);
+    log_printed(told, FAULTS, &[short, stopped]);
+    log_printed(told, FAULTS, &[PackCause::BadTrailer]);
+    log_printed(told, FAULTS, &[SizeCause::ModeClash]);
+    log_printed(told, FAULTS, &[IoFault::Interrupted, IoFault::Failed]);
 }
 
-fn faults_of_datasets_are_printed(told: &mut Told) {
+fn faults_of_datasets_are_printed(told: &mut TestLog) {
     let causes = [
         FaultCause::Marker,
         FaultCause::CountForm,
         FaultCause::Stopped,
     ];
-    tell_printed(told, FAULTS, &causes);
+    log_printed(told, FAULTS, &causes);
     let form = Fault {
         cause: FaultCause::CountForm,
         used: 4,
     };
-    tell_printed(told, FAULTS, &[form]);
-    tell_printed(told, FAULTS, &[Stop { taken: 3 }]);
+    log_printed(told, FAULTS, &[form]);
+    log_printed(told, FAULTS, &[Stop { taken: 3 }]);
 }
 
-fn faults_of_texts_are_printed(told: &mut Told) {
+fn faults_of_texts_are_printed(told: &mut TestLog) {
     let text = TextFault {
         taken: 5,
         cause: TextCause::LoneReturn,
     };
-    tell_printed(told, FAULTS, &[text]);
+    log_printed(told, FAULTS, &[text]);
     let message = MessageFault {
         taken: 6,
         cause: MessageCause::BadOctet,
     };
-    tell_printed(told, FAULTS, &[message]);
+    log_printed(told, FAULTS, &[message]);
 }
 
-fn a_fault_of_a_writer_is_printed(told: &mut Told) {
+fn a_fault_of_a_writer_is_printed(told: &mut TestLog) {
     let fault = StartFault {
         cause: PackCause::Write,
         writer: 7u8,
         written: 10,
     };
-    tell_printed(told, FAULTS, &[fault]);
+    log_printed(told, FAULTS, &[fault]);
 }

@@ -3,7 +3,7 @@
 mod halting;
 mod reading;
 
-use crate::told::Told;
+use crate::told::TestLog;
 use iim_dataset::{FromRead, Source, put, take};
 use std::alloc::Global;
 use trials::{TrialReader, TrialWriter, Trouble};
@@ -33,7 +33,7 @@ const READERS: [(&str, u32); 2] = [
     ("reader_at_a_million_interruptions: 1000000", 1_000_000),
 ];
 
-pub(crate) fn tell(told: &mut Told, alloc: Global) {
+pub(crate) fn tell(told: &mut TestLog, alloc: Global) {
     writer_at_a_million_interruptions(told);
     a_full_writer_fails(told);
     reader_at_a_million_interruptions(told);
@@ -43,7 +43,7 @@ pub(crate) fn tell(told: &mut Told, alloc: Global) {
     reading::tell(told);
 }
 
-fn writer_at_a_million_interruptions(told: &mut Told) {
+fn writer_at_a_million_interruptions(told: &mut TestLog) {
     for (trial, good, trouble) in &WRITERS {
         let mut writer: TrialWriter<8> = TrialWriter::new(*good, *trouble);
         let answer = put(&mut writer, b"abcde");
@@ -51,20 +51,20 @@ fn writer_at_a_million_interruptions(told: &mut Told) {
     }
 }
 
-fn a_full_writer_fails(told: &mut Told) {
+fn a_full_writer_fails(told: &mut TestLog) {
     let mut full: TrialWriter<3> = TrialWriter::new(8, Trouble::Failure);
     let answer = put(&mut full, b"abcde");
     told.line_and_octets("a_full_writer_fails", &answer, full.octets());
 }
 
-fn reader_at_a_million_interruptions(told: &mut Told) {
+fn reader_at_a_million_interruptions(told: &mut TestLog) {
     for (trial, running) in &READERS {
         let mut reader = TrialReader::new(b"ab", 0, Trouble::Interruptions(*running));
         told.line(trial, " ", &take(&mut reader, &mut [0u8; 4]));
     }
 }
 
-fn a_failing_reader_gives_what_came_before(told: &mut Told) {
+fn a_failing_reader_gives_what_came_before(told: &mut TestLog) {
     let trial = "a_failing_reader_gives_what_came_before";
     let mut reader = TrialReader::new(b"ab", 1, Trouble::Failure);
     let mut buffer = [0u8; 4];
@@ -74,7 +74,7 @@ fn a_failing_reader_gives_what_came_before(told: &mut Told) {
 }
 
 /// Logs three reads of a source of three octets.
-fn tell_reads<S: Source>(told: &mut Told, trial: &str, source: &mut S) {
+fn log_reads<S: Source>(told: &mut TestLog, trial: &str, source: &mut S) {
     let mut buffer = [0u8; 2];
     let first = take(source, &mut buffer);
     told.line_and_octets(trial, &first, &buffer);
@@ -84,7 +84,7 @@ fn tell_reads<S: Source>(told: &mut Told, trial: &str, source: &mut S) {
 }
 
 /// Reads a slice as a source.
-fn a_slice_is_a_source(told: &mut Told) {
+fn a_slice_is_a_source(told: &mut TestLog) {
     let mut reader = FromRead::new(b"abc".as_slice());
-    tell_reads(told, "a_slice_is_a_source", &mut reader);
+    log_reads(told, "a_slice_is_a_source", &mut reader);
 }

@@ -2,9 +2,9 @@
 //! and iterators over an envelope.
 
 ghost use Rattle.std.specs.Prelude.{◌≢◌, length, OnOk, IfSome};
-ghost use Rattle.iim_fields.specs.States.Standing.{IsBetween, IsInside};
+ghost use Rattle.iim_fields.specs.States.Standing.{IsBetweenDatasets, IsInsideDataset};
 
-use crate::told::Told;
+use crate::told::TestLog;
 use arrayvec::ArrayVec;
 use iim_dataset::Head;
 use iim_fields::{CopyFault, Envelope, EnvelopeBuilder, FieldCause, FieldFault, Fields, Limits};
@@ -40,9 +40,9 @@ const COPIED: &str = "copied_envelopes_take_a_dataset_more";
 
 /// Feeds all octets of the dataset in progress, in one chunk or one by one.
 fn give(fields: &mut Fields, head: Head, octets: &[u8], one_by_one: bool)
-    requires inside { IsInside fields.old head (length octets.now) }
+    requires inside { IsInsideDataset fields.old head (length octets.now) }
     requires value { head.rec ≢ 8 }
-    ensures { IsInside fields.new head 0 }
+    ensures { IsInsideDataset fields.new head 0 }
 {
     if !one_by_one {
         fields.bytes(octets);
@@ -61,8 +61,8 @@ fn pass(
     octets: &[u8],
     one_by_one: bool,
 ) -> Result<Option<u64>, FieldFault>
-    requires { IsBetween fields.old }
-    ensures { OnOk result (IsBetween fields.new) }
+    requires { IsBetweenDatasets fields.old }
+    ensures { OnOk result (IsBetweenDatasets fields.new) }
 {
     let head = Head {
         rec,
@@ -84,8 +84,8 @@ fn pass(
 ///
 /// **Errors:** the first fault.
 fn pass_fields(fields: &mut Fields, one_by_one: bool) -> Result<(), FieldFault>
-    requires { IsBetween fields.old }
-    ensures { OnOk result (IsBetween fields.new) }
+    requires { IsBetweenDatasets fields.old }
+    ensures { OnOk result (IsBetweenDatasets fields.new) }
 {
     for (rec, set, octets) in &STORY_FIELDS {
         if let Err(fault) = pass(fields, *rec, *set, octets, one_by_one) {
@@ -103,8 +103,8 @@ fn pass_sizes(
     one_by_one: bool,
     numbers: &mut Numbers,
 ) -> Result<(), FieldFault>
-    requires { IsBetween fields.old }
-    ensures { OnOk result (IsBetween fields.new) }
+    requires { IsBetweenDatasets fields.old }
+    ensures { OnOk result (IsBetweenDatasets fields.new) }
 {
     for (rec, set, octets) in &SIZES {
         match pass(fields, *rec, *set, octets, one_by_one) {
@@ -118,8 +118,8 @@ fn pass_sizes(
 }
 
 /// Feeds records 7 to 9, and logs each decoded number, or the fault.
-fn tell_sizes(told: &mut Told, trial: &str, fields: &mut Fields, one_by_one: bool)
-    requires { IsBetween fields.old }
+fn log_sizes(told: &mut TestLog, trial: &str, fields: &mut Fields, one_by_one: bool)
+    requires { IsBetweenDatasets fields.old }
 {
     let mut numbers = Numbers::new();
     let passed = pass_sizes(fields, one_by_one, &mut numbers);
@@ -130,17 +130,17 @@ fn tell_sizes(told: &mut Told, trial: &str, fields: &mut Fields, one_by_one: boo
 }
 
 /// Feeds all datasets of the longer example envelope, and logs each decoded number, or the fault.
-fn tell_all(told: &mut Told, fields: &mut Fields, one_by_one: bool)
-    requires { IsBetween fields.old }
+fn log_all(told: &mut TestLog, fields: &mut Fields, one_by_one: bool)
+    requires { IsBetweenDatasets fields.old }
 {
     match pass_fields(fields, one_by_one) {
-        Ok(()) => tell_sizes(told, MEMORY, fields, one_by_one),
+        Ok(()) => log_sizes(told, MEMORY, fields, one_by_one),
         Err(fault) => told.line_shown(MEMORY, &fault),
     }
 }
 
 /// Logs each dataset of the envelope.
-fn tell_fields(told: &mut Told, trial: &str, envelope: &Envelope) {
+fn log_fields(told: &mut TestLog, trial: &str, envelope: &Envelope) {
     for (rec, set, octets) in envelope.fields() {
         told.begin(trial, " ", &rec);
         told.answer(":", &set);
@@ -149,7 +149,7 @@ fn tell_fields(told: &mut Told, trial: &str, envelope: &Envelope) {
 }
 
 /// Logs a title, or that there is no further one.
-fn tell_title(told: &mut Told, title: Option<&[u8]>) {
+fn log_title(told: &mut TestLog, title: Option<&[u8]>) {
     match title {
         Some(title) => told.line_of_octets(MEMORY, " title ", title),
         None => told.line_of_words(MEMORY, "no further title"),
@@ -157,27 +157,27 @@ fn tell_title(told: &mut Told, title: Option<&[u8]>) {
 }
 
 /// Logs the first four results of the iterator over the envelope's titles.
-fn tell_titles(told: &mut Told, envelope: &Envelope) {
+fn log_titles(told: &mut TestLog, envelope: &Envelope) {
     let mut titles = envelope.byline_titles();
     for _ in 0..4 {
-        tell_title(told, titles.next());
+        log_title(told, titles.next());
     }
 }
 
 /// Returns the envelope that is read in memory that another one has used.
-fn read_twice(told: &mut Told, alloc: Global) -> Option<Envelope> {
+fn read_twice(told: &mut TestLog, alloc: Global) -> Option<Envelope> {
     let mut fields = Fields::new(alloc, LIMITS).ok()?;
-    tell_all(told, &mut fields, false);
+    log_all(told, &mut fields, false);
     fields.again();
-    tell_all(told, &mut fields, true);
+    log_all(told, &mut fields, true);
     fields.into_envelope().ok()
 }
 
-fn the_memory_of_an_envelope_serves_the_next(told: &mut Told, alloc: Global) {
+fn the_memory_of_an_envelope_serves_the_next(told: &mut TestLog, alloc: Global) {
     match read_twice(told, alloc) {
         Some(envelope) => {
-            tell_fields(told, MEMORY, &envelope);
-            tell_titles(told, &envelope);
+            log_fields(told, MEMORY, &envelope);
+            log_titles(told, &envelope);
         }
         None => told.line_of_words(MEMORY, "no envelope"),
     }
@@ -204,7 +204,7 @@ fn built(alloc: Global) -> Option<Envelope> {
 
 /// Returns the reader after records 1 and 2, when it has no envelope to return yet.
 fn paused(alloc: Global) -> Option<Fields>
-    ensures { IfSome result (λ fields. IsBetween fields) }
+    ensures { IfSome result (λ fields. IsBetweenDatasets fields) }
 {
     let mut fields = Fields::new(alloc, LIMITS).ok()?;
     match pass_fields(&mut fields, false) {
@@ -229,12 +229,12 @@ fn are_worked(alloc: Global, fields: Fields) -> bool {
     }
 }
 
-fn the_reader_continues_where_nothing_is_handed_over(told: &mut Told, alloc: Global) {
+fn the_reader_continues_where_nothing_is_handed_over(told: &mut TestLog, alloc: Global) {
     let trial = "the_reader_continues_where_nothing_is_handed_over";
     let Some(mut fields) = paused(alloc) else {
         return told.line_of_words(trial, "refused, or an envelope after record 2");
     };
-    tell_sizes(told, trial, &mut fields, false);
+    log_sizes(told, trial, &mut fields, false);
     let same = are_worked(alloc, fields);
     told.line(trial, " the same as the one that was built: ", &same);
 }
@@ -245,7 +245,11 @@ fn fault_of_copy(alloc: Global, limits: Limits, envelope: &Envelope) -> Option<C
 }
 
 /// Copies the envelope, which has 78 octets in 16 datasets, within several limits.
-fn envelopes_are_copied_within_other_limits(told: &mut Told, alloc: Global, envelope: &Envelope) {
+fn envelopes_are_copied_within_other_limits(
+    told: &mut TestLog,
+    alloc: Global,
+    envelope: &Envelope,
+) {
     for (octets, fields) in &LIMITS_OF_COPIES {
         let limits = Limits {
             octets: *octets,
@@ -266,7 +270,7 @@ fn cause_of(added: Result<(), FieldFault>) -> Option<FieldCause> {
 }
 
 /// Adds datasets, and logs why some are not accepted.
-fn tell_added(told: &mut Told, builder: &mut EnvelopeBuilder) {
+fn log_added(told: &mut TestLog, builder: &mut EnvelopeBuilder) {
     for (set, octets) in &ADDED {
         told.begin(COPIED, " add 2:", set);
         told.end(": ", &cause_of(builder.add(2, *set, octets)));
@@ -275,21 +279,21 @@ fn tell_added(told: &mut Told, builder: &mut EnvelopeBuilder) {
 
 /// Returns a copy of the envelope, with capacity for five more octets and one more dataset, which
 /// it accepts.
-fn copied(told: &mut Told, alloc: Global, envelope: &Envelope) -> Option<Envelope> {
+fn copied(told: &mut TestLog, alloc: Global, envelope: &Envelope) -> Option<Envelope> {
     let limits = Limits {
         octets: 83,
         fields: 17,
     };
     let mut builder = EnvelopeBuilder::from(alloc, limits, envelope).ok()?;
-    tell_added(told, &mut builder);
+    log_added(told, &mut builder);
     builder.finish().ok()
 }
 
-fn copied_envelopes_take_a_dataset_more(told: &mut Told, alloc: Global, envelope: &Envelope) {
+fn copied_envelopes_take_a_dataset_more(told: &mut TestLog, alloc: Global, envelope: &Envelope) {
     let Some(sent) = copied(told, alloc, envelope) else {
         return told.line_of_words(COPIED, "not copied, or not finished");
     };
-    tell_fields(told, COPIED, &sent);
+    log_fields(told, COPIED, &sent);
     told.line_of_octets(
         COPIED,
         " the first 2:122 ",
@@ -297,7 +301,7 @@ fn copied_envelopes_take_a_dataset_more(told: &mut Told, alloc: Global, envelope
     );
 }
 
-pub(crate) fn tell(told: &mut Told, alloc: Global) {
+pub(crate) fn tell(told: &mut TestLog, alloc: Global) {
     the_memory_of_an_envelope_serves_the_next(told, alloc);
     the_reader_continues_where_nothing_is_handed_over(told, alloc);
     match built(alloc) {

@@ -16,11 +16,11 @@ mod stories;
 mod told;
 
 use std::alloc::Global;
-pub use told::Told;
+pub use told::TestLog;
 
 /// Runs all tests, and returns their lines.
-pub fn lines(alloc: Global) -> Told {
-    let mut told = Told::new(alloc);
+pub fn lines(alloc: Global) -> TestLog {
+    let mut told = TestLog::new(alloc);
     causes::tell(&mut told);
     datasets::tell(&mut told, alloc);
     fields::tell(&mut told, alloc);

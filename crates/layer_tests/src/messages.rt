@@ -1,7 +1,7 @@
 //! Sinks of messages that count calls and stop, and a long line.
 
-use crate::stories::tell_lines;
-use crate::told::Told;
+use crate::stories::log_lines;
+use crate::told::TestLog;
 use iim_dataset::Stop;
 use std::alloc::Global;
 use trials::{TrialWriter, Trouble};
@@ -83,7 +83,7 @@ fn read<S: StorySink>(
 
 /// Logs the first calls of a sink for an object in one chunk, and where and why the object is
 /// rejected.
-fn tell_calls(told: &mut Told, object: &[u8]) {
+fn log_calls(told: &mut TestLog, object: &[u8]) {
     let mut sink = Calls {
         first: arrayvec::ArrayVec::new(),
     };
@@ -92,9 +92,9 @@ fn tell_calls(told: &mut Told, object: &[u8]) {
     told.end(" ", &sink.first.as_slice());
 }
 
-fn runs_of_messages_are_passed_on_whole(told: &mut Told) {
-    tell_calls(told, STORY_OBJECT);
-    tell_calls(told, &long_object());
+fn runs_of_messages_are_passed_on_whole(told: &mut TestLog) {
+    log_calls(told, STORY_OBJECT);
+    log_calls(told, &long_object());
 }
 
 /// Reads an object in one chunk into lines, and once more if an allocation failed.
@@ -108,22 +108,22 @@ fn read_lines(alloc: Global, object: &[u8], lines: &mut Lines) -> Option<(usize,
 }
 
 /// Logs the lines that are stored of an object.
-fn tell_kept(told: &mut Told, alloc: Global, object: &[u8]) {
+fn log_kept(told: &mut TestLog, alloc: Global, object: &[u8]) {
     let trial = "a_long_line_is_kept";
     let mut lines = Lines::new(alloc);
     let answer = read_lines(alloc, object, &mut lines);
     told.begin(trial, " ", &object.len());
     told.end(" octets, ", &answer);
-    tell_lines(told, trial, &lines);
+    log_lines(told, trial, &lines);
 }
 
-fn a_long_line_is_kept(told: &mut Told, alloc: Global) {
-    tell_kept(told, alloc, &long_object());
+fn a_long_line_is_kept(told: &mut TestLog, alloc: Global) {
+    log_kept(told, alloc, &long_object());
 }
 
 /// Reads an object into a writer that fails after `good` octets, and logs the result and what was
 /// written.
-fn tell_stop(told: &mut Told, good: u64, by_octets: bool) {
+fn log_stop(told: &mut TestLog, good: u64, by_octets: bool) {
     let target: TrialWriter<32> = TrialWriter::new(good, Trouble::Failure);
     let mut sink = LineWriter::new(target);
     let answer = read(STORY_OBJECT, by_octets, &mut sink);
@@ -136,14 +136,14 @@ fn tell_stop(told: &mut Told, good: u64, by_octets: bool) {
     );
 }
 
-fn sinks_of_messages_that_stop(told: &mut Told) {
+fn sinks_of_messages_that_stop(told: &mut TestLog) {
     for good in [0, 4, 11, 12] {
-        tell_stop(told, good, false);
-        tell_stop(told, good, true);
+        log_stop(told, good, false);
+        log_stop(told, good, true);
     }
 }
 
-pub(crate) fn tell(told: &mut Told, alloc: Global) {
+pub(crate) fn tell(told: &mut TestLog, alloc: Global) {
     runs_of_messages_are_passed_on_whole(told);
     a_long_line_is_kept(told, alloc);
     sinks_of_messages_that_stop(told);

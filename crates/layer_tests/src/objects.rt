@@ -4,7 +4,7 @@ ghost use Rattle.std.specs.Prelude.{⊤};
 
 mod writing;
 
-use crate::told::Told;
+use crate::told::TestLog;
 use iim_dataset::Stop;
 use iim_object::{ObjectReader, ObjectSink};
 use std::alloc::Global;
@@ -61,7 +61,7 @@ fn make_counter(room: usize, refuses_end: bool) -> Counter {
 }
 
 /// Logs what a reader returns if its sink stops in a slice.
-fn stop_in_a_run(told: &mut Told, sink: &mut Counter) {
+fn stop_in_a_run(told: &mut TestLog, sink: &mut Counter) {
     let mut reader = ObjectReader::new();
     told.begin("stops_of_the_sink", " failed: ", &reader.is_failed());
     told.answer(", ", &reader.run(b"abcd", sink));
@@ -69,21 +69,21 @@ fn stop_in_a_run(told: &mut Told, sink: &mut Counter) {
 }
 
 /// Logs what a reader returns if its sink rejects the end.
-fn stop_at_the_end(told: &mut Told, sink: &mut Counter) {
+fn stop_at_the_end(told: &mut TestLog, sink: &mut Counter) {
     let mut reader = ObjectReader::new();
     told.begin("stops_of_the_sink", " failed: ", &reader.is_failed());
     told.answer(", ", &reader.head(9, 10, 4, sink));
     told.end(", failed: ", &reader.is_failed());
 }
 
-fn stops_of_the_sink(told: &mut Told) {
+fn stops_of_the_sink(told: &mut TestLog) {
     let mut sink = make_counter(3, true);
     stop_in_a_run(told, &mut sink);
     stop_at_the_end(told, &mut sink);
 }
 
 /// Logs what a reader returns for a slice, and what its sink has counted so far.
-fn tell_run(told: &mut Told, reader: &mut ObjectReader, sink: &mut Counter, run: &[u8]) {
+fn log_run(told: &mut TestLog, reader: &mut ObjectReader, sink: &mut Counter, run: &[u8]) {
     let trial = "runs_of_an_object";
     if reader.is_failed() {
         return told.line_of_words(trial, "failed");
@@ -95,15 +95,15 @@ fn tell_run(told: &mut Told, reader: &mut ObjectReader, sink: &mut Counter, run:
 }
 
 /// Checks that each slice of an object reaches the sink in one call.
-fn runs_of_an_object(told: &mut Told) {
+fn runs_of_an_object(told: &mut TestLog) {
     let mut reader = ObjectReader::new();
     let mut sink = make_counter(100, false);
-    tell_run(told, &mut reader, &mut sink, b"abcd");
-    tell_run(told, &mut reader, &mut sink, b"e");
-    tell_run(told, &mut reader, &mut sink, b"fghijk");
+    log_run(told, &mut reader, &mut sink, b"abcd");
+    log_run(told, &mut reader, &mut sink, b"e");
+    log_run(told, &mut reader, &mut sink, b"fghijk");
 }
 
-pub(crate) fn tell(told: &mut Told, alloc: Global) {
+pub(crate) fn tell(told: &mut TestLog, alloc: Global) {
     writing::tell(told, alloc);
     stops_of_the_sink(told);
     runs_of_an_object(told);

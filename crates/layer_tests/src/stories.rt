@@ -1,9 +1,9 @@
 //! Sinks of stories that count calls, stop, and write to failing writers.
 
 ghost use Rattle.std.specs.Prelude.{◌≡◌, ◌++◌, OnOk};
-ghost use Rattle.wire_story.specs.Format.Texts.{AreLines, IsLine, delivered};
+ghost use Rattle.wire_story.specs.Format.Texts.{HasLines, IsLine, delivered};
 
-use crate::told::{Told, count_of};
+use crate::told::{TestLog, count_of};
 use iim_dataset::Stop;
 use std::alloc::Global;
 use trials::{TrialSink, TrialWriter, Trouble};
@@ -56,9 +56,9 @@ impl StorySink for Calls {
 /// Reads a text in two slices, for any sink. Its contract follows from the contracts of the layer
 /// alone.
 fn read_in_two<S: StorySink>(front: &[u8], back: &[u8], sink: &mut S) -> Result<(), TextFault>
-    ensures text { OnOk result (AreLines (front.now ++ back.now)) }
+    ensures text { OnOk result (HasLines (front.now ++ back.now)) }
     ensures told { OnOk result (S.goes sink.old (delivered (front.now ++ back.now)) sink.new) }
-    ensures calm { OnOk result (S.failures sink.new ≡ S.failures sink.old) }
+    ensures no_failure { OnOk result (S.failures sink.new ≡ S.failures sink.old) }
 {
     let mut reader = TextReader::new();
     reader.run(front, sink)?;
@@ -94,7 +94,7 @@ fn read_lines(alloc: Global, text: &[u8], lines: &mut Lines) -> Result<(), TextF
 }
 
 /// Logs how many octets each line has, and how many of them are an `a`.
-pub(crate) fn tell_lines(told: &mut Told, trial: &str, lines: &Lines) {
+pub(crate) fn log_lines(told: &mut TestLog, trial: &str, lines: &Lines) {
     for line in lines.iter() {
         told.begin(trial, " a line of ", &line.len());
         told.answer(" octets, ", &count_of(b'a', line));
@@ -103,7 +103,7 @@ pub(crate) fn tell_lines(told: &mut Told, trial: &str, lines: &Lines) {
 }
 
 /// Logs what a sink counts of a text in one slice, and the result of reading the text.
-fn tell_calls(told: &mut Told, trial: &str, text: &[u8]) {
+fn log_calls(told: &mut TestLog, trial: &str, text: &[u8]) {
     let mut sink = Calls {
         calls: 0,
         octets: 0,
@@ -116,17 +116,17 @@ fn tell_calls(told: &mut Told, trial: &str, text: &[u8]) {
     told.end_words(" octets");
 }
 
-fn runs_of_texts_are_passed_on_whole(told: &mut Told) {
-    tell_calls(told, "runs_of_texts_are_passed_on_whole", RATES);
+fn runs_of_texts_are_passed_on_whole(told: &mut TestLog) {
+    log_calls(told, "runs_of_texts_are_passed_on_whole", RATES);
 }
 
-fn a_long_run_is_passed_on_whole(told: &mut Told, alloc: Global) {
+fn a_long_run_is_passed_on_whole(told: &mut TestLog, alloc: Global) {
     let trial = "a_long_run_is_passed_on_whole";
     let line = long_line();
-    tell_calls(told, trial, &line);
+    log_calls(told, trial, &line);
     let mut lines = Lines::new(alloc);
     told.line(trial, " ", &read_lines(alloc, &line, &mut lines));
-    tell_lines(told, trial, &lines);
+    log_lines(told, trial, &lines);
 }
 
 /// Appends octets to the lines. If the allocation fails, the lines must be unchanged, and a second
@@ -172,7 +172,7 @@ fn full_lines(lines: &Lines) -> usize {
     count
 }
 
-fn lines_bear_refused_growths(told: &mut Told, alloc: Global) {
+fn lines_bear_refused_growths(told: &mut TestLog, alloc: Global) {
     let mut lines = Lines::new(alloc);
     let borne = grow(&mut lines);
     told.begin("lines_bear_refused_growths", " ", &text_len(&lines));
@@ -180,7 +180,7 @@ fn lines_bear_refused_growths(told: &mut Told, alloc: Global) {
     told.end(" full lines, borne: ", &borne);
 }
 
-fn lines_are_written_past_interruptions(told: &mut Told) {
+fn lines_are_written_past_interruptions(told: &mut TestLog) {
     let target: TrialWriter<32> = TrialWriter::new(5, Trouble::Interruptions(3));
     let mut sink = LineWriter::new(target);
     let answer = read_by_octets(RATES, &mut sink);
@@ -190,7 +190,7 @@ fn lines_are_written_past_interruptions(told: &mut Told) {
 }
 
 /// Writes to a target that accepts `good` octets, one a call, and then fails.
-fn write_and_fail(told: &mut Told, good: u64) {
+fn write_and_fail(told: &mut TestLog, good: u64) {
     let target: TrialWriter<32> = TrialWriter::new(good, Trouble::Failure);
     let mut sink = LineWriter::new(target);
     let answer = read_in_two(RATES, b"", &mut sink);
@@ -199,7 +199,7 @@ fn write_and_fail(told: &mut Told, good: u64) {
 }
 
 /// Passes a slice and the end of a line to a sink, and begins a line of the results.
-fn begin_calls<S: StorySink>(told: &mut Told, trial: &str, words: &str, sink: &mut S, run: &[u8])
+fn begin_calls<S: StorySink>(told: &mut TestLog, trial: &str, words: &str, sink: &mut S, run: &[u8])
     requires { IsLine run.now }
 {
     told.begin(trial, words, &sink.text(run));
@@ -207,14 +207,14 @@ fn begin_calls<S: StorySink>(told: &mut Told, trial: &str, words: &str, sink: &m
 }
 
 /// Writes to a target with capacity for three octets.
-fn write_past_room(told: &mut Told) {
+fn write_past_room(told: &mut TestLog) {
     let full: TrialWriter<3> = TrialWriter::new(100, Trouble::Failure);
     let mut sink = LineWriter::new(full);
     begin_calls(told, "writes_that_fail", " full: ", &mut sink, b"abcd");
     told.end_octets(" ", sink.into_writer().octets());
 }
 
-fn writes_that_fail(told: &mut Told) {
+fn writes_that_fail(told: &mut TestLog) {
     for good in [0, 4, 11, 12, 21] {
         write_and_fail(told, good);
     }
@@ -229,7 +229,7 @@ fn trial_sink(good: u64, front: usize, room: u64) -> Stopping {
 }
 
 /// Logs how often a sink has stopped, and the octets that it passed on.
-fn tell_passed(told: &mut Told, trial: &str, sink: Stopping) {
+fn log_passed(told: &mut TestLog, trial: &str, sink: Stopping) {
     told.begin(trial, " ", &sink.failures());
     let target = sink.into_sink().into_writer();
     told.end_octets(" stops, ", target.octets());
@@ -237,7 +237,7 @@ fn tell_passed(told: &mut Told, trial: &str, sink: Stopping) {
 
 /// Begins a line of the result of reading a text with a sink of `good` good calls, which passes on
 /// `front` octets of a later one.
-fn stop_at_a_call<S: StorySink>(told: &mut Told, good: u64, front: usize, sink: &mut S) {
+fn stop_at_a_call<S: StorySink>(told: &mut TestLog, good: u64, front: usize, sink: &mut S) {
     let answer = read_in_two(RATES, b"", sink);
     told.begin(STOPPING, " ", &good);
     told.answer(" good, ", &front);
@@ -245,48 +245,48 @@ fn stop_at_a_call<S: StorySink>(told: &mut Told, good: u64, front: usize, sink: 
 }
 
 /// Logs how a sink stops, and what it passed on.
-fn tell_stop(told: &mut Told, good: u64, front: usize) {
+fn log_stop(told: &mut TestLog, good: u64, front: usize) {
     let mut sink = trial_sink(good, front, 100);
     stop_at_a_call(told, good, front, &mut sink);
     told.end_words("");
-    tell_passed(told, STOPPING, sink);
+    log_passed(told, STOPPING, sink);
 }
 
 /// Logs what a sink returns for calls after its good ones.
-fn tell_calls_after<S: StorySink>(told: &mut Told, sink: &mut S) {
+fn log_calls_after<S: StorySink>(told: &mut TestLog, sink: &mut S) {
     begin_calls(told, STOPPING, " then ", sink, b"ab");
     told.end(" ", &sink.text(b""));
 }
 
 /// Logs a sink that accepts the whole text, and stops then.
-fn stop_after_the_text(told: &mut Told) {
+fn stop_after_the_text(told: &mut TestLog) {
     let mut sink = trial_sink(3, 0, 100);
     stop_at_a_call(told, 3, 0, &mut sink);
     told.answer(", ", &sink.failures());
     told.end_words(" stops");
-    tell_calls_after(told, &mut sink);
-    tell_passed(told, STOPPING, sink);
+    log_calls_after(told, &mut sink);
+    log_passed(told, STOPPING, sink);
 }
 
 /// Stops sinks after different numbers of good calls, and of octets of a later one that are passed
 /// on.
-fn sinks_that_stop_at_a_call(told: &mut Told) {
-    tell_stop(told, 0, 4);
-    tell_stop(told, 1, 4);
-    tell_stop(told, 2, 0);
-    tell_stop(told, 2, 99);
+fn sinks_that_stop_at_a_call(told: &mut TestLog) {
+    log_stop(told, 0, 4);
+    log_stop(told, 1, 4);
+    log_stop(told, 2, 0);
+    log_stop(told, 2, 99);
     stop_after_the_text(told);
 }
 
-fn stops_of_the_other_sink_are_counted(told: &mut Told) {
+fn stops_of_the_other_sink_are_counted(told: &mut TestLog) {
     let trial = "stops_of_the_other_sink_are_counted";
     let mut sink = trial_sink(9, 9, 2);
     begin_calls(told, trial, " ", &mut sink, b"abc");
     told.end_words("");
-    tell_passed(told, trial, sink);
+    log_passed(told, trial, sink);
 }
 
-pub(crate) fn tell(told: &mut Told, alloc: Global) {
+pub(crate) fn tell(told: &mut TestLog, alloc: Global) {
     runs_of_texts_are_passed_on_whole(told);
     a_long_run_is_passed_on_whole(told, alloc);
     lines_bear_refused_growths(told, alloc);

@@ -7,15 +7,15 @@ use std::io::Write;
 /// The lines that the tests have logged so far. If an allocation fails the log has no text any
 /// more, so that no test needs to check each line.
 #[derive(Drop)]
-pub struct Told {
+pub struct TestLog {
     text: Vec<u8>,
     is_cut: bool,
 }
 
-impl Told {
+impl TestLog {
     /// Creates an empty log.
-    pub(crate) fn new(alloc: Global) -> Told {
-        Told {
+    pub(crate) fn new(alloc: Global) -> TestLog {
+        TestLog {
             text: Vec::new(alloc),
             is_cut: false,
         }

@@ -4,7 +4,7 @@
 
 ghost use Rattle.std.specs.Prelude.{◌≡◌, None, IfOk};
 ghost use Rattle.std.specs.Io.KnownBytes.{IsAtEnd};
-ghost use Rattle.iim_unpack.specs.States.Intakes.{in_line};
+ghost use Rattle.iim_unpack.specs.States.Intakes.{input_of};
 
 use anyhow::{Result, bail};
 use iim_dataset::{FromRead, Source};
@@ -45,7 +45,7 @@ fn main(rt: HostRuntime) -> ExitCode {
 fn receive<R: Source, W: Write>(alloc: Global, intake: &mut Intake<R>, output: &mut W) -> Result<u8>
     requires { intake.old.failed ≡ None }
     // The status is ACCEPTED only at the end of the input, and if none of it was rejected.
-    ensures { IfOk result (λ status. status ≡ ACCEPTED → IsAtEnd (in_line R.state intake.new).octets
+    ensures { IfOk result (λ status. status ≡ ACCEPTED → IsAtEnd (input_of R.state intake.new).octets
         × (intake.new.failed ≡ None)) }
 {
     'receiving: for number in 1..u64::MAX {

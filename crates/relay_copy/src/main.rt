@@ -3,7 +3,7 @@
 
 ghost use Rattle.std.specs.Prelude.{◌≡◌, ◌++◌, ◌∷◌, [], None, IfOk};
 ghost use Rattle.std.specs.Io.KnownBytes.{IsAtEnd};
-ghost use Rattle.iim_unpack.specs.States.Intakes.{in_line};
+ghost use Rattle.iim_unpack.specs.States.Intakes.{input_of};
 
 use anyhow::{Context, Result, bail};
 use iim_dataset::{FromRead, FromWrite, Source, Target};
@@ -40,7 +40,7 @@ fn relay<R: Source, W: Target + Drop>(
     output: W,
 ) -> Result<()>
     requires { intake.old.failed ≡ None }
-    ensures { IfOk result (λ _. IsAtEnd (in_line R.state intake.new).octets × (intake.new.failed ≡ None)) }
+    ensures { IfOk result (λ _. IsAtEnd (input_of R.state intake.new).octets × (intake.new.failed ≡ None)) }
 {
     let mut output = output;
     'receiving: for number in 1..u64::MAX {

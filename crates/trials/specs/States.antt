@@ -1,6 +1,6 @@
 -- Readers, writers and a sink of tests, as contracts see them.
 use Rattle.std.specs.Prelude.{◌≡◌, ℕ, ◌+◌, ◌<◌, ◌≤◌, ◌⊎◌, ◌↔◌, Bool, true, false, List, length, drop, None, Some, Option, ◌-◌, min}
-use Rattle.iim_dataset.specs.{States.Devices.Device, States.Devices.Calm, States.Devices.LaterThan, Format.Octets.Rose}
+use Rattle.iim_dataset.specs.{States.Devices.Device, States.Devices.CountedNoFault, States.Devices.IsAfterReads, Format.Octets.CounterRose}
 use Rattle.iim_dataset.specs.declared.device.IoFault.{IoFault, TheVariants.Interrupted, TheVariants.Failed}
 use Rattle.trials.specs.declared.{device.Plan.Plan, device.Trouble.Trouble, device.TrialReader.TrialReader}
 use Rattle.trials.specs.declared.{device.TrialWriter.TrialWriter, sink.TrialSink.TrialSink}
@@ -18,9 +18,9 @@ abbrev pub planned : Option (List ℕ) → Plan → Device
 planned octets p = record { octets = octets; failures = p.failures; interruptions = p.interruptions }
 
 -- the interruptions that remain
-abbrev pub trial_to_come : Trouble → ℕ
-trial_to_come Failure = 0
-trial_to_come (Interruptions left) = left
+abbrev pub interruptions_remaining : Trouble → ℕ
+interruptions_remaining Failure = 0
+interruptions_remaining (Interruptions left) = left
 
 -- whether failures are planned, and not interruptions
 abbrev pub has_failures : Trouble → Bool
@@ -28,25 +28,25 @@ has_failures Failure = true
 has_failures (Interruptions left) = false
 
 -- A call succeeded: it was one of the good ones, or they were used up and no interruption remained.
-abbrev pub WentWell : Plan → Plan → Type 0
-WentWell old new = (new.trouble ≡ old.trouble)
+abbrev pub CallSucceeded : Plan → Plan → Type 0
+CallSucceeded old new = (new.trouble ≡ old.trouble)
     × ((old.good ≡ new.good + 1) ⊎ ((old.good ≡ 0) × (new.good ≡ 0) × (old.trouble ≡ Interruptions 0)))
 
 -- The good calls were used up, and a call met the trouble: failures, or the first of the
 -- interruptions that remained.
-abbrev pub MetTrouble : Plan → Plan → IoFault → Type 0
-MetTrouble old new Failed = (old.good ≡ 0) × (new.good ≡ 0) × (old.trouble ≡ Failure) × (new.trouble ≡ Failure)
-MetTrouble old new Interrupted = (old.good ≡ 0) × (new.good ≡ 0)
+abbrev pub CallMetTrouble : Plan → Plan → IoFault → Type 0
+CallMetTrouble old new Failed = (old.good ≡ 0) × (new.good ≡ 0) × (old.trouble ≡ Failure) × (new.trouble ≡ Failure)
+CallMetTrouble old new Interrupted = (old.good ≡ 0) × (new.good ≡ 0)
     × ((left : ℕ) × (old.trouble ≡ Interruptions (left + 1)) × (new.trouble ≡ Interruptions left))
 
 -- Trouble comes as it was planned: none while good calls remain, no failure if interruptions are
 -- planned, and no interruption beyond those that remained.
-pub record GoesByPlan (old new : Plan) : Type 0 where
+pub record FollowsPlan (old new : Plan) : Type 0 where
   pub good : new.good ≤ old.good
-  pub calm : 0 < new.good → Calm (planned None old) (planned None new)
+  pub no_failure : 0 < new.good → CountedNoFault (planned None old) (planned None new)
   pub trouble : has_failures new.trouble ≡ has_failures old.trouble
   pub failures : (old.failures ≤ new.failures) × (has_failures old.trouble ≡ false → new.failures ≡ old.failures)
-  pub interruptions : new.interruptions + trial_to_come new.trouble ≤ old.interruptions + trial_to_come old.trouble
+  pub interruptions : new.interruptions + interruptions_remaining new.trouble ≤ old.interruptions + interruptions_remaining old.trouble
   pub later : old.interruptions ≤ new.interruptions
 
 -- a reader of known octets as a source
@@ -60,9 +60,9 @@ abbrev pub writer_plan : {N : ℕ} → TrialWriter N → Plan
 writer_plan w = w.plan
 
 -- What reads can reach: fewer octets remain, and trouble comes by the plan.
-pub record ReadsOn (old new : TrialReader) : Type 0 where
-  pub later : LaterThan (trial_device old) (trial_device new)
-  pub plan : GoesByPlan old.plan new.plan
+pub record ReadsByPlan (old new : TrialReader) : Type 0 where
+  pub later : IsAfterReads (trial_device old) (trial_device new)
+  pub plan : FollowsPlan old.plan new.plan
 
 -- the octets that a test target accepted
 abbrev pub taken_octets : {N : ℕ} → TrialWriter N → List ℕ
@@ -73,8 +73,8 @@ abbrev pub trial_target : {N : ℕ} → TrialWriter N → Device
 trial_target w = planned (Some (taken_octets w)) w.plan
 
 -- One octet of the chunk is accepted if there is capacity for it, and otherwise none.
-abbrev pub TakesOne : ℕ → List ℕ → List ℕ → ℕ → Type 0
-TakesOne room taken piece n = (n ≤ 1) × ((n ≡ 0) ↔ ((length piece ≡ 0) ⊎ (room ≤ length taken)))
+abbrev pub AcceptsOneOctet : ℕ → List ℕ → List ℕ → ℕ → Type 0
+AcceptsOneOctet room taken piece n = (n ≤ 1) × ((n ≡ 0) ↔ ((length piece ≡ 0) ⊎ (room ≤ length taken)))
 
 -- ---- A sink of tests.
 
@@ -95,17 +95,17 @@ abbrev pub failures_of : {S : Type 0} → TrialSink S → ℕ
 failures_of trial = trial.failures
 
 -- The sink that calls are passed on to received the events.
-abbrev pub PassesOn : {S : Type 0} → (S → List StoryEvent → S → Type 0) → TrialSink S → List StoryEvent → TrialSink S → Type 0
-PassesOn goes old events new = goes (sink_of old) events (sink_of new)
+abbrev pub PassesEventsOn : {S : Type 0} → (S → List StoryEvent → S → Type 0) → TrialSink S → List StoryEvent → TrialSink S → Type 0
+PassesEventsOn goes old events new = goes (sink_of old) events (sink_of new)
 
 -- A call was made: one good call less remains, if one remained.
-abbrev pub UsesCall : {S : Type 0} → TrialSink S → TrialSink S → Type 0
-UsesCall old new = (front_of new ≡ front_of old)
+abbrev pub CountsCall : {S : Type 0} → TrialSink S → TrialSink S → Type 0
+CountsCall old new = (front_of new ≡ front_of old)
     × ((good_of old ≡ good_of new + 1) ⊎ ((good_of old ≡ 0) × (good_of new ≡ 0)))
 
 -- A slice of `len` octets was rejected after the first `taken`. Either no good call remained, and
 -- `taken` is the number of octets of a call that are passed on before a stop, or all but the last
 -- if that is fewer; or the sink that calls are passed on to rejected it.
-abbrev pub StopsByPlan : {S : Type 0} → (S → ℕ) → TrialSink S → ℕ → ℕ → TrialSink S → Type 0
-StopsByPlan failures old len taken new = ((good_of old ≡ 0) × (taken ≡ min (front_of old) (len - 1)))
-    ⊎ Rose (failures (sink_of old)) (failures (sink_of new))
+abbrev pub StopsAsPlanned : {S : Type 0} → (S → ℕ) → TrialSink S → ℕ → ℕ → TrialSink S → Type 0
+StopsAsPlanned failures old len taken new = ((good_of old ≡ 0) × (taken ≡ min (front_of old) (len - 1)))
+    ⊎ CounterRose (failures (sink_of old)) (failures (sink_of new))

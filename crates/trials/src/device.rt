@@ -1,8 +1,8 @@
 //! A reader and a writer that fail at a chosen call, for tests.
 
 ghost use Rattle.std.specs.Prelude.{◌≡◌, ◌≤◌, [], Some, None, IfOk, IfErr, OnOk};
-ghost use Rattle.iim_dataset.specs.States.Devices.{Gave, Accepted, Calm, Faulted, CountedFailure, unbroken};
-ghost use Rattle.trials.specs.States.{planned, new_plan, trial_device, reader_plan, writer_plan, taken_octets, trial_target, TakesOne, WentWell, MetTrouble, GoesByPlan, ReadsOn};
+ghost use Rattle.iim_dataset.specs.States.Devices.{ReadGave, WriteAccepted, CountedNoFault, CountedFault, CountedFailure, unbroken};
+ghost use Rattle.trials.specs.States.{planned, new_plan, trial_device, reader_plan, writer_plan, taken_octets, trial_target, AcceptsOneOctet, CallSucceeded, CallMetTrouble, FollowsPlan, ReadsByPlan};
 
 use arrayvec::ArrayVec;
 use iim_dataset::{IoFault, Source, Target};
@@ -39,11 +39,11 @@ impl Plan {
 
     /// Begins a call, and returns what goes wrong with it.
     fn call(&mut self) -> Result<(), IoFault>
-        ensures ok { OnOk result (Calm (planned None self.old) (planned None self.new)) }
-        ensures err { IfErr result (Faulted (planned None self.old) (planned None self.new)) }
-        ensures well { OnOk result (WentWell self.old self.new) }
-        ensures trouble { IfErr result (MetTrouble self.old self.new) }
-        ensures plan { GoesByPlan self.old self.new }
+        ensures ok { OnOk result (CountedNoFault (planned None self.old) (planned None self.new)) }
+        ensures err { IfErr result (CountedFault (planned None self.old) (planned None self.new)) }
+        ensures well { OnOk result (CallSucceeded self.old self.new) }
+        ensures trouble { IfErr result (CallMetTrouble self.old self.new) }
+        ensures plan { FollowsPlan self.old self.new }
     {
         if self.good > 0 {
             self.good -= 1;
@@ -97,7 +97,7 @@ impl<'a> TrialReader<'a> {
 impl Source for TrialReader<'_> {
     ghost state = { trial_device };
 
-    ghost leads = { ReadsOn };
+    ghost leads = { ReadsByPlan };
 
     ghost use Rattle.trials.specs.DeviceLaws.{reads_on_stays, reads_on_leads_on};
 
@@ -106,13 +106,13 @@ impl Source for TrialReader<'_> {
     ghost leads_on = { reads_on_leads_on };
 
     fn read(&mut self, buffer: &mut [u8]) -> Result<usize, IoFault>
-        ensures ok { IfOk result (Gave (trial_device self.old) (trial_device self.new) buffer.new) }
-        ensures calm { OnOk result (Calm (trial_device self.old) (trial_device self.new)) }
-        ensures err { IfErr result (Faulted (trial_device self.old) (trial_device self.new)) }
-        ensures leads { ReadsOn self.old self.new }
+        ensures ok { IfOk result (ReadGave (trial_device self.old) (trial_device self.new) buffer.new) }
+        ensures no_failure { OnOk result (CountedNoFault (trial_device self.old) (trial_device self.new)) }
+        ensures err { IfErr result (CountedFault (trial_device self.old) (trial_device self.new)) }
+        ensures leads { ReadsByPlan self.old self.new }
         ensures one { IfOk result (λ n. n ≤ 1) }
-        ensures well { OnOk result (WentWell (reader_plan self.old) (reader_plan self.new)) }
-        ensures trouble { IfErr result (MetTrouble (reader_plan self.old) (reader_plan self.new)) }
+        ensures well { OnOk result (CallSucceeded (reader_plan self.old) (reader_plan self.new)) }
+        ensures trouble { IfErr result (CallMetTrouble (reader_plan self.old) (reader_plan self.new)) }
     {
         self.plan.call()?;
         if self.at >= self.octets.len() || buffer.is_empty() {
@@ -156,11 +156,11 @@ impl<const N: usize> Target for TrialWriter<N> {
     ghost state = { trial_target };
 
     fn write(&mut self, piece: &[u8]) -> Result<usize, IoFault>
-        ensures ok { IfOk result (Accepted (trial_target self.old) (trial_target self.new) piece.now) }
-        ensures err { IfErr result (Faulted (trial_target self.old) (trial_target self.new)) }
-        ensures one { IfOk result (TakesOne N (taken_octets self.old) piece.now) }
-        ensures well { OnOk result (WentWell (writer_plan self.old) (writer_plan self.new)) }
-        ensures trouble { IfErr result (MetTrouble (writer_plan self.old) (writer_plan self.new)) }
+        ensures ok { IfOk result (WriteAccepted (trial_target self.old) (trial_target self.new) piece.now) }
+        ensures err { IfErr result (CountedFault (trial_target self.old) (trial_target self.new)) }
+        ensures one { IfOk result (AcceptsOneOctet N (taken_octets self.old) piece.now) }
+        ensures well { OnOk result (CallSucceeded (writer_plan self.old) (writer_plan self.new)) }
+        ensures trouble { IfErr result (CallMetTrouble (writer_plan self.old) (writer_plan self.new)) }
     {
         self.plan.call()?;
         if piece.is_empty() {

@@ -1,7 +1,7 @@
 //! A sink that stops at a chosen call, for tests.
 
 ghost use Rattle.std.specs.Prelude.{◌≡◌, ◌<◌, [], ◌∷◌, length, map, take, IsErr, IfErr, OnOk, OnErr};
-ghost use Rattle.iim_dataset.specs.Format.Octets.{Rose};
+ghost use Rattle.iim_dataset.specs.Format.Octets.{CounterRose};
 ghost use Rattle.wire_story.specs.Format.Texts.{IsLine, LineOctet, LineEnd};
 
 use iim_dataset::Stop;
@@ -20,7 +20,7 @@ pub struct TrialSink<S> {
 }
 
 impl<S: StorySink> TrialSink<S> {
-    ghost use Rattle.trials.specs.States.{sink_of, good_of, front_of, failures_of, PassesOn, UsesCall, StopsByPlan};
+    ghost use Rattle.trials.specs.States.{sink_of, good_of, front_of, failures_of, PassesEventsOn, CountsCall, StopsAsPlanned};
 
     /// Creates a sink with `good` good calls, which then stops after `front` octets of a slice, or
     /// after all but its last.
@@ -64,7 +64,7 @@ impl<S: StorySink> TrialSink<S> {
         ensures sink { sink_of self.new ≡ sink_of self.old }
         ensures good { good_of self.new ≡ good_of self.old }
         ensures front { front_of self.new ≡ front_of self.old }
-        ensures counted { Rose (failures_of self.old) (failures_of self.new) }
+        ensures counted { CounterRose (failures_of self.old) (failures_of self.new) }
     {
         self.failures = self.failures.saturating_add(1);
         Stop { taken }
@@ -73,14 +73,14 @@ impl<S: StorySink> TrialSink<S> {
     /// Passes octets on, and counts a stop of the other sink.
     fn pass(&mut self, run: &[u8]) -> Result<(), Stop>
         requires { IsLine run.now }
-        ensures ok { OnOk result (PassesOn S.goes self.old (map LineOctet run.now) self.new) }
-        ensures calm { OnOk result (failures_of self.new ≡ failures_of self.old) }
+        ensures ok { OnOk result (PassesEventsOn S.goes self.old (map LineOctet run.now) self.new) }
+        ensures no_failure { OnOk result (failures_of self.new ≡ failures_of self.old) }
         ensures refused { IfErr result (λ stop. stop.taken < length run.now) }
         ensures passed { IfErr result (λ stop.
-            PassesOn S.goes self.old (map LineOctet (take stop.taken run.now)) self.new) }
-        ensures counted { OnErr result (Rose (failures_of self.old) (failures_of self.new)) }
+            PassesEventsOn S.goes self.old (map LineOctet (take stop.taken run.now)) self.new) }
+        ensures counted { OnErr result (CounterRose (failures_of self.old) (failures_of self.new)) }
         ensures plan { (good_of self.new ≡ good_of self.old) × (front_of self.new ≡ front_of self.old) }
-        ensures stopped { OnErr result (Rose (S.failures (sink_of self.old)) (S.failures (sink_of self.new))) }
+        ensures stopped { OnErr result (CounterRose (S.failures (sink_of self.old)) (S.failures (sink_of self.new))) }
     {
         match self.sink.text(run) {
             Ok(()) => Ok(()),
@@ -90,9 +90,9 @@ impl<S: StorySink> TrialSink<S> {
 }
 
 impl<S: StorySink> StorySink for TrialSink<S> {
-    ghost use Rattle.trials.specs.States.{sink_of, good_of, failures_of, PassesOn, UsesCall, StopsByPlan};
+    ghost use Rattle.trials.specs.States.{sink_of, good_of, failures_of, PassesEventsOn, CountsCall, StopsAsPlanned};
 
-    ghost goes = { PassesOn S.goes };
+    ghost goes = { PassesEventsOn S.goes };
 
     ghost failures = { failures_of };
 
@@ -102,14 +102,14 @@ impl<S: StorySink> StorySink for TrialSink<S> {
 
     fn text(&mut self, run: &[u8]) -> Result<(), Stop>
         requires { IsLine run.now }
-        ensures ok { OnOk result (PassesOn S.goes self.old (map LineOctet run.now) self.new) }
-        ensures calm { OnOk result (failures_of self.new ≡ failures_of self.old) }
+        ensures ok { OnOk result (PassesEventsOn S.goes self.old (map LineOctet run.now) self.new) }
+        ensures no_failure { OnOk result (failures_of self.new ≡ failures_of self.old) }
         ensures refused { IfErr result (λ stop. stop.taken < length run.now) }
         ensures front { IfErr result (λ stop.
-            PassesOn S.goes self.old (map LineOctet (take stop.taken run.now)) self.new) }
-        ensures counted { OnErr result (Rose (failures_of self.old) (failures_of self.new)) }
-        ensures call { UsesCall self.old self.new × (good_of self.old ≡ 0 → 0 < length run.now → IsErr result) }
-        ensures plan { IfErr result (λ stop. StopsByPlan S.failures self.old (length run.now) stop.taken self.new) }
+            PassesEventsOn S.goes self.old (map LineOctet (take stop.taken run.now)) self.new) }
+        ensures counted { OnErr result (CounterRose (failures_of self.old) (failures_of self.new)) }
+        ensures call { CountsCall self.old self.new × (good_of self.old ≡ 0 → 0 < length run.now → IsErr result) }
+        ensures plan { IfErr result (λ stop. StopsAsPlanned S.failures self.old (length run.now) stop.taken self.new) }
     {
         if self.good > 0 {
             self.good -= 1;
@@ -124,13 +124,13 @@ impl<S: StorySink> StorySink for TrialSink<S> {
     }
 
     fn line_end(&mut self) -> Result<(), Stop>
-        ensures ok { OnOk result (PassesOn S.goes self.old (LineEnd ∷ []) self.new) }
-        ensures calm { OnOk result (failures_of self.new ≡ failures_of self.old) }
+        ensures ok { OnOk result (PassesEventsOn S.goes self.old (LineEnd ∷ []) self.new) }
+        ensures no_failure { OnOk result (failures_of self.new ≡ failures_of self.old) }
         ensures refused { IfErr result (λ stop. stop.taken ≡ 0) }
-        ensures front { OnErr result (PassesOn S.goes self.old [] self.new) }
-        ensures counted { OnErr result (Rose (failures_of self.old) (failures_of self.new)) }
-        ensures call { UsesCall self.old self.new × (good_of self.old ≡ 0 → IsErr result) }
-        ensures plan { IfErr result (λ stop. StopsByPlan S.failures self.old 1 stop.taken self.new) }
+        ensures front { OnErr result (PassesEventsOn S.goes self.old [] self.new) }
+        ensures counted { OnErr result (CounterRose (failures_of self.old) (failures_of self.new)) }
+        ensures call { CountsCall self.old self.new × (good_of self.old ≡ 0 → IsErr result) }
+        ensures plan { IfErr result (λ stop. StopsAsPlanned S.failures self.old 1 stop.taken self.new) }
     {
         if self.good == 0 {
             return Err(self.stop(0));

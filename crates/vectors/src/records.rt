@@ -1,7 +1,7 @@
 //! Questions about records that are checked, and envelopes that are read and built.
 
 ghost use Rattle.std.specs.Prelude.{◌≢◌, length, OnOk};
-ghost use Rattle.iim_fields.specs.States.Standing.{IsBetween, IsInside, TakesHead};
+ghost use Rattle.iim_fields.specs.States.Standing.{IsBetweenDatasets, IsInsideDataset, AcceptsHead};
 
 use crate::values::limits_of;
 use crate::views::{print_fields, print_views, print_walk};
@@ -84,9 +84,9 @@ fn tell_number(text: &mut Answers, head: Head, number: u64) {
 
 /// Passes all octets of the dataset in progress, in one chunk or one by one.
 fn give(fields: &mut Fields, head: Head, octets: &[u8], one_by_one: bool)
-    requires inside { IsInside fields.old head (length octets.now) }
+    requires inside { IsInsideDataset fields.old head (length octets.now) }
     requires value { head.rec ≢ 8 }
-    ensures { IsInside fields.new head 0 }
+    ensures { IsInsideDataset fields.new head 0 }
 {
     if !one_by_one {
         fields.bytes(octets);
@@ -104,8 +104,8 @@ fn pass(
     data: &[u8],
     one_by_one: bool,
 ) -> Result<Option<u64>, FieldFault>
-    requires between { IsBetween fields.old }
-    ensures { OnOk result (IsBetween fields.new) }
+    requires between { IsBetweenDatasets fields.old }
+    ensures { OnOk result (IsBetweenDatasets fields.new) }
 {
     if head.rec == 8 {
         fields.begin(head)?;
@@ -120,7 +120,7 @@ fn pass(
 
 /// Passes octets of the dataset in progress, if they are not more than its head allows.
 fn give_some(fields: &mut Fields, head: Head, octets: &[u8])
-    requires inside { IsInside fields.old head head.count }
+    requires inside { IsInsideDataset fields.old head head.count }
     requires value { head.rec ≢ 8 }
 {
     if octets.len() as u64 <= head.count {
@@ -130,7 +130,7 @@ fn give_some(fields: &mut Fields, head: Head, octets: &[u8])
 
 /// Begins a dataset of which only these data were received. Returns its error.
 fn begin(fields: &mut Fields, head: Head, data: &[u8]) -> Option<FieldFault>
-    requires { IsBetween fields.old }
+    requires { IsBetweenDatasets fields.old }
 {
     if let Err(fault) = fields.begin(head) {
         return Some(fault);
@@ -143,7 +143,7 @@ fn begin(fields: &mut Fields, head: Head, data: &[u8]) -> Option<FieldFault>
 
 /// Passes the datasets that the octets encode, and prints their numbers, up to the first error.
 fn pass_datasets(text: &mut Answers, fields: &mut Fields, octets: &[u8], one_by_one: bool)
-    requires { IsBetween fields.old }
+    requires { IsBetweenDatasets fields.old }
 {
     let mut rest = octets;
     for _ in 0..octets.len() {
@@ -186,7 +186,7 @@ fn tell_place(text: &mut Answers, fields: &Fields) {
     text.show(&fields.section());
     if fields.is_failed() {
         text.put(", failed");
-    } else if let Some(head) = fields.begun_head() {
+    } else if let Some(head) = fields.current_head() {
         tell_begun(text, head, fields.begun());
     }
     text.end();
@@ -212,8 +212,8 @@ fn read_fields(
 
 /// Checks a dataset with these data. Returns the number that it encodes.
 fn check(check: &mut RecordCheck, head: Head, data: &[u8]) -> Result<Option<u64>, FieldFault>
-    requires { TakesHead check.old }
-    ensures { OnOk result (TakesHead check.new) }
+    requires { AcceptsHead check.old }
+    ensures { OnOk result (AcceptsHead check.new) }
 {
     if head.rec == 8 {
         check.head(head)?;
@@ -226,7 +226,7 @@ fn check(check: &mut RecordCheck, head: Head, data: &[u8]) -> Result<Option<u64>
 
 /// Checks the datasets that the octets encode, and prints their numbers, up to the first error.
 fn check_datasets(text: &mut Answers, records: &mut RecordCheck, octets: &[u8])
-    requires { TakesHead records.old }
+    requires { AcceptsHead records.old }
 {
     let mut rest = octets;
     for _ in 0..octets.len() {

@@ -1,6 +1,6 @@
 //! The reply to a question.
 
-use iim_dataset::{DatasetName, push_shown};
+use iim_dataset::{DatasetName, push_with_escapes};
 use std::alloc::Global;
 use std::fmt::{Debug, Display};
 use std::io::Write;
@@ -162,7 +162,7 @@ impl Answers {
 
     /// Appends octets as the libraries escape them.
     pub fn shown(&mut self, octets: &[u8]) {
-        if push_shown(&mut self.text, octets).is_err() {
+        if push_with_escapes(&mut self.text, octets).is_err() {
             self.lack_memory();
         }
     }

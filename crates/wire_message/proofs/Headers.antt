@@ -1,7 +1,7 @@
 -- An object is a message in at most one way; the header and the trailer that a reader returns are
 -- those of the octets so far.
 use Rattle.std.proofs.Common.{◌≡◌, ℕ, ◌==◌, true, false, IsSome, Option, Some, None, List, [], ◌∷◌, ◌++◌, refl, sym, ap, subst, ◌∙◌, arith, is_some, length}
-use Rattle.wire_message.proofs.Names.{list_any, before_first, after_first, both_ways, nat_tests, Are, is_trailer_octet, Header, IsTrailer, BeginsWithHeader, fixed_header, IsMessage, after_stx, trailer_so_far, LeadsTo, head_read, trailer_read, TellsHeaderOf, HeadersAreToldFromStx, TrailersAreToldFromEtx, MessagesKeepTheirHeader, TrailersStandBetweenEtxAndEot, Place, Text, Trailer, AfterEnd, Filler, append_cancel_right, same_Some, ArrayVec}
+use Rattle.wire_message.proofs.Names.{list_any, before_first, after_first, both_ways, nat_tests, Are, is_trailer_octet, Header, IsTrailer, BeginsWithHeader, fixed_header, IsMessage, after_stx, trailer_so_far, ReachesMessageState, head_read, trailer_read, ReturnsHeaderOf, HeadersAreReturnedFromStx, TrailersAreReturnedFromEtx, MessagesKeepTheirHeader, TrailersAreBetweenEtxAndEot, Place, Text, Trailer, AfterEnd, Filler, append_cancel_right, same_Some, ArrayVec}
 use Rattle.wire_message.proofs.{Machine.led, Machine.of, Machine.run, Machine.message_stands, Machine.one_end, Transitions.join2, Transitions.join3}
 use Rattle.wire_message.proofs.TextSoFar.{is_not, after_is, before_is, before_none, any_none, any_found, none_after, no_stx, no_etx, after_head, head_begins, text_begins, trailer_begins, message_begins, each, text_at}
 use Rattle.wire_message.proofs.Runs.{spelled_runs}
@@ -50,13 +50,13 @@ begins_has_stx octets h b =
     rw (b.parts, ← join2 b.before (fixed_header h) b.info b.gap (2 ∷ b.rest))
     (any_found 2 (b.before ++ (1 ∷ (fixed_header h ++ (b.info ++ b.gap)))) b.rest refl)
 
-is_told : (reader : Option Place) (octets : List ℕ) (h : Header) → head_read reader ≡ Some h → BeginsWithHeader octets h → TellsHeaderOf reader octets
+is_told : (reader : Option Place) (octets : List ℕ) (h : Header) → head_read reader ≡ Some h → BeginsWithHeader octets h → ReturnsHeaderOf reader octets
 is_told reader octets h e b = record {
   told = (λ some. begins_has_stx octets h b, λ stx. subst IsSome (sym e) refl);
   parts = λ head. (λ same. rw (same_Some h head (sym e ∙ same)) at b, λ other. e ∙ ap Some (one_head octets h head b other));
 }
 
-not_told : (reader : Option Place) (octets : List ℕ) → head_read reader ≡ None → Are (is_not 2) octets → TellsHeaderOf reader octets
+not_told : (reader : Option Place) (octets : List ℕ) → head_read reader ≡ None → Are (is_not 2) octets → ReturnsHeaderOf reader octets
 not_told reader octets e quiet =
     let none : list_any (λ b. b == 2) octets ≡ false = any_none 2 octets quiet in
     record {
@@ -64,13 +64,13 @@ not_told reader octets e quiet =
       parts = λ head. (λ same. absurd cc, λ b. absurd (both_ways (list_any (λ b. b == 2) octets) none (begins_has_stx octets head b)));
     }
 
-header_at : (octets text : List ℕ) (p : Place) → LeadsTo octets text p → TellsHeaderOf (Some p) octets
+header_at : (octets text : List ℕ) (p : Place) → ReachesMessageState octets text p → ReturnsHeaderOf (Some p) octets
 header_at octets text (Text h r) l = is_told (Some (Text h r)) octets h refl (text_begins octets text h r l.is_place.0 l.spelled)
 header_at octets text (Trailer h t) l = is_told (Some (Trailer h t)) octets h refl (trailer_begins octets text h t l.is_place.0 l.spelled)
 header_at octets text (AfterEnd h t k) l = is_told (Some (AfterEnd h t k)) octets h refl (message_begins octets h text t.items l.spelled.0)
 header_at octets text p l = not_told (Some p) octets refl (no_stx octets text p (led l) refl)
 
-pub headers_told : HeadersAreToldFromStx
+pub headers_told : HeadersAreReturnedFromStx
 headers_told reader octets text stands = rw stands.1 (header_at octets text stands.0 stands.2)
 
 -- ---- The trailer.
@@ -85,7 +85,7 @@ trailer_in rest = before_first (λ b. b == 4) (after_first (λ b. b == 3) rest)
 no_eot : (trailer : List ℕ) → IsTrailer trailer → Are (is_not 4) trailer
 no_eot trailer is = each is_trailer_octet (is_not 4) trailer trailer_not is.0
 
-pub trailer_of_message : TrailersStandBetweenEtxAndEot
+pub trailer_of_message : TrailersAreBetweenEtxAndEot
 trailer_of_message object text trailer head m =
     ap trailer_in (after_head object head (message_begins object head text trailer m))
     ∙ (ap (before_first (λ b. b == 4)) (after_is 3 text (trailer ++ (4 ∷ m.after)) (no_etx text m.is_text) refl)
@@ -94,7 +94,7 @@ trailer_of_message object text trailer head m =
 no_trailer : (octets rest : List ℕ) → after_stx octets ≡ rest → Are (is_not 3) rest → [] ≡ trailer_so_far octets
 no_trailer octets rest e are = sym (ap trailer_in e ∙ ap (before_first (λ b. b == 4)) (none_after 3 rest are))
 
-trailer_at : (octets text : List ℕ) (p : Place) → LeadsTo octets text p → trailer_read (Some p) ≡ trailer_so_far octets
+trailer_at : (octets text : List ℕ) (p : Place) → ReachesMessageState octets text p → trailer_read (Some p) ≡ trailer_so_far octets
 trailer_at octets text (Text h r) l =
     no_trailer octets text (after_head octets h (text_begins octets text h r l.is_place.0 l.spelled)) (no_etx text l.spelled.6)
 trailer_at octets text (Trailer h t) l =
@@ -103,5 +103,5 @@ trailer_at octets text (Trailer h t) l =
 trailer_at octets text (AfterEnd h t k) l = sym (trailer_of_message octets text t.items h l.spelled.0)
 trailer_at octets text p l = no_trailer octets [] (none_after 2 octets (no_stx octets text p (led l) refl)) refl
 
-pub trailers_told : TrailersAreToldFromEtx
+pub trailers_told : TrailersAreReturnedFromEtx
 trailers_told reader octets text stands = rw stands.1 (trailer_at octets text stands.0 stands.2)

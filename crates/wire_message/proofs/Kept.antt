@@ -1,7 +1,7 @@
 -- A header is stored as the octets of its parts with one octet between two of them, whichever it
 -- is. One that is complete at the start takes the reader from filler to the text.
 use Rattle.std.proofs.Common.{◌≡◌, ◌⊎◌, ℕ, ◌+◌, ◌-◌, List, [], ◌∷◌, ◌++◌, length, take, refl, ap, ◌∙◌, arith, append_assoc, length-append, inl, inr}
-use Rattle.wire_message.proofs.Names.{slice_range, take-append_seam, drop-append_seam, TextReader, Header, header_of, IsHeader, SpellsInfo, fixed_header, TakesSome, Filler, Text, BeginsWithHeader, IsGap}
+use Rattle.wire_message.proofs.Names.{slice_range, take-append_seam, drop-append_seam, TextReader, Header, header_of, IsHeader, EncodesInfo, fixed_header, ConsumesAnOctet, Filler, Text, BeginsWithHeader, IsGap}
 use Rattle.wire_message.proofs.{Alike.stands_two, TextSoFar.head_begins}
 use Rattle.wire_story.specs.States.Reading as story
 use Rattle.wire_message.specs.Kept.{parts_in, ends_of, IsKept}
@@ -66,12 +66,12 @@ kept_made s n p c w i o0 o1 o2 o3 o4 o5 ends e0 e1 e2 e3 e4 e5 =
 
 -- An info with its SP, or no info.
 pub info_spelled : (info octets rest : List ℕ) → (octets ≡ 32 ∷ (info ++ rest)) ⊎ ((info ≡ []) × (octets ≡ rest))
-    → (spelled : List ℕ) × SpellsInfo info spelled × (octets ≡ spelled ++ rest)
+    → (spelled : List ℕ) × EncodesInfo info spelled × (octets ≡ spelled ++ rest)
 info_spelled info octets rest (inl some) = (32 ∷ info, inr refl, some)
 info_spelled info octets rest (inr (empty, same)) = ([], inl (empty, refl), same)
 
 -- The octet after the words, and what follows the info.
-after_words : (i spelled gap rest : List ℕ) → SpellsInfo i spelled → (b : ℕ) × (tail : List ℕ) × (spelled ++ (gap ++ (2 ∷ rest)) ≡ b ∷ (i ++ tail))
+after_words : (i spelled gap rest : List ℕ) → EncodesInfo i spelled → (b : ℕ) × (tail : List ℕ) × (spelled ++ (gap ++ (2 ∷ rest)) ≡ b ∷ (i ++ tail))
 after_words i spelled gap rest (inr some) = (32, gap ++ (2 ∷ rest), rw some refl)
 after_words i spelled [] rest (inl none) = (2, rest, rw (none.0, none.1) refl)
 after_words i spelled (b ∷ gap) rest (inl none) = (b, gap ++ (2 ∷ rest), rw (none.0, none.1) refl)
@@ -83,7 +83,7 @@ joined s n p c w xs = simp append_assoc
 -- The octets were split into the parts of a header, each followed by the rest.
 pub front_kept : (o r1 s r2 n r3 r4 p r5 r6 c r7 r8 w r9 i r10 rest : List ℕ) (k : ℕ) (ends : Ends) → o ≡ 1 ∷ r1 → r1 ≡ s ++ r2 → r2 ≡ n ++ r3 → r3 ≡ 32 ∷ r4
     → r4 ≡ p ++ r5 → r5 ≡ 32 ∷ r6 → r6 ≡ c ++ r7 → r7 ≡ 32 ∷ r8 → r8 ≡ w ++ r9
-    → (spelled : List ℕ) × SpellsInfo i spelled × (r9 ≡ spelled ++ r10) → (gap : List ℕ) × IsGap gap × (r10 ≡ gap ++ (2 ∷ rest))
+    → (spelled : List ℕ) × EncodesInfo i spelled × (r9 ≡ spelled ++ r10) → (gap : List ℕ) × IsGap gap × (r10 ≡ gap ++ (2 ∷ rest))
     → IsHeader (header_of s n p c w i)
     → ends ≡ ends_of s n c w → k ≡ length s + length n + 3 + length c + 1 + length w + 1 + length i
     → ((begins : BeginsWithHeader o (parts_in (take k r1) ends)) × (begins.before ≡ []) × (begins.rest ≡ rest)) × IsKept (take k r1) ends
@@ -102,7 +102,7 @@ front_is : (a i g rest : List ℕ) → 1 ∷ (a ++ (i ++ (g ++ (2 ∷ rest)))) �
 front_is a i g rest = simp append_assoc
 
 pub text_from_head : (k : ℕ) (octets rest : List ℕ) (h : Header) (r : TextReader) → (f : BeginsWithHeader octets h) → f.before ≡ [] → f.rest ≡ rest
-    → story.StandsAt r [] → TakesSome (Filler k) octets (Text h r) (length octets - length rest)
+    → story.TextReaderHasRead r [] → ConsumesAnOctet (Filler k) octets (Text h r) (length octets - length rest)
 text_from_head k octets rest h r f none left stands =
     let front : List ℕ = 1 ∷ (fixed_header h ++ (f.info ++ (f.gap ++ (2 ∷ [])))) in
     let is : octets ≡ front ++ rest = rw (none, left) at f.parts ∙ front_is (fixed_header h) f.info f.gap rest in

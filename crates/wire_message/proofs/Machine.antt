@@ -1,6 +1,6 @@
 -- Reading a message octet by octet: the state after each octet, without the reader of the text.
 use Rattle.std.proofs.Common.{◌≡◌, ℕ, ◌+◌, ◌<◌, ◌≤◌, Bool, true, false, ◌&&◌, ◌||◌, ◌==◌, nat_lt, cond, List, [], ◌∷◌, ◌++◌, length, Option, Some, None, refl, ap, ◌∙◌, arith, append_assoc, append-nil, length-append, option_and_then}
-use Rattle.wire_message.proofs.Names.{cond-true, cond-false, and_from, and_parts, lt-ltb, ltb-true, and_left, nat_tests, ArrayVec, Are, is_info_octet, is_trailer_octet, is_filler_octet, is_text_octet, max_filler, max_source, max_info, max_trailer, is_letter, Header, header_of, IsHeader, IsFiller, IsMessage, IsPlace, Spells, LeadsTo, lengthens_gap, ends, begins, is_octet_of, most_of, text_of, HeaderPart, Source, Number, Priority, Category, Words, HeaderTexts, Place, Filler, InHeader, Info, Gap, Text, Trailer, AfterEnd, Are-head, Are-tail}
+use Rattle.wire_message.proofs.Names.{cond-true, cond-false, and_from, and_parts, lt-ltb, ltb-true, and_left, nat_tests, ArrayVec, Are, is_info_octet, is_trailer_octet, is_filler_octet, is_text_octet, max_filler, max_source, max_info, max_trailer, is_letter, Header, header_of, IsHeader, IsFiller, IsMessage, IsMessageState, MatchesState, ReachesMessageState, lengthens_gap, ends, begins, is_octet_of, most_of_part, octets_of_part, HeaderPart, Source, Number, Priority, Category, Words, HeaderTexts, Place, Filler, InHeader, Info, Gap, Text, Trailer, AfterEnd, Are-head, Are-tail}
 
 abbrev pub of : List ℕ → ArrayVec ℕ
 of xs = record { items = xs }
@@ -19,7 +19,7 @@ no_texts = texts [] [] [] [] []
 abbrev pub texts_of : Header → HeaderTexts
 texts_of h = texts h.source h.number h.priority h.category h.words
 
-pub words_place : (h : Header) → IsHeader h → IsPlace (InHeader Words (texts_of h))
+pub words_place : (h : Header) → IsHeader h → IsMessageState (InHeader Words (texts_of h))
 words_place h i = (i.source, i.number, i.priority, i.category, (i.words.0, omega arith, i.words.2))
 
 -- the parts, with these octets for one of them
@@ -34,18 +34,18 @@ put Words xs t = record t { words = of xs }
 
 abbrev pub IsBare : Place → Type 0
 IsBare (Text h reader) = IsHeader h
-IsBare p = IsPlace p
+IsBare p = IsMessageState p
 
 pub record Stands (xs text : List ℕ) (p : Place) : Type 0 where
   pub bare : IsBare p
-  pub spelled : Spells xs text p
+  pub spelled : MatchesState xs text p
 
-pub stands : (xs text : List ℕ) (p : Place) → IsPlace p → Spells xs text p → Stands xs text p
+pub stands : (xs text : List ℕ) (p : Place) → IsMessageState p → MatchesState xs text p → Stands xs text p
 stands xs text (Text h reader) i l = record { bare = i.0; spelled = l }
 stands xs text p i l = record { bare = i; spelled = l }
 
 -- Octets that reach a state match it.
-pub led : {xs text : List ℕ} {p : Place} → LeadsTo xs text p → Stands xs text p
+pub led : {xs text : List ℕ} {p : Place} → ReachesMessageState xs text p → Stands xs text p
 led {xs} {text} {p} l = stands xs text p l.is_place l.spelled
 
 -- a state without its reader of the text
@@ -70,8 +70,8 @@ guarded b p o = cond b (Some p) o
 abbrev pub next : Place → ℕ → Option Place
 next (Filler k) b = guarded (is_filler_octet b && nat_lt k max_filler) (Filler (k + 1)) (guarded (b == 1) (InHeader Source no_texts) None)
 next (InHeader part t) b =
-    guarded (is_octet_of part b && nat_lt (length (text_of part t)) (most_of part)) (InHeader part (put part (text_of part t ++ (b ∷ [])) t))
-    (guarded (ends part b && nat_lt 0 (length (text_of part t))) (begins part b t) None)
+    guarded (is_octet_of part b && nat_lt (length (octets_of_part part t)) (most_of_part part)) (InHeader part (put part (octets_of_part part t ++ (b ∷ [])) t))
+    (guarded (ends part b && nat_lt 0 (length (octets_of_part part t))) (begins part b t) None)
 next (Info h) b = guarded (is_info_octet b && nat_lt (length h.info) max_info) (Info (more_info h b)) (guarded (is_filler_octet b) (Gap h 1 (b == 10)) None)
 next (Gap h k feed) b = guarded (lengthens_gap k feed b) (Gap h (k + 1) (feed || b == 10)) (guarded (b == 2 && feed) (Text h None) None)
 next (Text h r) b = guarded (is_text_octet b) (Text h None) (guarded (b == 3) (Trailer h (of [])) None)
@@ -130,13 +130,14 @@ count_run mk step xs rest h =
     (omega (arith, h.2))
 
 -- The octets of a part extend it.
-pub reads_part : (part : HeaderPart) (t : HeaderTexts) (xs rest : List ℕ) → Are (is_octet_of part) xs → length (text_of part t) + length xs ≤ most_of part
-    → run (InHeader part t) (xs ++ rest) ≡ run (InHeader part (put part (text_of part t ++ xs) t)) rest
+pub reads_part : (part : HeaderPart) (t : HeaderTexts) (xs rest : List ℕ) → Are (is_octet_of part) xs → length
+    (octets_of_part part t) + length xs ≤ most_of_part part
+    → run (InHeader part t) (xs ++ rest) ≡ run (InHeader part (put part (octets_of_part part t ++ xs) t)) rest
 reads_part Source t xs rest are le =
     field_run (λ ys. InHeader Source (put Source ys t)) is_letter max_source
     (λ ys b e lt. cond-true _ _ _ (extends is_letter b (length ys) max_source e lt)) xs t.source.items rest are le
-reads_part part t xs rest are le = field_run (λ ys. InHeader part (put part ys t)) (is_octet_of part) (most_of part)
-    (λ ys b e lt. cond-true _ _ _ (extends (is_octet_of part) b (length ys) (most_of part) e lt)) xs (text_of part t) rest are le
+reads_part part t xs rest are le = field_run (λ ys. InHeader part (put part ys t)) (is_octet_of part) (most_of_part part)
+    (λ ys b e lt. cond-true _ _ _ (extends (is_octet_of part) b (length ys) (most_of_part part) e lt)) xs (octets_of_part part t) rest are le
 
 -- An octet that ends a part is not one that it may have.
 ends_not : (part : HeaderPart) (b : ℕ) → ends part b ≡ true → is_octet_of part b ≡ false
@@ -144,8 +145,8 @@ ends_not Source b on = grind (arith, nat_tests)
 ends_not _ b on = grind (arith, nat_tests)
 
 -- An octet that ends a part reaches the part that it begins.
-pub ends_next : (part : HeaderPart) (t : HeaderTexts) (b : ℕ) → ends part b ≡ true → 0 < length (text_of part t)
+pub ends_next : (part : HeaderPart) (t : HeaderTexts) (b : ℕ) → ends part b ≡ true → 0 < length (octets_of_part part t)
     → next (InHeader part t) b ≡ Some (begins part b t)
 ends_next part t b on some =
-    cond-false _ _ _ (and_left (is_octet_of part b) (nat_lt (length (text_of part t)) (most_of part)) (ends_not part b on))
-    ∙ cond-true _ _ _ (extends (ends part) b 0 (length (text_of part t)) on some)
+    cond-false _ _ _ (and_left (is_octet_of part b) (nat_lt (length (octets_of_part part t)) (most_of_part part)) (ends_not part b on))
+    ∙ cond-true _ _ _ (extends (ends part) b 0 (length (octets_of_part part t)) on some)

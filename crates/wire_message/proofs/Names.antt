@@ -11,15 +11,15 @@ pub use Rattle.arrayvec.specs.ArrayVec.{ArrayVec}
 pub use Rattle.iim_dataset.specs.Format.Octets.{Octets, is_digit, is_letter}
 pub use Rattle.wire_story.proofs.SoFar.{end_of, front_of, map_snoc, so_far_two, with_end-append}
 pub use Rattle.wire_story.proofs.Spans.{Are-append, Are-cons, Are-head, Are-tail}
-pub use Rattle.wire_story.specs.Format.Texts.{AreLines, Holds, IsLine, IsText, IsTextSoFar, is_line_octet, line_end, packed_text, End, LivesWith, Octet, StoryDiesAt, StoryLanguage, with_end}
+pub use Rattle.wire_story.specs.Format.Texts.{HasLines, EndsInReturns, IsLine, IsText, IsTextSoFar, is_line_octet, line_end, packed_text, End, IsViableStory, Octet, EndsViableStory, StoryLanguage, with_end}
 pub use Rattle.wire_story.specs.Laws.{StoryLaws}
 pub use Rattle.wire_story.specs.declared.fault.TextCause.{TextCause}
 pub use Rattle.wire_story.specs.declared.reader.TextReader.{TextReader}
-pub use Rattle.wire_message.specs.Format.Messages.{canonical, packed_info, Are, IsField, is_alphanumeric, is_filler_octet, is_info_octet, is_text_octet, is_trailer_octet, max_category, max_filler, max_info, max_number, max_priority, max_source, max_trailer, max_words, MessageDiesAt, MessageLivesWith, StoryLivesIn, after_stx, story_tokens_of, text_so_far, trailer_so_far, BeginsWithHeader, Header, IsFiller, IsGap, IsHeader, IsMessage, IsTrailer, SpellsInfo, fixed_header, has_feed, header_of}
-pub use Rattle.wire_message.specs.Format.Causes.{HasCause, StoryDiesWith}
-pub use Rattle.wire_message.specs.Laws.{HeadersAreToldFromStx, LivingOctetsLeadOn, MessagesEndAfterEot, MessagesKeepTheirHeader, OctetsAreRefusedAlike, OctetsLeadOnAlike, OctetsLeadToOnePlace, PlacesAreReached, PlacesAreSavedApart, ReadersStandAtLivingOctets, TellsHeaderOf, TextsStandBetweenStxAndEtx, TrailersAreToldFromEtx, TrailersStandBetweenEtxAndEot}
-pub use Rattle.wire_message.specs.Steps.{EndsPart, begins, begun, ends, is_octet_of, lengthens_gap, most_of, text_of, DiesWith, RefusesInPart, TakesOctets, TakesSome, cause_of}
-pub use Rattle.wire_message.specs.States.Reading.{CountsCause, GoesSomewhere, IsWhole, LeadsOn, Refuses, RefusesOne, StandsAt, TakesPiece, head_read, is_ended, trailer_read, IsPlace, LeadsTo, Spells, StoryStands, so_far}
+pub use Rattle.wire_message.specs.Format.Messages.{canonical, packed_info, Are, IsField, is_alphanumeric, is_filler_octet, is_info_octet, is_text_octet, is_trailer_octet, max_category, max_filler, max_info, max_number, max_priority, max_source, max_trailer, max_words, EndsViableMessage, IsViableMessage, HasViableStory, after_stx, story_tokens_of, text_so_far, trailer_so_far, BeginsWithHeader, Header, IsFiller, IsGap, IsHeader, IsMessage, IsTrailer, EncodesInfo, fixed_header, has_feed, header_of}
+pub use Rattle.wire_message.specs.Format.Causes.{HasMessageCause, EndsViableStoryIn}
+pub use Rattle.wire_message.specs.Laws.{HeadersAreReturnedFromStx, ViableOctetsReachStates, MessagesEndAfterEot, MessagesKeepTheirHeader, StatesDetermineRejections, MessageStatesDetermineLaterOnes, OctetsDetermineTheMessageState, MessageStatesAreReached, SavedStatesAreDistinct, ReadersConsumeViableOctets, ReturnsHeaderOf, TextsAreBetweenStxAndEtx, TrailersAreReturnedFromEtx, TrailersAreBetweenEtxAndEot}
+pub use Rattle.wire_message.specs.Steps.{DoesNotExtendPart, begins, begun, ends, is_octet_of, lengthens_gap, most_of_part, octets_of_part, OctetEndsViableMessage, RejectsOctetOfMessage, ConsumesOctets, ConsumesAnOctet, message_cause_of}
+pub use Rattle.wire_message.specs.States.Reading.{SinkCountsMessageCause, ReachesSomeState, IsCompleteMessage, ChunkAdvancesMessage, RejectsMessageOctet, MessageReaderRejects, MessageReaderHasRead, MessageReaderConsumes, head_read, is_ended, trailer_read, IsMessageState, ReachesMessageState, MatchesState, IsStoryState, so_far}
 pub use Rattle.wire_message.specs.declared.fault.MessageCause.{MessageCause}
 pub use Rattle.wire_message.specs.declared.fault.MessageCause.TheVariants.{BadOctet, ControlOctet, LoneReturn, Sink, Unfinished}
 pub use Rattle.wire_message.specs.declared.part.HeaderPart.{HeaderPart}

@@ -1,6 +1,6 @@
 -- The canonical object is a message, and the octets of its head.
 use Rattle.std.proofs.Common.{◌≡◌, ℕ, zero, suc, Bool, true, List, [], ◌∷◌, ◌++◌, refl, arith, inl, inr, append_assoc, replicate}
-use Rattle.wire_message.proofs.Names.{StoryLaws, IsTextSoFar, IsLine, IsText, is_line_octet, line_end, packed_text, Are, is_text_octet, Header, IsHeader, IsMessage, IsTrailer, SpellsInfo, fixed_header, canonical, packed_info, Are-append, Are-cons, nat_tests}
+use Rattle.wire_message.proofs.Names.{StoryLaws, IsTextSoFar, IsLine, IsText, is_line_octet, line_end, packed_text, Are, is_text_octet, Header, IsHeader, IsMessage, IsTrailer, EncodesInfo, fixed_header, canonical, packed_info, Are-append, Are-cons, nat_tests}
 use Rattle.wire_message.proofs.{Transitions.message_from, TextSoFar.each}
 
 line_text : (xs : List ℕ) → IsLine xs → Are is_text_octet xs
@@ -20,7 +20,7 @@ so_far_text x (first ∷ lines) line held h =
     (Are-append is_text_octet first (line_end h.1 ++ h.3) (line_text first h.0)
     (Are-append is_text_octet (line_end h.1) h.3 end (so_far_text h.3 lines line held h.5)))
 
-pub spells_packed : (info : List ℕ) → SpellsInfo info (packed_info info)
+pub spells_packed : (info : List ℕ) → EncodesInfo info (packed_info info)
 spells_packed [] = inl (refl, refl)
 spells_packed (b ∷ bs) = inr refl
 

@@ -1,13 +1,13 @@
 -- Octets reach each state: of each length that is neither too small nor too great, and of no other.
 -- Filler is zeros; a gap has its LF first; a text is letters and its pending CR.
 use Rattle.std.proofs.Common.{◌≡◌, ℕ, ◌+◌, ◌-◌, ◌≤◌, ◌↔◌, Bool, true, false, List, [], ◌∷◌, ◌++◌, length, replicate, Option, Some, None, refl, sym, ap, subst, ◌∙◌, arith, inl, inr, length-append, ⊎_elim}
-use Rattle.wire_message.proofs.Names.{Holds, AreLines, cases_lt, length-replicate, same_Some, ArrayVec, IsTextSoFar, is_line_octet, line_end, Are, is_filler_octet, is_text_octet, max_filler, Header, IsFiller, IsGap, SpellsInfo, fixed_header, has_feed, packed_info, IsPlace, Spells, StoryStands, LeadsTo, so_far, PlacesAreReached, Place, Filler, InHeader, Info, Gap, Text, Trailer, AfterEnd, Are-append}
+use Rattle.wire_message.proofs.Names.{EndsInReturns, HasLines, cases_lt, length-replicate, same_Some, ArrayVec, IsTextSoFar, is_line_octet, line_end, Are, is_filler_octet, is_text_octet, max_filler, Header, IsFiller, IsGap, EncodesInfo, fixed_header, has_feed, packed_info, IsMessageState, MatchesState, IsStoryState, ReachesMessageState, so_far, MessageStatesAreReached, Place, Filler, InHeader, Info, Gap, Text, Trailer, AfterEnd, Are-append}
 use Rattle.wire_message.proofs.{Transitions.field_none, Transitions.message_from, TextSoFar.any_none, TextSoFar.is_not, Packed.spells_packed, Packed.all_pass}
-use Rattle.wire_message.specs.States.Reading.{LeadsIn, IsOneOf, fixed_octets, least_head, least_of, greatest_of}
+use Rattle.wire_message.specs.States.Reading.{IsReachedByLength, IsPossibleLength, fixed_octets, least_head, least_of, greatest_of}
 
 -- octets of that length reach the state
 abbrev IsReached : Place → ℕ → Type 0
-IsReached place count = (octets : List ℕ) × (text : List ℕ) × LeadsTo octets text place × (length octets ≡ count)
+IsReached place count = (octets : List ℕ) × (text : List ℕ) × ReachesMessageState octets text place × (length octets ≡ count)
 
 -- NUL, k times
 abbrev zeros : ℕ → List ℕ
@@ -29,8 +29,8 @@ letters k = replicate k 97
 
 -- ---- Before SOH, filler makes up the length.
 
-filled : (p : Place) (rest : List ℕ) (least : ℕ) → IsPlace p → StoryStands [] p → length rest ≡ least
-    → ((before : List ℕ) → IsFiller before → Spells (before ++ rest) [] p)
+filled : (p : Place) (rest : List ℕ) (least : ℕ) → IsMessageState p → IsStoryState [] p → length rest ≡ least
+    → ((before : List ℕ) → IsFiller before → MatchesState (before ++ rest) [] p)
     → (count : ℕ) → least ≤ count → count ≤ max_filler + least → IsReached p count
 filled p rest least i story long spells count above below =
     let before : List ℕ = zeros (count - least) in
@@ -53,7 +53,7 @@ packed_within (b ∷ bs) = omega arith
 joined_length : (a b c : List ℕ) → length (1 ∷ (a ++ (b ++ c))) ≡ 1 + length a + length b + length c
 joined_length a b c = omega (arith, length-append a (b ++ c), length-append b c)
 
-gap_filled : (h : Header) (k : ℕ) (feed : Bool) (info : List ℕ) → IsPlace (Gap h k feed) → SpellsInfo h.info info
+gap_filled : (h : Header) (k : ℕ) (feed : Bool) (info : List ℕ) → IsMessageState (Gap h k feed) → EncodesInfo h.info info
     → (count : ℕ) → fixed_octets h + length info + k ≤ count → count ≤ max_filler + (fixed_octets h + length info + k) → IsReached (Gap h k feed) count
 gap_filled h k feed info i spelled count above below =
     let (gap, fills, many, feeds) = gap_of k feed i.1 in
@@ -61,8 +61,8 @@ gap_filled h k feed info i spelled count above below =
     (omega (arith, joined_length (fixed_header h) info gap, many))
     (λ before fill. (before, info, gap, fill, spelled, fills, many, feeds, refl, refl)) count above below
 
-gap_reached : (h : Header) (k : ℕ) (feed : Bool) → IsPlace (Gap h k feed)
-    → (count : ℕ) → IsOneOf (least_of (Gap h k feed)) (greatest_of (Gap h k feed)) count → IsReached (Gap h k feed) count
+gap_reached : (h : Header) (k : ℕ) (feed : Bool) → IsMessageState (Gap h k feed)
+    → (count : ℕ) → IsPossibleLength (least_of (Gap h k feed)) (greatest_of (Gap h k feed)) count → IsReached (Gap h k feed) count
 gap_reached h k feed i count one =
     let least : ℕ = fixed_octets h + length (packed_info h.info) + k in
     ⊎_elim (λ more. gap_filled h k feed (32 ∷ h.info) i (inr refl) count (omega (arith, more, (packed_within h.info).0)) (omega (arith, one.1)))
@@ -77,29 +77,29 @@ before_text h rest = 1 ∷ (fixed_header h ++ (packed_info h.info ++ (10 ∷ 2 �
 before_text_length : (h : Header) (rest : List ℕ) → length (before_text h rest) ≡ least_head h + length rest
 before_text_length h rest = omega (arith, joined_length (fixed_header h) (packed_info h.info) (10 ∷ 2 ∷ rest))
 
-text_reached : (h : Header) (held : ℕ) → IsPlace (Text h (Some held)) → (count : ℕ) → least_of (Text h (Some held)) ≤ count
+text_reached : (h : Header) (held : ℕ) → IsMessageState (Text h (Some held)) → (count : ℕ) → least_of (Text h (Some held)) ≤ count
     → IsReached (Text h (Some held)) count
 text_reached h held i count above =
     let k : ℕ = count - (least_head h + held) in
     let text : List ℕ = letters k ++ replicate held 13 in
     let are = Are-append is_text_octet (letters k) (replicate held 13) (all_pass is_text_octet 97 k refl) (all_pass is_text_octet 13 held refl) in
     let same : held ≡ i.1.0 = cc in
-    let spelled : Spells (before_text h text) text (Text h (Some held)) =
+    let spelled : MatchesState (before_text h text) text (Text h (Some held)) =
     ([], packed_info h.info, 10 ∷ [], nothing, spells_packed h.info, feed_alone, are, refl) in
-    let holds : Holds text held = ([], letters k, (all_pass is_line_octet 97 k refl, omega (arith, i.1.2, same), refl)) in
+    let holds : EndsInReturns text held = ([], letters k, (all_pass is_line_octet 97 k refl, omega (arith, i.1.2, same), refl)) in
     let size : length (before_text h text) ≡ count = omega (arith, before_text_length h text, length-append {A = ℕ}, length-replicate {A = ℕ}, above) in
     (before_text h text, text, record { is_place = i; spelled = spelled; story = (held, refl, holds) }, size)
 
-trailer_reached : (h : Header) (t : ArrayVec ℕ) → IsPlace (Trailer h t) → (count : ℕ) → least_of (Trailer h t) ≤ count → IsReached (Trailer h t) count
+trailer_reached : (h : Header) (t : ArrayVec ℕ) → IsMessageState (Trailer h t) → (count : ℕ) → least_of (Trailer h t) ≤ count → IsReached (Trailer h t) count
 trailer_reached h t i count above =
     let k : ℕ = count - (least_head h + 1 + length t.items) in
     let rest : List ℕ = letters k ++ (3 ∷ t.items) in
-    let spelled : Spells (before_text h rest) (letters k) (Trailer h t) =
+    let spelled : MatchesState (before_text h rest) (letters k) (Trailer h t) =
     ([], packed_info h.info, 10 ∷ [], nothing, spells_packed h.info, feed_alone, all_pass is_text_octet 97 k refl, refl) in
     let size : length (before_text h rest) ≡ count = omega (arith, before_text_length h rest, length-append {A = ℕ}, length-replicate {A = ℕ}, above) in
     (before_text h rest, letters k, record { is_place = i; spelled = spelled; story = (letters k ∷ [], (all_pass is_line_octet 97 k refl, refl)) }, size)
 
-end_reached : (h : Header) (t : ArrayVec ℕ) (k : ℕ) → IsPlace (AfterEnd h t k) → (count : ℕ) → least_of (AfterEnd h t k) ≤ count
+end_reached : (h : Header) (t : ArrayVec ℕ) (k : ℕ) → IsMessageState (AfterEnd h t k) → (count : ℕ) → least_of (AfterEnd h t k) ≤ count
     → IsReached (AfterEnd h t k) count
 end_reached h t k i count above =
     let more : ℕ = count - (least_head h + 2 + length t.items + k) in
@@ -107,13 +107,13 @@ end_reached h t k i count above =
     let rest : List ℕ = text ++ (3 ∷ (t.items ++ (4 ∷ zeros k))) in
     let message = message_from (before_text h rest) h text t.items [] (packed_info h.info) (10 ∷ []) (zeros k) nothing i.0 (spells_packed h.info)
     feed_alone (all_pass is_text_octet 97 more refl) i.1 (is_filler k i.2) refl in
-    let lines : AreLines text = (text ∷ [], (all_pass is_line_octet 97 more refl, refl)) in
+    let lines : HasLines text = (text ∷ [], (all_pass is_line_octet 97 more refl, refl)) in
     let size : length (before_text h rest) ≡ count = omega (arith, before_text_length h rest, length-append {A = ℕ}, length-replicate {A = ℕ}, above) in
     (before_text h rest, text, record { is_place = i; spelled = (message, length-replicate {A = ℕ} k 0); story = lines }, size)
 
 -- ---- All states.
 
-leads : (p : Place) → IsPlace p → (count : ℕ) → IsOneOf (least_of p) (greatest_of p) count → IsReached p count
+leads : (p : Place) → IsMessageState p → (count : ℕ) → IsPossibleLength (least_of p) (greatest_of p) count → IsReached p count
 leads (Filler k) i count one =
     let many = length-replicate {A = ℕ} k 0 in
     (zeros k, [], record { is_place = i; spelled = (is_filler k i, many, refl); story = refl }, omega (arith, many, one.0, one.1))
@@ -128,11 +128,11 @@ leads (Trailer h t) i count one = trailer_reached h t i count one.0
 leads (AfterEnd h t k) i count one = end_reached h t k i count one.0
 
 -- The least length is one of the lengths.
-least_leads : (p : Place) → IsOneOf (least_of p) (greatest_of p) (least_of p)
+least_leads : (p : Place) → IsPossibleLength (least_of p) (greatest_of p) (least_of p)
 least_leads (Gap h k feed) = omega (arith, (packed_within h.info).1)
 least_leads _ = omega arith
 
-pub reached : PlacesAreReached
+pub reached : MessageStatesAreReached
 reached place = (λ i. let led = leads place i (least_of place) (least_leads place) in (led.0, led.1, led.2), λ led. led.2.is_place)
 
 -- ---- Octets of no other length reach a state.
@@ -144,7 +144,7 @@ so_far_long x (first ∷ lines) line held h =
     omega (arith, ap length h.4, length-append first (line_end h.1 ++ h.3), length-append (line_end h.1) h.3, so_far_long h.3 lines line held h.5)
 
 -- The length of an info with its SP, and of an empty one with it or without it.
-info_within : (info xs : List ℕ) → SpellsInfo info xs → (length (packed_info info) ≤ length xs) × (length xs ≤ 1 + length info)
+info_within : (info xs : List ℕ) → EncodesInfo info xs → (length (packed_info info) ≤ length xs) × (length xs ≤ 1 + length info)
 info_within [] xs (inl none) = omega (arith, ap length none.1)
 info_within (b ∷ bs) xs (inl none) = let empty = none.0 in absurd cc
 info_within info xs (inr some) = omega (arith, ap length some, (packed_within info).1)
@@ -154,7 +154,7 @@ object_length : (before fixed info rest : List ℕ)
     → length (before ++ (1 ∷ (fixed ++ (info ++ rest)))) ≡ length before + 1 + length fixed + length info + length rest
 object_length before fixed info rest = omega (arith, length-append before (1 ∷ (fixed ++ (info ++ rest))), joined_length fixed info rest)
 
-within : (p : Place) (octets text : List ℕ) → LeadsTo octets text p → IsOneOf (least_of p) (greatest_of p) (length octets)
+within : (p : Place) (octets text : List ℕ) → ReachesMessageState octets text p → IsPossibleLength (least_of p) (greatest_of p) (length octets)
 within (Filler k) octets text l = omega (arith, l.spelled.1)
 within (InHeader part t) octets text l =
     let s = l.spelled in omega (arith, ap length s.2, length-append s.0 (1 ∷ so_far part t), s.1.2)
@@ -190,10 +190,11 @@ within (AfterEnd h t k) octets text l =
     )
 
 -- The bounds of a reader's state are the bounds of these lengths.
-pub exactly : (reader : Option Place) (p : Place) (least : ℕ) (greatest : Option ℕ) → reader ≡ Some p → IsPlace p → least ≡ least_of p
+pub exactly : (reader : Option Place) (p : Place) (least : ℕ) (greatest : Option ℕ) → reader ≡ Some p → IsMessageState p → least ≡ least_of p
     → greatest ≡ greatest_of p
-    → (count : ℕ) → LeadsIn reader count ↔ IsOneOf least greatest count
+    → (count : ℕ) → IsReachedByLength reader count ↔ IsPossibleLength least greatest count
 exactly reader p least greatest at i low high count = rw (at, low, high) (
-  λ led. subst (IsOneOf (least_of p) (greatest_of p)) led.3 (within p led.0 led.1 (subst (LeadsTo led.0 led.1) (sym (same_Some _ _ led.2.1)) led.2.2)),
+  λ led. subst (IsPossibleLength (least_of p) (greatest_of p)) led.3 (within p led.0 led.1 (subst (ReachesMessageState led.0 led.1) (sym
+      (same_Some _ _ led.2.1)) led.2.2)),
   λ one. let (octets, text, leads_here, long) = leads p i count one in (octets, text, (p, refl, leads_here), long),
 )

@@ -1,6 +1,6 @@
 -- Octets that match a state reach it when they are read, and a message reaches its end.
 use Rattle.std.proofs.Common.{◌≡◌, ℕ, ◌+◌, ◌≤◌, Bool, true, false, ◌||◌, ◌==◌, ◌<◌, nat_lt, cond, List, [], ◌∷◌, ◌++◌, length, Some, None, refl, sym, ap, ◌∙◌, arith, inl, inr, append_assoc, append-nil}
-use Rattle.wire_message.proofs.Names.{cond-true, cond-false, and_from, or_right, lt-ltb, and_left, nat_tests, or_assoc, or-false, Are, IsField, is_alphanumeric, is_info_octet, is_trailer_octet, is_filler_octet, is_text_octet, max_filler, max_number, max_words, max_info, max_trailer, is_digit, Header, header_of, IsHeader, IsFiller, IsGap, IsTrailer, SpellsInfo, fixed_header, has_feed, IsPlace, so_far, lengthens_gap, ends, begins, is_octet_of, most_of, text_of, HeaderPart, Source, Number, Priority, Category, Words, HeaderTexts, Place, Filler, InHeader, Info, Gap, Text, Trailer, AfterEnd, Are-head, Are-tail}
+use Rattle.wire_message.proofs.Names.{cond-true, cond-false, and_from, or_right, lt-ltb, and_left, nat_tests, or_assoc, or-false, Are, IsField, is_alphanumeric, is_info_octet, is_trailer_octet, is_filler_octet, is_text_octet, max_filler, max_number, max_words, max_info, max_trailer, is_digit, Header, header_of, IsHeader, IsFiller, IsGap, IsTrailer, EncodesInfo, fixed_header, has_feed, IsMessageState, so_far, lengthens_gap, ends, begins, is_octet_of, most_of_part, octets_of_part, HeaderPart, Source, Number, Priority, Category, Words, HeaderTexts, Place, Filler, InHeader, Info, Gap, Text, Trailer, AfterEnd, Are-head, Are-tail}
 use Rattle.wire_message.proofs.Machine.{next, of, texts, texts_of, words_place, no_texts, put, Stands, unread, run, step_to, field_run, count_run, extends, reads_part, ends_next}
 use Rattle.wire_message.proofs.Transitions.{field_none, join1, join2, join3, join4, join5, none}
 
@@ -23,8 +23,8 @@ reads_number t (b ∷ n) rest some h =
     ∙ reads_part Number (put Number (b ∷ []) t) n rest (Are-tail is_digit b n h.0) (omega (arith, h.2))
 
 -- SP ends a part, and the next one is read.
-reads_next : (part next : HeaderPart) (t : HeaderTexts) (xs rest : List ℕ) → ends part 32 ≡ true → 0 < length (text_of part t)
-    → begins part 32 t ≡ InHeader next t → text_of next t ≡ [] → IsField (is_octet_of next) 0 (most_of next) xs
+reads_next : (part next : HeaderPart) (t : HeaderTexts) (xs rest : List ℕ) → ends part 32 ≡ true → 0 < length (octets_of_part part t)
+    → begins part 32 t ≡ InHeader next t → octets_of_part next t ≡ [] → IsField (is_octet_of next) 0 (most_of_part next) xs
     → run (InHeader part t) (32 ∷ (xs ++ rest)) ≡ run (InHeader next (put next xs t)) rest
 reads_next part next t xs rest on some then none h =
     step_to (InHeader part t) _ 32 (xs ++ rest) (ends_next part t 32 on some)
@@ -34,7 +34,7 @@ reads_next part next t xs rest on some then none h =
 
 -- The parts so far are read, each after the one before it.
 abbrev Reads : HeaderPart → Type 0
-Reads part = (t : HeaderTexts) (f rest : List ℕ) → IsFiller f → IsPlace (InHeader part t)
+Reads part = (t : HeaderTexts) (f rest : List ℕ) → IsFiller f → IsMessageState (InHeader part t)
     → run (Filler 0) (f ++ (1 ∷ (so_far part t ++ rest))) ≡ run (InHeader part t) rest
 
 regrouped : (f xs ys : List ℕ) → xs ≡ ys → run (Filler 0) (f ++ (1 ∷ xs)) ≡ run (Filler 0) (f ++ (1 ∷ ys))
@@ -147,7 +147,7 @@ ends_words h b none some fills =
 ends_info : (h : Header) (b : ℕ) → is_filler_octet b ≡ true → next (Info h) b ≡ Some (Gap h 1 (b == 10))
 ends_info h b fills = cond-false _ _ _ (and_left (is_info_octet b) (nat_lt (length h.info) max_info) (no_info b fills)) ∙ cond-true _ _ _ fills
 
-to_gap : (h : Header) (spelled gap rest : List ℕ) → IsHeader h → SpellsInfo h.info spelled → IsField is_filler_octet 1 max_filler gap → GapContinues gap
+to_gap : (h : Header) (spelled gap rest : List ℕ) → IsHeader h → EncodesInfo h.info spelled → IsField is_filler_octet 1 max_filler gap → GapContinues gap
     → run (words_of h) (spelled ++ (gap ++ rest)) ≡ run (Gap h (length gap) (has_feed gap)) rest
 to_gap h spelled gap rest p (inl none) g on = rw none.1 (first_gap (words_of h) h gap rest (λ b. ends_words h b none.0 p.words.1) g on)
 to_gap h spelled gap rest p (inr some) g on =
@@ -158,14 +158,14 @@ to_gap h spelled gap rest p (inr some) g on =
 whole_gap : (gap : List ℕ) → IsGap gap → GapContinues gap
 whole_gap gap g = ap (λ (t : Bool). t || nat_lt (length gap) max_filler) g.1
 
-to_text : (h : Header) (spelled gap text rest : List ℕ) → IsHeader h → SpellsInfo h.info spelled → IsGap gap → Are is_text_octet text
+to_text : (h : Header) (spelled gap text rest : List ℕ) → IsHeader h → EncodesInfo h.info spelled → IsGap gap → Are is_text_octet text
     → run (words_of h) (spelled ++ (gap ++ (2 ∷ (text ++ rest)))) ≡ run (Text h None) rest
 to_text h spelled gap text rest p sp g x =
     to_gap h spelled gap (2 ∷ (text ++ rest)) p sp g.0 (whole_gap gap g)
     ∙ (step_to (Gap h (length gap) (has_feed gap)) (Text h None) 2 (text ++ rest) (cond-true _ _ _ g.1)
     ∙ field_run (λ ys. Text h None) is_text_octet (length text) (λ ys b t lt. cond-true _ _ _ t) text [] rest x (omega arith))
 
-to_trailer : (h : Header) (spelled gap text trailer rest : List ℕ) → IsHeader h → SpellsInfo h.info spelled → IsGap gap → Are is_text_octet text
+to_trailer : (h : Header) (spelled gap text trailer rest : List ℕ) → IsHeader h → EncodesInfo h.info spelled → IsGap gap → Are is_text_octet text
     → IsTrailer trailer
     → run (words_of h) (spelled ++ (gap ++ (2 ∷ (text ++ (3 ∷ (trailer ++ rest)))))) ≡ run (Trailer h (of trailer)) rest
 to_trailer h spelled gap text trailer rest p sp g x t =

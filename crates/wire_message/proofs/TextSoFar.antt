@@ -1,6 +1,6 @@
 -- The text so far in octets that match a state.
 use Rattle.std.proofs.Common.{◌≡◌, ℕ, ◌+◌, Bool, true, false, not, ◌==◌, cond, nat_lt, List, [], ◌∷◌, ◌++◌, length, take, drop, map, Some, None, refl, sym, ap, ◌∙◌, arith, inl, inr, append-nil}
-use Rattle.wire_message.proofs.Names.{list_any, position_or_len, before_first, after_first, and_parts, and_from, or_right, or_left, or_from, not-true, list_all-append, list_any-append, nat_tests, drop-append-add, take-append_seam, take-length, Octet, End, TextReader, Are, IsField, is_alphanumeric, is_info_octet, is_filler_octet, is_text_octet, max_info, is_digit, is_letter, Header, IsHeader, IsFiller, IsGap, IsMessage, SpellsInfo, BeginsWithHeader, fixed_header, ArrayVec, after_stx, text_so_far, story_tokens_of, IsPlace, Spells, so_far, head_read, HeaderPart, Source, Words, HeaderTexts, Place, Filler, InHeader, Info, Gap, Text, Trailer, AfterEnd, Are-append, Are-head, Are-tail, Are-cons}
+use Rattle.wire_message.proofs.Names.{list_any, position_or_len, before_first, after_first, and_parts, and_from, or_right, or_left, or_from, not-true, list_all-append, list_any-append, nat_tests, drop-append-add, take-append_seam, take-length, Octet, End, TextReader, Are, IsField, is_alphanumeric, is_info_octet, is_filler_octet, is_text_octet, max_info, is_digit, is_letter, Header, IsHeader, IsFiller, IsGap, IsMessage, EncodesInfo, BeginsWithHeader, fixed_header, ArrayVec, after_stx, text_so_far, story_tokens_of, IsMessageState, MatchesState, so_far, head_read, HeaderPart, Source, Words, HeaderTexts, Place, Filler, InHeader, Info, Gap, Text, Trailer, AfterEnd, Are-append, Are-head, Are-tail, Are-cons}
 use Rattle.wire_message.proofs.{Machine.texts_of, Machine.words_place, Machine.Stands, Transitions.join2}
 
 -- ---- What is before and after the first octet of a kind.
@@ -49,7 +49,7 @@ digits : (xs : List ℕ) → Are is_digit xs → Are is_info_octet xs
 digits xs are = each is_digit is_info_octet xs (λ b h. grind (arith, nat_tests)) are
 
 -- All octets of a header are octets that an info may have, SP among them.
-so_far_info : (part : HeaderPart) (t : HeaderTexts) → IsPlace (InHeader part t) → Are is_info_octet (so_far part t)
+so_far_info : (part : HeaderPart) (t : HeaderTexts) → IsMessageState (InHeader part t) → Are is_info_octet (so_far part t)
 so_far_info Source t i = letters t.source.items i.0.0
 so_far_info _ t i =
     let s = letters t.source.items i.0.0 in
@@ -62,7 +62,7 @@ so_far_info _ t i =
 pub header_info : (h : Header) → IsHeader h → Are is_info_octet (fixed_header h)
 header_info h i = so_far_info Words (texts_of h) (words_place h i)
 
-pub spelled_info : (info xs : List ℕ) → IsField is_info_octet 0 max_info info → SpellsInfo info xs → Are is_info_octet xs
+pub spelled_info : (info xs : List ℕ) → IsField is_info_octet 0 max_info info → EncodesInfo info xs → Are is_info_octet xs
 spelled_info info xs i (inl none) = rw none.1 refl
 spelled_info info xs i (inr some) = rw some i.0
 
@@ -76,7 +76,7 @@ info_not xs are = each is_info_octet (is_not 2) xs (λ b h. grind (arith, nat_te
 after_soh : (before rest : List ℕ) → IsFiller before → Are is_info_octet rest → Are (is_not 2) (before ++ (1 ∷ rest))
 after_soh before rest f are = Are-append (is_not 2) before (1 ∷ rest) (filler_not before f.0) (info_not rest are)
 
-before_text : (before info gap : List ℕ) (h : Header) → IsFiller before → IsHeader h → SpellsInfo h.info info → Are is_filler_octet gap
+before_text : (before info gap : List ℕ) (h : Header) → IsFiller before → IsHeader h → EncodesInfo h.info info → Are is_filler_octet gap
     → Are (is_not 2) (before ++ (1 ∷ (fixed_header h ++ (info ++ gap))))
 before_text before info gap h f i sp g =
     Are-append (is_not 2) before (1 ∷ (fixed_header h ++ (info ++ gap))) (filler_not before f.0)
@@ -84,15 +84,17 @@ before_text before info gap h f i sp g =
     (Are-append (is_not 2) info gap (info_not info (spelled_info h.info info i.info sp)) (filler_not gap g)))
 
 -- octets that begin with a header, by their parts
-abbrev pub head_begins : (octets : List ℕ) (h : Header) (before info gap rest : List ℕ) → IsFiller before → IsHeader h → SpellsInfo h.info info → IsGap gap
+abbrev pub head_begins : (octets : List ℕ) (h : Header) (before info gap rest : List ℕ) → IsFiller before → IsHeader h → EncodesInfo h.info info → IsGap gap
     → octets ≡ before ++ (1 ∷ (fixed_header h ++ (info ++ (gap ++ (2 ∷ rest))))) → BeginsWithHeader octets h
 head_begins octets h before info gap rest f i sp g parts =
     record { before = before; info = info; gap = gap; rest = rest; is_before = f; is_header = i; is_info = sp; is_gap = g; parts = parts }
 
-abbrev pub text_begins : (octets text : List ℕ) (h : Header) (reader : TextReader) → IsHeader h → Spells octets text (Text h reader) → BeginsWithHeader octets h
+abbrev pub text_begins : (octets text : List ℕ) (h : Header) (reader : TextReader) → IsHeader h → MatchesState octets text (Text h reader)
+    → BeginsWithHeader octets h
 text_begins octets text h reader i l = head_begins octets h l.0 l.1 l.2 text l.3 i l.4 l.5 l.7
 
-abbrev pub trailer_begins : (octets text : List ℕ) (h : Header) (t : ArrayVec ℕ) → IsHeader h → Spells octets text (Trailer h t) → BeginsWithHeader octets h
+abbrev pub trailer_begins : (octets text : List ℕ) (h : Header) (t : ArrayVec ℕ) → IsHeader h → MatchesState octets text (Trailer h t)
+    → BeginsWithHeader octets h
 trailer_begins octets text h t i l = head_begins octets h l.0 l.1 l.2 (text ++ (3 ∷ t.items)) l.3 i l.4 l.5 l.7
 
 abbrev pub message_begins : (object : List ℕ) (h : Header) (x t : List ℕ) → IsMessage object h x t → BeginsWithHeader object h
@@ -149,7 +151,7 @@ no_stx octets text (Gap h k feed) s e = let l = s.spelled in rw l.8 (before_text
 no_stx octets text _ s e = absurd cc
 
 -- Before STX there is no text.
-pub none_yet : (octets text : List ℕ) (p : Place) → Spells octets text p → head_read (Some p) ≡ None → text ≡ []
+pub none_yet : (octets text : List ℕ) (p : Place) → MatchesState octets text p → head_read (Some p) ≡ None → text ≡ []
 none_yet octets text (Filler k) l e = l.2
 none_yet octets text (Gap h k feed) l e = l.9
 none_yet octets text (InHeader part t) l e = l.3

@@ -1,11 +1,11 @@
 -- Lemmas on all messages, and on the states of a reader of messages.
 use Rattle.std.specs.Prelude.{◌≡◌, ◌↔◌, ℕ, ◌==◌, IsTrue, List, ◌++◌, Option, Some, IsSome}
 use Rattle.std.specs.List.{list_any}
-use Rattle.iim_dataset.specs.Format.Octets.{stx, IsAlive}
-use Rattle.wire_story.specs.Format.Texts.{packed_text, IsText, MakeText, with_end}
-use Rattle.wire_message.specs.Format.Messages.{Header, IsHeader, IsTrailer, IsMessage, BeginsWithHeader, canonical, MessageLanguage, MessageLivesWith, text_so_far, trailer_so_far, StoryLivesIn}
-use Rattle.wire_message.specs.States.Reading.{IsPlace, LeadsTo, Place, StandsAt, head_read, trailer_read, is_ended, saved}
-use Rattle.wire_message.specs.{Format.Causes.HasCause, declared.fault.MessageCause.MessageCause}
+use Rattle.iim_dataset.specs.Format.Octets.{stx, IsViablePrefix}
+use Rattle.wire_story.specs.Format.Texts.{packed_text, IsText, LinesMakeText, with_end}
+use Rattle.wire_message.specs.Format.Messages.{Header, IsHeader, IsTrailer, IsMessage, BeginsWithHeader, canonical, MessageLanguage, IsViableMessage, text_so_far, trailer_so_far, HasViableStory}
+use Rattle.wire_message.specs.States.Reading.{IsMessageState, ReachesMessageState, Place, MessageReaderHasRead, head_read, trailer_read, is_ended, saved}
+use Rattle.wire_message.specs.{Format.Causes.HasMessageCause, declared.fault.MessageCause.MessageCause}
 
 -- An object is a message in at most one way.
 abbrev pub MessagesHaveOneReading : Type 0
@@ -17,56 +17,56 @@ MessagesHaveOneReading = (object : List ℕ) (head other : Header) (text other_t
 -- its text has these lines.
 abbrev pub CanonicalObjectsAreMessages : Type 0
 CanonicalObjectsAreMessages = (head : Header) (lines : List (List ℕ)) (trailer : List ℕ)
-    → IsHeader head → MakeText lines → IsTrailer trailer
+    → IsHeader head → LinesMakeText lines → IsTrailer trailer
     → IsMessage (canonical head lines trailer) head (packed_text lines) trailer × IsText (packed_text lines) lines
 
 -- The text of a reader's state is that of the octets so far: what is after STX and before ETX.
-abbrev pub TextsStandBetweenStxAndEtx : Type 0
-TextsStandBetweenStxAndEtx = (octets text : List ℕ) (place : Place) → LeadsTo octets text place → text ≡ text_so_far octets
+abbrev pub TextsAreBetweenStxAndEtx : Type 0
+TextsAreBetweenStxAndEtx = (octets text : List ℕ) (place : Place) → ReachesMessageState octets text place → text ≡ text_so_far octets
 
 -- Octets that reach a state are a viable prefix of a message, and their text of a story.
-abbrev pub ReadersStandAtLivingOctets : Type 0
-ReadersStandAtLivingOctets = (octets text : List ℕ) (place : Place) → LeadsTo octets text place → MessageLivesWith octets × StoryLivesIn octets
+abbrev pub ReadersConsumeViableOctets : Type 0
+ReadersConsumeViableOctets = (octets text : List ℕ) (place : Place) → ReachesMessageState octets text place → IsViableMessage octets × HasViableStory octets
 
 -- If octets reach a state, and with further ones they are a viable prefix of a message, and their
 -- text of a story, then the further ones reach a state from there.
-abbrev pub LivingOctetsLeadOn : Type 0
-LivingOctetsLeadOn = (octets more text : List ℕ) (place : Place) → LeadsTo octets text place
-    → MessageLivesWith (octets ++ more) → StoryLivesIn (octets ++ more)
-    → (added : List ℕ) × (new : Place) × LeadsTo (octets ++ more) (text ++ added) new
+abbrev pub ViableOctetsReachStates : Type 0
+ViableOctetsReachStates = (octets more text : List ℕ) (place : Place) → ReachesMessageState octets text place
+    → IsViableMessage (octets ++ more) → HasViableStory (octets ++ more)
+    → (added : List ℕ) × (new : Place) × ReachesMessageState (octets ++ more) (text ++ added) new
 
 -- The invariant of a reader holds for exactly the states that some octets reach.
-abbrev pub PlacesAreReached : Type 0
-PlacesAreReached = (place : Place) → IsPlace place ↔ ((octets : List ℕ) × (text : List ℕ) × LeadsTo octets text place)
+abbrev pub MessageStatesAreReached : Type 0
+MessageStatesAreReached = (place : Place) → IsMessageState place ↔ ((octets : List ℕ) × (text : List ℕ) × ReachesMessageState octets text place)
 
 -- The octets determine the state that they reach, and the text, however they are split.
-abbrev pub OctetsLeadToOnePlace : Type 0
-OctetsLeadToOnePlace = (octets text other : List ℕ) (p q : Place) → LeadsTo octets text p → LeadsTo octets other q → (text ≡ other) × (p ≡ q)
+abbrev pub OctetsDetermineTheMessageState : Type 0
+OctetsDetermineTheMessageState = (octets text other : List ℕ) (p q : Place) → ReachesMessageState octets text p → ReachesMessageState octets other q → (text ≡ other) × (p ≡ q)
 
 -- If two lists of octets reach the same state, then with the same further octets they reach the
 -- same state, and the same is added to their text.
-abbrev pub OctetsLeadOnAlike : Type 0
-OctetsLeadOnAlike = (a b x t u y : List ℕ) (p q : Place) → LeadsTo a t p → LeadsTo b u p → LeadsTo (a ++ x) (t ++ y) q → LeadsTo (b ++ x) (u ++ y) q
+abbrev pub MessageStatesDetermineLaterOnes : Type 0
+MessageStatesDetermineLaterOnes = (a b x t u y : List ℕ) (p q : Place) → ReachesMessageState a t p → ReachesMessageState b u p → ReachesMessageState (a ++ x) (t ++ y) q → ReachesMessageState (b ++ x) (u ++ y) q
 
 -- If two lists of octets reach the same state, an octet is rejected after both for the same cause.
-abbrev pub OctetsAreRefusedAlike : Type 0
-OctetsAreRefusedAlike = (octets others text other : List ℕ) (place : Place) (cause : MessageCause) (next : ℕ)
-    → LeadsTo octets text place → LeadsTo others other place → HasCause cause octets next → HasCause cause others next
+abbrev pub StatesDetermineRejections : Type 0
+StatesDetermineRejections = (octets others text other : List ℕ) (place : Place) (cause : MessageCause) (next : ℕ)
+    → ReachesMessageState octets text place → ReachesMessageState others other place → HasMessageCause cause octets next → HasMessageCause cause others next
 
 -- A reader returns a header exactly if STX was received, and it is the one with which the octets
 -- begin.
-pub record TellsHeaderOf (reader : Option Place) (octets : List ℕ) : Type 0 where
+pub record ReturnsHeaderOf (reader : Option Place) (octets : List ℕ) : Type 0 where
   pub told : IsSome (head_read reader) ↔ IsTrue (list_any (λ b. b == stx) octets)
   pub parts : (head : Header) → (head_read reader ≡ Some head) ↔ BeginsWithHeader octets head
 
 -- A reader returns a header exactly if the octets so far have an STX, and its parts are those of
 -- the octets.
-abbrev pub HeadersAreToldFromStx : Type 0
-HeadersAreToldFromStx = (reader : Option Place) (octets text : List ℕ) → StandsAt reader octets text → TellsHeaderOf reader octets
+abbrev pub HeadersAreReturnedFromStx : Type 0
+HeadersAreReturnedFromStx = (reader : Option Place) (octets text : List ℕ) → MessageReaderHasRead reader octets text → ReturnsHeaderOf reader octets
 
 -- The trailer that a reader returns is that of the octets so far: what is after ETX and before EOT.
-abbrev pub TrailersAreToldFromEtx : Type 0
-TrailersAreToldFromEtx = (reader : Option Place) (octets text : List ℕ) → StandsAt reader octets text → trailer_read reader ≡ trailer_so_far octets
+abbrev pub TrailersAreReturnedFromEtx : Type 0
+TrailersAreReturnedFromEtx = (reader : Option Place) (octets text : List ℕ) → MessageReaderHasRead reader octets text → trailer_read reader ≡ trailer_so_far octets
 
 -- Octets with an STX are a prefix of messages with one header only.
 abbrev pub MessagesKeepTheirHeader : Type 0
@@ -74,17 +74,17 @@ MessagesKeepTheirHeader = (octets more text trailer : List ℕ) (head other : He
     → BeginsWithHeader octets head → IsMessage (octets ++ more) other text trailer → other ≡ head
 
 -- The trailer of a message is what is after ETX and before EOT.
-abbrev pub TrailersStandBetweenEtxAndEot : Type 0
-TrailersStandBetweenEtxAndEot = (object text trailer : List ℕ) (head : Header)
+abbrev pub TrailersAreBetweenEtxAndEot : Type 0
+TrailersAreBetweenEtxAndEot = (object text trailer : List ℕ) (head : Header)
     → IsMessage object head text trailer → trailer_so_far object ≡ trailer
 
 -- Octets that reach a state are a complete message exactly if EOT was received.
 abbrev pub MessagesEndAfterEot : Type 0
-MessagesEndAfterEot = (octets text : List ℕ) (place : Place) → LeadsTo octets text place → IsAlive MessageLanguage (with_end octets) ↔ IsTrue (is_ended (Some place))
+MessagesEndAfterEot = (octets text : List ℕ) (place : Place) → ReachesMessageState octets text place → IsViablePrefix MessageLanguage (with_end octets) ↔ IsTrue (is_ended (Some place))
 
 -- Two states with the same saved state are the same.
-abbrev pub PlacesAreSavedApart : Type 0
-PlacesAreSavedApart = (p q : Place) → IsPlace p → IsPlace q → saved p ≡ saved q → p ≡ q
+abbrev pub SavedStatesAreDistinct : Type 0
+SavedStatesAreDistinct = (p q : Place) → IsMessageState p → IsMessageState q → saved p ≡ saved q → p ≡ q
 
 -- The lemmas on messages: a field for each.
 pub record MessageLaws : Type 0 where
@@ -92,14 +92,14 @@ pub record MessageLaws : Type 0 where
   pub messages_have_one_reading : MessagesHaveOneReading
   pub canonical_objects_are_messages : CanonicalObjectsAreMessages
   pub messages_keep_their_header : MessagesKeepTheirHeader
-  pub trailers_stand_between_etx_and_eot : TrailersStandBetweenEtxAndEot
+  pub trailers_are_between_etx_and_eot : TrailersAreBetweenEtxAndEot
   -- what a reader returns of them:
-  pub texts_stand_between_stx_and_etx : TextsStandBetweenStxAndEtx
-  pub headers_are_told_from_stx : HeadersAreToldFromStx
-  pub trailers_are_told_from_etx : TrailersAreToldFromEtx
+  pub texts_are_between_stx_and_etx : TextsAreBetweenStxAndEtx
+  pub headers_are_returned_from_stx : HeadersAreReturnedFromStx
+  pub trailers_are_returned_from_etx : TrailersAreReturnedFromEtx
   pub messages_end_after_eot : MessagesEndAfterEot
   -- which states octets reach, and what they reach from there:
-  pub living_octets_lead_on : LivingOctetsLeadOn
-  pub octets_lead_to_one_place : OctetsLeadToOnePlace
-  pub octets_lead_on_alike : OctetsLeadOnAlike
-  pub octets_are_refused_alike : OctetsAreRefusedAlike
+  pub viable_octets_reach_states : ViableOctetsReachStates
+  pub octets_determine_the_message_state : OctetsDetermineTheMessageState
+  pub message_states_determine_later_ones : MessageStatesDetermineLaterOnes
+  pub states_determine_rejections : StatesDetermineRejections

@@ -1,8 +1,8 @@
 -- How a state gets to the next one, and how a saved state is restored.
 use Rattle.std.specs.Prelude.{◌≡◌, ℕ, ◌+◌, ◌<◌, ◌&&◌, ◌||◌, ◌==◌, nat_lt, if◌then◌else◌, Bool, false, List, [], ◌∷◌, length, Option, Some, ◌≤◌, ◌++◌, take}
 use Rattle.iim_dataset.specs.Format.Octets.{lf, sp, is_digit, is_letter}
-use Rattle.wire_message.specs.Format.Messages.{is_alphanumeric, is_info_octet, is_trailer_octet, is_filler_octet, max_filler, max_source, max_number, max_priority, max_category, max_words, max_info, max_trailer, Header, header_of, MessageDiesAt}
-use Rattle.wire_message.specs.States.Reading.{IsPlace, saved, Spells, StoryStands, TellsStory, TellsFront, Refuses, CountsCause}
+use Rattle.wire_message.specs.Format.Messages.{is_alphanumeric, is_info_octet, is_trailer_octet, is_filler_octet, max_filler, max_source, max_number, max_priority, max_category, max_words, max_info, max_trailer, Header, header_of, EndsViableMessage}
+use Rattle.wire_message.specs.States.Reading.{IsMessageState, saved, MatchesState, IsStoryState, PassesStoryToSink, PassesPrefixToSink, RejectsMessageOctet, SinkCountsMessageCause}
 use Rattle.wire_message.specs.declared.part.HeaderPart.TheVariants.{Source, Number, Priority, Category, Words}
 use Rattle.wire_message.specs.declared.place.Place.TheVariants.{Filler, InHeader, Info, Gap, Trailer, AfterEnd}
 use Rattle.wire_message.specs.declared.fault.MessageCause.TheVariants.{LoneReturn, ControlOctet, Sink}
@@ -21,20 +21,20 @@ is_octet_of Category = is_alphanumeric
 is_octet_of _ = is_digit
 
 -- the greatest number of octets of the part
-abbrev pub most_of : HeaderPart → ℕ
-most_of Source = max_source
-most_of Number = max_number
-most_of Priority = max_priority
-most_of Category = max_category
-most_of Words = max_words
+abbrev pub most_of_part : HeaderPart → ℕ
+most_of_part Source = max_source
+most_of_part Number = max_number
+most_of_part Priority = max_priority
+most_of_part Category = max_category
+most_of_part Words = max_words
 
 -- the octets received of the part
-abbrev pub text_of : HeaderPart → HeaderTexts → List ℕ
-text_of Source t = t.source.items
-text_of Number t = t.number.items
-text_of Priority t = t.priority.items
-text_of Category t = t.category.items
-text_of Words t = t.words.items
+abbrev pub octets_of_part : HeaderPart → HeaderTexts → List ℕ
+octets_of_part Source t = t.source.items
+octets_of_part Number t = t.number.items
+octets_of_part Priority t = t.priority.items
+octets_of_part Category t = t.category.items
+octets_of_part Words t = t.words.items
 
 -- the header of the parts, with an empty info so far
 abbrev pub begun : HeaderTexts → Header
@@ -47,14 +47,14 @@ abbrev pub lengthens_gap : ℕ → Bool → ℕ → Bool
 lengthens_gap count feed octet = is_filler_octet octet && nat_lt count max_filler && (feed || octet == lf || nat_lt (count + 1) max_filler)
 
 -- The octet does not extend the part that is being read: the part may not have it, or is full.
-abbrev pub EndsPart : Place → ℕ → Type 0
-EndsPart (Filler count) octet = (is_filler_octet octet && nat_lt count max_filler) ≡ false
-EndsPart (InHeader part t) octet = length (text_of part t) < most_of part → is_octet_of part octet ≡ false
-EndsPart (Info h) octet = length h.info < max_info → is_info_octet octet ≡ false
-EndsPart (Gap h count feed) octet = lengthens_gap count feed octet ≡ false
-EndsPart (Trailer h t) octet = length t.items < max_trailer → is_trailer_octet octet ≡ false
-EndsPart (AfterEnd h t count) octet = (is_filler_octet octet && nat_lt count max_filler) ≡ false
-EndsPart _ octet = Unit {0}
+abbrev pub DoesNotExtendPart : Place → ℕ → Type 0
+DoesNotExtendPart (Filler count) octet = (is_filler_octet octet && nat_lt count max_filler) ≡ false
+DoesNotExtendPart (InHeader part t) octet = length (octets_of_part part t) < most_of_part part → is_octet_of part octet ≡ false
+DoesNotExtendPart (Info h) octet = length h.info < max_info → is_info_octet octet ≡ false
+DoesNotExtendPart (Gap h count feed) octet = lengthens_gap count feed octet ≡ false
+DoesNotExtendPart (Trailer h t) octet = length t.items < max_trailer → is_trailer_octet octet ≡ false
+DoesNotExtendPart (AfterEnd h t count) octet = (is_filler_octet octet && nat_lt count max_filler) ≡ false
+DoesNotExtendPart _ octet = Unit {0}
 
 -- The octet ends a part of the header, once the part has octets.
 abbrev pub ends : HeaderPart → ℕ → Bool
@@ -80,42 +80,42 @@ abbrev pub texts_in : MessagePlace → HeaderTexts
 texts_in m = record { source = m.source; number = m.number; priority = m.priority; category = m.category; words = m.words }
 
 -- No state other than the one found has this saved state.
-abbrev pub IsOnly : Option Place → MessagePlace → Type 0
-IsOnly found place = (at : Place) → IsPlace at → saved at ≡ place → found ≡ Some at
+abbrev pub IsOnlyState : Option Place → MessagePlace → Type 0
+IsOnlyState found place = (at : Place) → IsMessageState at → saved at ≡ place → found ≡ Some at
 
 -- the cause of a message for a cause of its text
-abbrev pub cause_of : TextCause → MessageCause
-cause_of text_cause.LoneReturn = LoneReturn
-cause_of text_cause.ControlOctet = ControlOctet
-cause_of text_cause.Sink = Sink
+abbrev pub message_cause_of : TextCause → MessageCause
+message_cause_of text_cause.LoneReturn = LoneReturn
+message_cause_of text_cause.ControlOctet = ControlOctet
+message_cause_of text_cause.Sink = Sink
 
 -- ---- One state and the next.
 
 -- With the octet the octets so far are no longer a viable prefix of a message.
-abbrev pub DiesWith : Place → ℕ → Type 0
-DiesWith place octet = (octets text : List ℕ) → Spells octets text place → MessageDiesAt octets (Octet octet)
+abbrev pub OctetEndsViableMessage : Place → ℕ → Type 0
+OctetEndsViableMessage place octet = (octets text : List ℕ) → MatchesState octets text place → EndsViableMessage octets (Octet octet)
 
 -- After at least one of the octets this is the state. They add nothing to the text.
-pub record TakesSome (old : Place) (rest : List ℕ) (new : Place) (used : ℕ) : Type 0 where
+pub record ConsumesAnOctet (old : Place) (rest : List ℕ) (new : Place) (used : ℕ) : Type 0 where
   pub some : 0 < used
   pub within : used ≤ length rest
-  pub is_place : IsPlace new
-  pub adds : (before text : List ℕ) → Spells before text old → Spells (before ++ take used rest) text new
-  pub story : (text : List ℕ) → StoryStands text old → StoryStands text new
+  pub is_place : IsMessageState new
+  pub adds : (before text : List ℕ) → MatchesState before text old → MatchesState (before ++ take used rest) text new
+  pub story : (text : List ℕ) → IsStoryState text old → IsStoryState text new
 
 -- Octets were consumed: they reach the next state, the sink received the events that they deliver,
 -- and it did not stop.
-pub record TakesOctets {S : Type 0} (goes : S → List StoryEvent → S → Type 0) (failures : S → ℕ) (old : Place) (before : S) (octets : List ℕ)
+pub record ConsumesOctets {S : Type 0} (goes : S → List StoryEvent → S → Type 0) (failures : S → ℕ) (old : Place) (before : S) (octets : List ℕ)
     (new : Place) (after : S) : Type 0 where
-  pub is_place : IsPlace new
-  pub told : TellsStory goes before (Some old) octets (Some new) after
-  pub calm : failures after ≡ failures before
+  pub is_place : IsMessageState new
+  pub told : PassesStoryToSink goes before (Some old) octets (Some new) after
+  pub no_failure : failures after ≡ failures before
 
 -- An octet of a chunk was rejected, for its cause, and the sink received the events that those
 -- before it deliver.
-pub record RefusesInPart {S : Type 0} (goes : S → List StoryEvent → S → Type 0) (failures : S → ℕ) (old : Place) (before : S) (piece : List ℕ)
+pub record RejectsOctetOfMessage {S : Type 0} (goes : S → List StoryEvent → S → Type 0) (failures : S → ℕ) (old : Place) (before : S) (piece : List ℕ)
     (after : S) (fault : MessageFault) : Type 0 where
   pub within : fault.taken < length piece
-  pub refused : Refuses (Some old) piece fault
-  pub told : TellsFront goes before (Some old) (take fault.taken piece) after
-  pub counted : CountsCause (failures before) (failures after) fault.cause
+  pub refused : RejectsMessageOctet (Some old) piece fault
+  pub told : PassesPrefixToSink goes before (Some old) (take fault.taken piece) after
+  pub counted : SinkCountsMessageCause (failures before) (failures after) fault.cause

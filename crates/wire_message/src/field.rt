@@ -75,7 +75,7 @@ pub(crate) fn run_len(class: Class, octets: &[u8]) -> usize
 
 /// Returns the length of the longest prefix of the class, up to `most`.
 #[inline(always)]
-pub(crate) fn front_len(class: Class, most: usize, octets: &[u8]) -> usize
+pub(crate) fn prefix_len(class: Class, most: usize, octets: &[u8]) -> usize
     ensures within { result ≤ length octets.now }
     ensures few { result ≤ most }
     ensures class { Are (is_in_class class) (take result octets.now) }
@@ -101,7 +101,7 @@ pub(crate) fn take_run<const ROOM: usize>(
     ensures longest { result < length octets.now → length part.old.items + result < ROOM →
         is_in_class class (slice_index octets.now result) ≡ false }
 {
-    let run = front_len(class, part.remaining_capacity(), octets);
+    let run = prefix_len(class, part.remaining_capacity(), octets);
     append(part, &octets[..run]);
     run
 }

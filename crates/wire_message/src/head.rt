@@ -4,7 +4,7 @@ ghost use Rattle.std.specs.Prelude.{◌≡◌, ◌↔◌, ◌≤◌, ◌<◌, �
 
 use crate::class::Class;
 use crate::ends::Ends;
-use crate::field::{append, append_part, front_len, is_field, kept};
+use crate::field::{append, append_part, is_field, kept, prefix_len};
 use crate::lengths::{
     MAX_CATEGORY, MAX_INFO, MAX_KEPT, MAX_NUMBER, MAX_PRIORITY, MAX_SOURCE, MAX_WORDS,
 };
@@ -142,7 +142,7 @@ impl MessageHead {
         ensures longest { result < length octets.now → length self.old.info + result < max_info →
             is_info_octet (slice_index octets.now result) ≡ false }
     {
-        let run = front_len(Class::Info, MAX_INFO - self.info().len(), octets);
+        let run = prefix_len(Class::Info, MAX_INFO - self.info().len(), octets);
         append(&mut self.octets, &octets[..run]);
         run
     }

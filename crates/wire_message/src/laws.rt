@@ -1,7 +1,7 @@
 //! Lemmas on all messages, and on the states of a reader of messages. The functions do nothing:
 //! their contracts are the lemmas.
 
-ghost use Rattle.wire_message.specs.Laws.{MessageLaws, ReadersStandAtLivingOctets, PlacesAreReached, PlacesAreSavedApart};
+ghost use Rattle.wire_message.specs.Laws.{MessageLaws, ReadersConsumeViableOctets, MessageStatesAreReached, SavedStatesAreDistinct};
 
 use wire_story::laws::story_laws;
 
@@ -11,14 +11,14 @@ pub fn message_laws()
     ensures { MessageLaws }
 {
     story_laws();
-    readers_stand_at_living_octets();
+    readers_consume_viable_octets();
 }
 
 /// Proves that the octets that a reader has consumed are a viable prefix of a message, and so is
 /// their text of a story.
 #[tactic(auto, using(crate::proofs::Alike::stand_alive))]
-pub fn readers_stand_at_living_octets()
-    ensures { ReadersStandAtLivingOctets }
+pub fn readers_consume_viable_octets()
+    ensures { ReadersConsumeViableOctets }
 {
     story_laws();
 }
@@ -26,12 +26,12 @@ pub fn readers_stand_at_living_octets()
 /// Proves that some octets reach each state that satisfies the invariant of the reader, and that
 /// octets reach no other state.
 #[tactic(auto, using(crate::proofs::Reached::reached))]
-pub fn places_are_reached()
-    ensures { PlacesAreReached }
+pub fn message_states_are_reached()
+    ensures { MessageStatesAreReached }
 {}
 
 /// Proves that two states with the same saved state are the same.
 #[tactic(auto, using(crate::proofs::Saving::saved_apart))]
-pub fn places_are_saved_apart()
-    ensures { PlacesAreSavedApart }
+pub fn saved_states_are_distinct()
+    ensures { SavedStatesAreDistinct }
 {}

@@ -3,8 +3,8 @@
 ghost use Rattle.std.specs.Prelude.{◌≡◌, ◌<◌, ◌≤◌, ◌+◌, ◌&&◌, ◌||◌, ◌==◌, nat_lt, true, false, length, slice_index};
 ghost use Rattle.iim_dataset.specs.Format.Octets.{lf};
 ghost use Rattle.wire_message.specs.Format.Messages.{is_filler_octet, max_filler};
-ghost use Rattle.wire_message.specs.States.Reading.{IsPlace};
-ghost use Rattle.wire_message.specs.Steps.{EndsPart, lengthens_gap, TakesSome};
+ghost use Rattle.wire_message.specs.States.Reading.{IsMessageState};
+ghost use Rattle.wire_message.specs.Steps.{DoesNotExtendPart, lengthens_gap, ConsumesAnOctet};
 
 use crate::class::{Class, is_in};
 use crate::field::take_run;
@@ -39,7 +39,7 @@ fn lengthen_filler(count: &mut u8, octet: u8) -> usize
 /// Checks whether an octet extends a gap of `count` octets, with or without an LF, so that STX can
 /// still come.
 #[inline(always)]
-fn gap_leads_on(count: u8, feed: bool, octet: u8) -> bool
+fn extends_gap(count: u8, feed: bool, octet: u8) -> bool
     ensures { result ≡ lengthens_gap count feed octet }
 {
     fills(count, octet) && (feed || octet == LF || count < MAX_FILLER - 1)
@@ -56,7 +56,7 @@ fn lengthen_gap(count: &mut u8, feed: &mut bool, octet: u8) -> usize
     ensures feed { result ≡ 1 → feed.new ≡ (feed.old || octet == lf) }
     ensures same { result ≡ 0 → feed.new ≡ feed.old }
 {
-    if !gap_leads_on(*count, *feed, octet) {
+    if !extends_gap(*count, *feed, octet) {
         return 0;
     }
     *count += 1;
@@ -67,11 +67,11 @@ fn lengthen_gap(count: &mut u8, feed: &mut bool, octet: u8) -> usize
 /// Appends to the part that is being read the octets of it that follow, and returns their number.
 #[inline(always)]
 pub(crate) fn lengthen(place: &mut Place, rest: &[u8]) -> usize
-    requires place { IsPlace place.old }
+    requires place { IsMessageState place.old }
     requires some { 0 < length rest.now }
-    ensures takes { 0 < result → TakesSome place.old rest.now place.new result }
+    ensures takes { 0 < result → ConsumesAnOctet place.old rest.now place.new result }
     ensures same { result ≡ 0 → place.new ≡ place.old }
-    ensures ends { result ≡ 0 → EndsPart place.old (slice_index rest.now 0) }
+    ensures ends { result ≡ 0 → DoesNotExtendPart place.old (slice_index rest.now 0) }
 {
     match place {
         Place::Filler { count } => lengthen_filler(count, rest[0]),

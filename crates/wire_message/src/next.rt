@@ -3,11 +3,11 @@
 ghost use Rattle.std.specs.Prelude.{◌<◌, ◌≤◌, ◌≡◌, true, false, [], length, slice_index, IfSome, IfNone};
 ghost use Rattle.iim_dataset.specs.Format.Octets.{eot};
 ghost use Rattle.wire_message.specs.Format.Messages.{Header};
-ghost use Rattle.wire_message.specs.States.Reading.{IsPlace};
+ghost use Rattle.wire_message.specs.States.Reading.{IsMessageState};
 ghost use Rattle.wire_message.specs.declared.part.HeaderPart.{HeaderPart};
 ghost use Rattle.wire_message.specs.declared.part.HeaderTexts.{HeaderTexts};
 ghost use Rattle.wire_story.specs.declared.reader.TextReader.{TextReader};
-ghost use Rattle.wire_message.specs.Steps.{EndsPart, DiesWith, TakesSome};
+ghost use Rattle.wire_message.specs.Steps.{DoesNotExtendPart, OctetEndsViableMessage, ConsumesAnOctet};
 
 use crate::place::Place;
 use crate::step::{after_filler, begin_part, ends_part};
@@ -21,13 +21,13 @@ use std::mem;
 /// no message can have it there. The part must not be the text, or a part of the header before its
 /// info.
 fn next_part(place: Place, rest: &[u8]) -> Option<Place>
-    requires place { IsPlace place }
+    requires place { IsMessageState place }
     requires outside { (head : Header) (text : TextReader) → place ≡ Place.Text head text → ⊥ }
     requires no_header { (part : HeaderPart) (texts : HeaderTexts) → place ≡ Place.InHeader part texts → ⊥ }
     requires some { 0 < length rest.now }
-    requires ends { EndsPart place (slice_index rest.now 0) }
-    ensures takes { IfSome result (λ next. TakesSome place rest.now next 1) }
-    ensures dies { IfNone result (DiesWith place (slice_index rest.now 0)) }
+    requires ends { DoesNotExtendPart place (slice_index rest.now 0) }
+    ensures takes { IfSome result (λ next. ConsumesAnOctet place rest.now next 1) }
+    ensures dies { IfNone result (OctetEndsViableMessage place (slice_index rest.now 0)) }
 {
     match place {
         Place::Filler { count } => after_filler(count, rest),
@@ -48,12 +48,12 @@ fn next_part(place: Place, rest: &[u8]) -> Option<Place>
 /// begins the next part.
 #[inline(never)]
 pub(crate) fn begin_next(place: &mut Place, rest: &[u8]) -> bool
-    requires place { IsPlace place.old }
+    requires place { IsMessageState place.old }
     requires outside { (head : Header) (text : TextReader) → place.old ≡ Place.Text head text → ⊥ }
     requires some { 0 < length rest.now }
-    requires ends { EndsPart place.old (slice_index rest.now 0) }
-    ensures takes { result ≡ true → TakesSome place.old rest.now place.new 1 }
-    ensures dies { result ≡ false → DiesWith place.old (slice_index rest.now 0) }
+    requires ends { DoesNotExtendPart place.old (slice_index rest.now 0) }
+    ensures takes { result ≡ true → ConsumesAnOctet place.old rest.now place.new 1 }
+    ensures dies { result ≡ false → OctetEndsViableMessage place.old (slice_index rest.now 0) }
 {
     if let Place::InHeader { part, texts } = place {
         if !ends_part(*part, texts, rest[0]) {

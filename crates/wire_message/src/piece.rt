@@ -3,10 +3,10 @@
 
 ghost use Rattle.std.specs.Prelude.{◌≡◌, ◌<◌, ◌≤◌, length, slice_index, take, IfOk, IfErr, IfSome, IfNone, OnOk};
 ghost use Rattle.wire_message.specs.Format.Messages.{Header};
-ghost use Rattle.wire_message.specs.States.Reading.{IsPlace};
+ghost use Rattle.wire_message.specs.States.Reading.{IsMessageState};
 ghost use Rattle.wire_story.specs.declared.reader.TextReader.{TextReader};
 ghost use Rattle.wire_message.specs.declared.place.Place.TheVariants.{Filler};
-ghost use Rattle.wire_message.specs.Steps.{DiesWith, TakesSome, TakesOctets, RefusesInPart};
+ghost use Rattle.wire_message.specs.Steps.{OctetEndsViableMessage, ConsumesAnOctet, ConsumesOctets, RejectsOctetOfMessage};
 
 use crate::fault::{MessageCause, MessageFault};
 use crate::lengthen::lengthen;
@@ -29,8 +29,8 @@ fn filler_in(place: &Place) -> Option<u8>
 
 /// Consumes a complete header in place, if the state is filler, and returns its number of octets.
 #[inline(always)]
-fn take_head(place: &mut Place, rest: &[u8]) -> Option<usize>
-    ensures takes { IfSome result (λ used. TakesSome place.old rest.now place.new used) }
+fn consume_header(place: &mut Place, rest: &[u8]) -> Option<usize>
+    ensures takes { IfSome result (λ used. ConsumesAnOctet place.old rest.now place.new used) }
     ensures same { IfNone result (place.new ≡ place.old) }
 {
     let Some(_) = filler_in(place) else {
@@ -42,14 +42,14 @@ fn take_head(place: &mut Place, rest: &[u8]) -> Option<usize>
 /// Consumes octets outside the text in place, and returns their number, or `None` if no message can
 /// have the first one there.
 #[inline(never)]
-fn outside_text(place: &mut Place, rest: &[u8]) -> Option<usize>
-    requires place { IsPlace place.old }
+fn consume_outside_text(place: &mut Place, rest: &[u8]) -> Option<usize>
+    requires place { IsMessageState place.old }
     requires outside { (head : Header) (text : TextReader) → place.old ≡ Place.Text head text → ⊥ }
     requires some { 0 < length rest.now }
-    ensures takes { IfSome result (λ used. TakesSome place.old rest.now place.new used) }
-    ensures dies { IfNone result (DiesWith place.old (slice_index rest.now 0)) }
+    ensures takes { IfSome result (λ used. ConsumesAnOctet place.old rest.now place.new used) }
+    ensures dies { IfNone result (OctetEndsViableMessage place.old (slice_index rest.now 0)) }
 {
-    if let Some(used) = take_head(place, rest) {
+    if let Some(used) = consume_header(place, rest) {
         return Some(used);
     }
     let used = lengthen(place, rest);
@@ -62,24 +62,24 @@ fn outside_text(place: &mut Place, rest: &[u8]) -> Option<usize>
     None
 }
 
-/// Consumes octets outside the text as `outside_text` does. The sink receives nothing.
+/// Consumes octets outside the text as `consume_outside_text` does. The sink receives nothing.
 #[inline(always)]
-fn take_outside_text<S: StorySink>(
+fn pass_outside_text<S: StorySink>(
     place: &mut Place,
     rest: &[u8],
     sink: &mut S,
 ) -> Result<usize, MessageFault>
-    requires place { IsPlace place.old }
+    requires place { IsMessageState place.old }
     requires outside { (head : Header) (text : TextReader) → place.old ≡ Place.Text head text → ⊥ }
     requires some { 0 < length rest.now }
     ensures some { IfOk result (λ used. 0 < used) }
     ensures within { IfOk result (λ used. used ≤ length rest.now) }
     ensures takes { IfOk result (λ used.
-        TakesOctets S.goes S.failures place.old sink.old (take used rest.now) place.new sink.new) }
-    ensures stops { IfErr result (RefusesInPart S.goes S.failures place.old sink.old rest.now sink.new) }
+        ConsumesOctets S.goes S.failures place.old sink.old (take used rest.now) place.new sink.new) }
+    ensures stops { IfErr result (RejectsOctetOfMessage S.goes S.failures place.old sink.old rest.now sink.new) }
 {
     let _ = sink;
-    match outside_text(place, rest) {
+    match consume_outside_text(place, rest) {
         Some(used) => Ok(used),
         None => Err(MessageFault {
             taken: 0,
@@ -90,18 +90,18 @@ fn take_outside_text<S: StorySink>(
 
 /// Consumes a prefix of the remaining octets, and returns its length.
 #[inline(always)]
-fn take_front<S: StorySink>(
+fn consume_prefix<S: StorySink>(
     place: &mut Place,
     rest: &[u8],
     sink: &mut S,
 ) -> Result<usize, MessageFault>
-    requires place { IsPlace place.old }
+    requires place { IsMessageState place.old }
     requires some { 0 < length rest.now }
     ensures some { IfOk result (λ used. 0 < used) }
     ensures within { IfOk result (λ used. used ≤ length rest.now) }
     ensures takes { IfOk result (λ used.
-        TakesOctets S.goes S.failures place.old sink.old (take used rest.now) place.new sink.new) }
-    ensures stops { IfErr result (RefusesInPart S.goes S.failures place.old sink.old rest.now sink.new) }
+        ConsumesOctets S.goes S.failures place.old sink.old (take used rest.now) place.new sink.new) }
+    ensures stops { IfErr result (RejectsOctetOfMessage S.goes S.failures place.old sink.old rest.now sink.new) }
 {
     match place {
         Place::Text { head, text } => match in_text(head, text, rest, sink) {
@@ -113,24 +113,24 @@ fn take_front<S: StorySink>(
             }
             Err(fault) => Err(fault),
         },
-        _ => take_outside_text(place, rest, sink),
+        _ => pass_outside_text(place, rest, sink),
     }
 }
 
 /// Consumes a chunk in place.
-pub(crate) fn take_piece<S: StorySink>(
+pub(crate) fn consume_chunk<S: StorySink>(
     place: &mut Place,
     piece: &[u8],
     sink: &mut S,
 ) -> Result<(), MessageFault>
-    requires { IsPlace place.old }
-    ensures takes { OnOk result (TakesOctets S.goes S.failures place.old sink.old piece.now place.new sink.new) }
+    requires { IsMessageState place.old }
+    ensures takes { OnOk result (ConsumesOctets S.goes S.failures place.old sink.old piece.now place.new sink.new) }
     ensures nothing { length piece.now ≡ 0 → (place.new ≡ place.old) × (sink.new ≡ sink.old) }
-    ensures stops { IfErr result (RefusesInPart S.goes S.failures place.old sink.old piece.now sink.new) }
+    ensures stops { IfErr result (RejectsOctetOfMessage S.goes S.failures place.old sink.old piece.now sink.new) }
 {
     let mut at = 0;
     while at < piece.len() {
-        match take_front(place, &piece[at..], sink) {
+        match consume_prefix(place, &piece[at..], sink) {
             Ok(used) => at += used,
             Err(fault) => {
                 return Err(MessageFault {

@@ -3,13 +3,15 @@
 ghost use Rattle.std.specs.Prelude.{◌≡◌, ◌↔◌, ◌<◌, [], List, ℕ, Option, false, is_none, length, Some, None, IsTrue, IsSome, IsOk, IfSome, IfErr, OnOk, OnErr};
 ghost use Rattle.std.specs.Option.{option_map};
 ghost use Rattle.wire_story.specs.Format.Texts.{End};
-ghost use Rattle.wire_message.specs.Format.Messages.{MessageDiesAt};
-ghost use Rattle.wire_message.specs.States.Reading.{IsAt, LeadsToSaved, LeadsIn, IsOneOf, least_of, greatest_of};
+ghost use Rattle.wire_message.specs.Format.Messages.{EndsViableMessage};
+ghost use Rattle.wire_message.specs.States.Reading.{ReaderHasSavedState, ReachesSavedState, IsReachedByLength, IsPossibleLength, least_of, greatest_of};
 
 use crate::fault::{MessageCause, MessageFault};
 use crate::head::MessageHead;
-use crate::laws::{places_are_reached, places_are_saved_apart, readers_stand_at_living_octets};
-use crate::piece::take_piece;
+use crate::laws::{
+    message_states_are_reached, readers_consume_viable_octets, saved_states_are_distinct,
+};
+use crate::piece::consume_chunk;
 use crate::place::Place;
 use crate::restore::restore;
 use crate::save::save;
@@ -43,20 +45,20 @@ impl Model for MessageReader {
 
     ghost Value = { Option Place };
 
-    ghost use Rattle.wire_message.specs.States.Reading.{IsPlace};
+    ghost use Rattle.wire_message.specs.States.Reading.{IsMessageState};
 
     ghost view = { λ reader. reader.place };
 
-    ghost invariant = { λ reader. ForSome reader.place IsPlace };
+    ghost invariant = { λ reader. ForSome reader.place IsMessageState };
 }
 
-ghost use Rattle.wire_message.specs.States.Reading.{StandsAt, TakesPiece, RefusesOne, head_read, trailer_read, is_ended, IsWhole};
+ghost use Rattle.wire_message.specs.States.Reading.{MessageReaderHasRead, MessageReaderConsumes, MessageReaderRejects, head_read, trailer_read, is_ended, IsCompleteMessage};
 
 impl MessageReader {
     /// Creates a reader at the start of an object.
     pub fn new() -> MessageReader
         ensures takes_calls { IsSome result }
-        ensures stands { StandsAt result [] [] }
+        ensures stands { MessageReaderHasRead result [] [] }
     {
         MessageReader {
             place: Some(Place::Filler { count: 0 }),
@@ -74,7 +76,7 @@ impl MessageReader {
     /// reader must not have failed.
     pub fn place(&self) -> MessagePlace
         requires { IsSome self.now }
-        ensures { IsAt self.now result }
+        ensures { ReaderHasSavedState self.now result }
     {
         match &self.place {
             Some(place) => save(place),
@@ -84,13 +86,13 @@ impl MessageReader {
 
     /// Restores a reader from a saved state. Returns `None` exactly if no octets reach that state.
     pub fn at(place: MessagePlace) -> Option<MessageReader>
-        ensures place { IfSome result (λ reader. IsAt reader place) }
+        ensures place { IfSome result (λ reader. ReaderHasSavedState reader place) }
         ensures stands { IfSome result (λ reader.
-            (octets text : List ℕ) → LeadsToSaved octets text place → StandsAt reader octets text) }
-        ensures exactly { IsSome result ↔ ((octets : List ℕ) × (text : List ℕ) × LeadsToSaved octets text place) }
+            (octets text : List ℕ) → ReachesSavedState octets text place → MessageReaderHasRead reader octets text) }
+        ensures exactly { IsSome result ↔ ((octets : List ℕ) × (text : List ℕ) × ReachesSavedState octets text place) }
     {
-        places_are_reached();
-        places_are_saved_apart();
+        message_states_are_reached();
+        saved_states_are_distinct();
         let place = restore(&place)?;
         Some(MessageReader { place: Some(place) })
     }
@@ -100,7 +102,7 @@ impl MessageReader {
     /// not have failed.
     pub fn lengths(&self) -> (u64, Option<u64>)
         requires { IsSome self.now }
-        ensures exactly { (count : ℕ) → LeadsIn self.now count ↔ IsOneOf result.0 result.1 count }
+        ensures exactly { (count : ℕ) → IsReachedByLength self.now count ↔ IsPossibleLength result.0 result.1 count }
         ensures least { IfSome self.now (λ place. result.0 ≡ least_of place) }
         ensures greatest { IfSome self.now (λ place. result.1 ≡ greatest_of place) }
     {
@@ -122,7 +124,8 @@ impl MessageReader {
         // The octets so far, with the chunk, are a viable prefix of a message, and their text of a
         // story.
         ensures takes_calls { OnOk result (IsSome self.new) }
-        ensures taken { OnOk result (TakesPiece S.goes S.failures self.old piece.now self.new sink.old sink.new) }
+        ensures taken { OnOk result (MessageReaderConsumes S.goes S.failures self.old piece.now self.new sink.old
+            sink.new) }
 
         // An empty chunk is accepted, and changes nothing.
         ensures takes_nothing { length piece.now ≡ 0 → IsOk result }
@@ -132,11 +135,11 @@ impl MessageReader {
         // story, or the sink stopped. Before it both were.
         ensures failed { OnErr result (self.new ≡ None) }
         ensures refused { IfErr result (λ fault.
-            RefusesOne S.goes S.failures self.old piece.now fault sink.old sink.new) }
+            MessageReaderRejects S.goes S.failures self.old piece.now fault sink.old sink.new) }
     {
-        readers_stand_at_living_octets();
+        readers_consume_viable_octets();
         match &mut self.place {
-            Some(place) => match take_piece(place, piece, sink) {
+            Some(place) => match consume_chunk(place, piece, sink) {
                 Ok(()) => Ok(()),
                 Err(fault) => {
                     self.place = None;
@@ -150,9 +153,9 @@ impl MessageReader {
     /// Checks whether the octets so far are a message: whether the object may end here.
     #[inline(always)]
     pub fn is_whole(&self) -> bool
-        ensures whole { IsTrue result → IsWhole self.now }
-        ensures unfinished { result ≡ false → (octets text : List ℕ) → StandsAt self.now octets text
-            → MessageDiesAt octets End }
+        ensures whole { IsTrue result → IsCompleteMessage self.now }
+        ensures unfinished { result ≡ false → (octets text : List ℕ) → MessageReaderHasRead self.now octets text
+            → EndsViableMessage octets End }
     {
         has_ended(&self.place)
     }
@@ -166,13 +169,13 @@ impl MessageReader {
         // The octets so far are a message with the header and the trailer that were read, and with
         // a text.
         ensures unchanged { OnOk result (self.new ≡ self.old) }
-        ensures whole { OnOk result (IsWhole self.old) }
+        ensures whole { OnOk result (IsCompleteMessage self.old) }
 
         // No message may end here.
         ensures failed { OnErr result (self.new ≡ None) }
         ensures fault { IfErr result (λ fault. (fault.taken ≡ 0) × (fault.cause ≡ MessageCause.Unfinished)) }
-        ensures refused { OnErr result ((octets text : List ℕ) → StandsAt self.old octets text
-            → MessageDiesAt octets End) }
+        ensures refused { OnErr result ((octets text : List ℕ) → MessageReaderHasRead self.old octets text
+            → EndsViableMessage octets End) }
     {
         if has_ended(&self.place) {
             return Ok(());

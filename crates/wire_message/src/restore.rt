@@ -5,8 +5,8 @@ ghost use Rattle.wire_message.specs.declared.place.Place.{Place};
 ghost use Rattle.wire_message.specs.declared.saved.MessagePart.TheVariants as part;
 ghost use Rattle.wire_message.specs.Kept.{is_in_class};
 ghost use Rattle.wire_message.specs.Format.Messages.{IsField, max_filler, IsHeader};
-ghost use Rattle.wire_message.specs.States.Reading.{IsPlace, saved};
-ghost use Rattle.wire_message.specs.Steps.{head_in, texts_in, IsOnly};
+ghost use Rattle.wire_message.specs.States.Reading.{IsMessageState, saved};
+ghost use Rattle.wire_message.specs.Steps.{head_in, texts_in, IsOnlyState};
 
 use crate::class::Class;
 use crate::field::{is_field, kept};
@@ -18,7 +18,7 @@ use crate::save::save;
 use crate::saved::{MessagePart, MessagePlace};
 use crate::writing::is_trailer;
 use wire_story::TextReader;
-use wire_story::laws::places_are_reached;
+use wire_story::laws::text_states_are_reached;
 
 /// Checks whether filler may have `count` octets.
 fn is_filler(count: u8) -> bool
@@ -41,7 +41,7 @@ fn is_part(class: Class, some: bool, begun: bool, most: usize, octets: &[u8]) ->
 /// first `some` parts must be non-empty, the parts after the first `begun` must be empty, and any
 /// between them may be either.
 fn is_header_so_far(part: HeaderPart, place: &MessagePlace) -> bool
-    ensures { IsTrue result ↔ IsPlace (Place.InHeader part (texts_in place.now)) }
+    ensures { IsTrue result ↔ IsMessageState (Place.InHeader part (texts_in place.now)) }
 {
     let (some, begun) = match part {
         HeaderPart::Source => (0, 1),
@@ -99,8 +99,8 @@ fn head_of(place: &MessagePlace) -> Option<MessageHead>
 /// Restores a state in the filler before SOH.
 fn in_filler(place: &MessagePlace) -> Option<Place>
     requires { place.now.part ≡ part.Filler }
-    ensures place { IfSome result IsPlace }
-    ensures only { IsOnly result place.now }
+    ensures place { IfSome result IsMessageState }
+    ensures only { IsOnlyState result place.now }
 {
     if is_filler(place.counter) {
         return Some(Place::Filler {
@@ -112,9 +112,9 @@ fn in_filler(place: &MessagePlace) -> Option<Place>
 
 /// Restores a state in a part of the header.
 fn in_header(part: HeaderPart, place: &MessagePlace) -> Option<Place>
-    requires { (at : Place) → IsPlace at → saved at ≡ place.now → at ≡ Place.InHeader part (texts_in place.now) }
-    ensures place { IfSome result IsPlace }
-    ensures only { IsOnly result place.now }
+    requires { (at : Place) → IsMessageState at → saved at ≡ place.now → at ≡ Place.InHeader part (texts_in place.now) }
+    ensures place { IfSome result IsMessageState }
+    ensures only { IsOnlyState result place.now }
 {
     if !is_header_so_far(part, place) {
         return None;
@@ -132,8 +132,8 @@ fn in_header(part: HeaderPart, place: &MessagePlace) -> Option<Place>
 /// Restores a state in the gap.
 fn in_gap(place: &MessagePlace) -> Option<Place>
     requires { place.now.part ≡ part.Gap }
-    ensures place { IfSome result IsPlace }
-    ensures only { IsOnly result place.now }
+    ensures place { IfSome result IsMessageState }
+    ensures only { IsOnlyState result place.now }
 {
     let head = head_of(place)?;
     let has_feed = place.flag == 1;
@@ -150,10 +150,10 @@ fn in_gap(place: &MessagePlace) -> Option<Place>
 /// Restores a state in the text.
 fn in_text(place: &MessagePlace) -> Option<Place>
     requires { place.now.part ≡ part.Text }
-    ensures place { IfSome result IsPlace }
-    ensures only { IsOnly result place.now }
+    ensures place { IfSome result IsMessageState }
+    ensures only { IsOnlyState result place.now }
 {
-    places_are_reached();
+    text_states_are_reached();
     let head = head_of(place)?;
     let text = TextReader::at(place.flag)?;
     Some(Place::Text { head, text })
@@ -162,8 +162,8 @@ fn in_text(place: &MessagePlace) -> Option<Place>
 /// Restores a state in the trailer.
 fn in_trailer(place: &MessagePlace) -> Option<Place>
     requires { place.now.part ≡ part.Trailer }
-    ensures place { IfSome result IsPlace }
-    ensures only { IsOnly result place.now }
+    ensures place { IfSome result IsMessageState }
+    ensures only { IsOnlyState result place.now }
 {
     let head = head_of(place)?;
     if is_trailer(&place.trailer) {
@@ -176,8 +176,8 @@ fn in_trailer(place: &MessagePlace) -> Option<Place>
 /// Restores a state after EOT.
 fn after_end(place: &MessagePlace) -> Option<Place>
     requires { place.now.part ≡ part.AfterEnd }
-    ensures place { IfSome result IsPlace }
-    ensures only { IsOnly result place.now }
+    ensures place { IfSome result IsMessageState }
+    ensures only { IsOnlyState result place.now }
 {
     let head = head_of(place)?;
     if is_trailer(&place.trailer) && is_filler(place.counter) {
@@ -191,9 +191,9 @@ fn after_end(place: &MessagePlace) -> Option<Place>
 }
 
 /// Returns the only state that may have this saved state.
-fn candidate(place: &MessagePlace) -> Option<Place>
-    ensures place { IfSome result IsPlace }
-    ensures only { IsOnly result place.now }
+fn only_state_for(place: &MessagePlace) -> Option<Place>
+    ensures place { IfSome result IsMessageState }
+    ensures only { IsOnlyState result place.now }
 {
     match place.part {
         MessagePart::Filler => in_filler(place),
@@ -216,11 +216,11 @@ fn candidate(place: &MessagePlace) -> Option<Place>
 
 /// Returns the state with this saved state, or `None` if there is no such state.
 pub(crate) fn restore(saved_place: &MessagePlace) -> Option<Place>
-    ensures place { IfSome result IsPlace }
+    ensures place { IfSome result IsMessageState }
     ensures same { IfSome result (λ place. saved place ≡ saved_place.now) }
-    ensures only { IsOnly result saved_place.now }
+    ensures only { IsOnlyState result saved_place.now }
 {
-    let place = candidate(saved_place)?;
+    let place = only_state_for(saved_place)?;
     if save(&place).is(saved_place) {
         return Some(place);
     }

@@ -1,7 +1,7 @@
 //! Saves a state.
 
 ghost use Rattle.std.specs.Prelude.{◌≡◌, ◌≤◌, [], length};
-ghost use Rattle.wire_message.specs.States.Reading.{IsPlace, place_with_header, saved, saved_part};
+ghost use Rattle.wire_message.specs.States.Reading.{IsMessageState, place_with_header, saved, saved_part};
 
 use crate::field::kept;
 use crate::head::MessageHead;
@@ -42,7 +42,13 @@ fn in_header(part: HeaderPart, texts: &HeaderTexts) -> MessagePlace
 }
 
 /// Saves a state after a header, with what was read of the trailer.
-fn headed(part: Part, counter: u8, flag: u8, head: &MessageHead, trailer: &[u8]) -> MessagePlace
+fn saved_after_header(
+    part: Part,
+    counter: u8,
+    flag: u8,
+    head: &MessageHead,
+    trailer: &[u8],
+) -> MessagePlace
     requires { length trailer.now ≤ MAX_SAVED }
     ensures { result ≡ place_with_header part counter flag head.now trailer.now }
 {
@@ -62,7 +68,7 @@ fn headed(part: Part, counter: u8, flag: u8, head: &MessageHead, trailer: &[u8])
 
 /// Saves a state.
 pub(crate) fn save(place: &Place) -> MessagePlace
-    requires { IsPlace place.now }
+    requires { IsMessageState place.now }
     ensures { result ≡ saved place.now }
 {
     match place {
@@ -71,18 +77,18 @@ pub(crate) fn save(place: &Place) -> MessagePlace
             ..MessagePlace::bare(Part::Filler)
         },
         Place::InHeader { part, texts } => in_header(*part, texts),
-        Place::Info { head } => headed(Part::Info, 0, 0, head, &[]),
+        Place::Info { head } => saved_after_header(Part::Info, 0, 0, head, &[]),
         Place::Gap {
             head,
             count,
             has_feed,
-        } => headed(Part::Gap, *count, u8::from(*has_feed), head, &[]),
-        Place::Text { head, text } => headed(Part::Text, 0, text.held(), head, &[]),
-        Place::Trailer { head, trailer } => headed(Part::Trailer, 0, 0, head, trailer),
+        } => saved_after_header(Part::Gap, *count, u8::from(*has_feed), head, &[]),
+        Place::Text { head, text } => saved_after_header(Part::Text, 0, text.held(), head, &[]),
+        Place::Trailer { head, trailer } => saved_after_header(Part::Trailer, 0, 0, head, trailer),
         Place::AfterEnd {
             head,
             trailer,
             count,
-        } => headed(Part::AfterEnd, *count, 0, head, trailer),
+        } => saved_after_header(Part::AfterEnd, *count, 0, head, trailer),
     }
 }

@@ -2,7 +2,7 @@
 
 ghost use Rattle.std.specs.Prelude.{◌≡◌, ◌≤◌, ◌+◌, Some, None, length};
 ghost use Rattle.wire_message.specs.Format.Messages.{max_filler, max_source, max_number, max_priority, max_category, max_words, max_info, packed_info};
-ghost use Rattle.wire_message.specs.States.Reading.{IsPlace, so_far, fixed_octets, least_head, least_of, greatest_of};
+ghost use Rattle.wire_message.specs.States.Reading.{IsMessageState, so_far, fixed_octets, least_head, least_of, greatest_of};
 
 use crate::head::MessageHead;
 use crate::lengths::MAX_FILLER;
@@ -86,7 +86,7 @@ fn in_gap(head: &MessageHead, count: u8) -> (u64, Option<u64>)
 
 /// Returns the least number of octets that reach a state, and the greatest if there is one.
 pub(crate) fn lengths_to(place: &Place) -> (u64, Option<u64>)
-    requires { IsPlace place.now }
+    requires { IsMessageState place.now }
     ensures least { result.0 ≡ least_of place.now }
     ensures greatest { result.1 ≡ greatest_of place.now }
 {

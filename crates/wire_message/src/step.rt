@@ -2,8 +2,8 @@
 
 ghost use Rattle.std.specs.Prelude.{◌≡◌, ◌<◌, ◌&&◌, nat_lt, IfSome, IfNone, length, slice_index};
 ghost use Rattle.std.specs.Option.{unwrap_or};
-ghost use Rattle.wire_message.specs.States.Reading.{IsPlace};
-ghost use Rattle.wire_message.specs.Steps.{EndsPart, ends, begins, text_of, DiesWith, TakesSome};
+ghost use Rattle.wire_message.specs.States.Reading.{IsMessageState};
+ghost use Rattle.wire_message.specs.Steps.{DoesNotExtendPart, ends, begins, octets_of_part, OctetEndsViableMessage, ConsumesAnOctet};
 
 use crate::class::{Class, is_in};
 use crate::field::part_of_one;
@@ -16,11 +16,11 @@ use iim_dataset::octets::{LF, SOH, SP};
 /// Consumes SOH, which ends the filler.
 #[inline(never)]
 pub(crate) fn after_filler(count: u8, rest: &[u8]) -> Option<Place>
-    requires place { IsPlace (Place.Filler count) }
+    requires place { IsMessageState (Place.Filler count) }
     requires some { 0 < length rest.now }
-    requires ends { EndsPart (Place.Filler count) (slice_index rest.now 0) }
-    ensures takes { IfSome result (λ next. TakesSome (Place.Filler count) rest.now next 1) }
-    ensures dies { IfNone result (DiesWith (Place.Filler count) (slice_index rest.now 0)) }
+    requires ends { DoesNotExtendPart (Place.Filler count) (slice_index rest.now 0) }
+    ensures takes { IfSome result (λ next. ConsumesAnOctet (Place.Filler count) rest.now next 1) }
+    ensures dies { IfNone result (OctetEndsViableMessage (Place.Filler count) (slice_index rest.now 0)) }
 {
     let _ = count;
     if rest[0] == SOH {
@@ -41,7 +41,7 @@ pub(crate) fn after_filler(count: u8, rest: &[u8]) -> Option<Place>
 /// Checks whether an octet ends a part of the header: it is one that does, and the part has octets.
 #[inline(always)]
 pub(crate) fn ends_part(part: HeaderPart, texts: &HeaderTexts, octet: u8) -> bool
-    ensures { result ≡ (ends part octet && nat_lt 0 (length (text_of part texts.now))) }
+    ensures { result ≡ (ends part octet && nat_lt 0 (length (octets_of_part part texts.now))) }
 {
     match part {
         HeaderPart::Source => is_in(Class::Digit, octet) && !texts.source.is_empty(),
@@ -56,7 +56,7 @@ pub(crate) fn ends_part(part: HeaderPart, texts: &HeaderTexts, octet: u8) -> boo
 
 /// Returns the state after the octet that ends the words.
 fn after_words(texts: &HeaderTexts, octet: u8) -> Place
-    requires { IsPlace (begins HeaderPart.Words octet texts.now) }
+    requires { IsMessageState (begins HeaderPart.Words octet texts.now) }
     ensures { result ≡ begins HeaderPart.Words octet texts.now }
 {
     let head = MessageHead::begun(texts);
@@ -73,7 +73,7 @@ fn after_words(texts: &HeaderTexts, octet: u8) -> Place
 /// Begins the part that comes after the octet, in place, or returns the state that comes after the
 /// words.
 pub(crate) fn begin_part(part: &mut HeaderPart, texts: &mut HeaderTexts, octet: u8) -> Option<Place>
-    requires { IsPlace (begins part.old octet texts.old) }
+    requires { IsMessageState (begins part.old octet texts.old) }
     ensures { unwrap_or result (Place.InHeader part.new texts.new) ≡ begins part.old octet texts.old }
 {
     match *part {

@@ -2,8 +2,8 @@
 
 ghost use Rattle.std.specs.Prelude.{◌≡◌, ◌<◌, ◌&&◌, ◌==◌, IfSome, IfNone, length, slice_index};
 ghost use Rattle.iim_dataset.specs.Format.Octets.{stx};
-ghost use Rattle.wire_message.specs.States.Reading.{IsPlace};
-ghost use Rattle.wire_message.specs.Steps.{EndsPart, DiesWith, TakesSome};
+ghost use Rattle.wire_message.specs.States.Reading.{IsMessageState};
+ghost use Rattle.wire_message.specs.Steps.{DoesNotExtendPart, OctetEndsViableMessage, ConsumesAnOctet};
 
 use crate::class::{Class, is_in};
 use crate::head::MessageHead;
@@ -16,11 +16,11 @@ use wire_story::TextReader;
 /// Consumes the first octet of the gap, which ends the info.
 #[inline(never)]
 pub(crate) fn after_info(head: MessageHead, rest: &[u8]) -> Option<Place>
-    requires place { IsPlace (Place.Info head) }
+    requires place { IsMessageState (Place.Info head) }
     requires some { 0 < length rest.now }
-    requires ends { EndsPart (Place.Info head) (slice_index rest.now 0) }
-    ensures takes { IfSome result (λ next. TakesSome (Place.Info head) rest.now next 1) }
-    ensures dies { IfNone result (DiesWith (Place.Info head) (slice_index rest.now 0)) }
+    requires ends { DoesNotExtendPart (Place.Info head) (slice_index rest.now 0) }
+    ensures takes { IfSome result (λ next. ConsumesAnOctet (Place.Info head) rest.now next 1) }
+    ensures dies { IfNone result (OctetEndsViableMessage (Place.Info head) (slice_index rest.now 0)) }
 {
     let octet = rest[0];
     if is_in(Class::Filler, octet) {
@@ -44,11 +44,11 @@ fn ends_gap(feed: bool, octet: u8) -> bool
 /// Consumes STX, which ends the gap.
 #[inline(never)]
 pub(crate) fn after_gap(head: MessageHead, count: u8, feed: bool, rest: &[u8]) -> Option<Place>
-    requires place { IsPlace (Place.Gap head count feed) }
+    requires place { IsMessageState (Place.Gap head count feed) }
     requires some { 0 < length rest.now }
-    requires ends { EndsPart (Place.Gap head count feed) (slice_index rest.now 0) }
-    ensures takes { IfSome result (λ next. TakesSome (Place.Gap head count feed) rest.now next 1) }
-    ensures dies { IfNone result (DiesWith (Place.Gap head count feed) (slice_index rest.now 0)) }
+    requires ends { DoesNotExtendPart (Place.Gap head count feed) (slice_index rest.now 0) }
+    ensures takes { IfSome result (λ next. ConsumesAnOctet (Place.Gap head count feed) rest.now next 1) }
+    ensures dies { IfNone result (OctetEndsViableMessage (Place.Gap head count feed) (slice_index rest.now 0)) }
 {
     let _ = count;
     if ends_gap(feed, rest[0]) {
@@ -65,11 +65,11 @@ pub(crate) fn after_trailer(
     trailer: ArrayVec<u8, MAX_TRAILER>,
     rest: &[u8],
 ) -> Option<Place>
-    requires place { IsPlace (Place.Trailer head trailer) }
+    requires place { IsMessageState (Place.Trailer head trailer) }
     requires some { 0 < length rest.now }
-    requires ends { EndsPart (Place.Trailer head trailer) (slice_index rest.now 0) }
-    ensures takes { IfSome result (λ next. TakesSome (Place.Trailer head trailer) rest.now next 1) }
-    ensures dies { IfNone result (DiesWith (Place.Trailer head trailer) (slice_index rest.now 0)) }
+    requires ends { DoesNotExtendPart (Place.Trailer head trailer) (slice_index rest.now 0) }
+    ensures takes { IfSome result (λ next. ConsumesAnOctet (Place.Trailer head trailer) rest.now next 1) }
+    ensures dies { IfNone result (OctetEndsViableMessage (Place.Trailer head trailer) (slice_index rest.now 0)) }
 {
     if rest[0] == EOT {
         return Some(Place::AfterEnd {

@@ -3,19 +3,19 @@
 ghost use Rattle.std.specs.Prelude.{◌≡◌, ◌<◌, ◌≤◌, ℕ, false, true, [], length, take, IfOk, IfErr};
 ghost use Rattle.arrayvec.specs.ArrayVec.{ArrayVec};
 ghost use Rattle.wire_message.specs.declared.place.Place.{Place};
-ghost use Rattle.wire_message.specs.States.Reading.{IsPlace};
-ghost use Rattle.wire_message.specs.Steps.{cause_of, TakesOctets, RefusesInPart};
+ghost use Rattle.wire_message.specs.States.Reading.{IsMessageState};
+ghost use Rattle.wire_message.specs.Steps.{message_cause_of, ConsumesOctets, RejectsOctetOfMessage};
 
 use crate::fault::{MessageCause, MessageFault};
 use crate::head::MessageHead;
 use iim_dataset::octets::ETX;
-use wire_story::laws::{places_are_reached, story_laws};
+use wire_story::laws::{story_laws, text_states_are_reached};
 use wire_story::{StorySink, TextCause, TextReader};
 
 /// Returns the cause of a message for a cause of its text.
 #[inline(always)]
 fn cause_in_text(cause: TextCause) -> MessageCause
-    ensures { result ≡ cause_of cause }
+    ensures { result ≡ message_cause_of cause }
 {
     match cause {
         TextCause::LoneReturn => MessageCause::LoneReturn,
@@ -42,22 +42,22 @@ pub(crate) fn in_text<S: StorySink>(
     rest: &[u8],
     sink: &mut S,
 ) -> Result<(usize, bool), MessageFault>
-    requires place { IsPlace (Place.Text head.now text.old) }
+    requires place { IsMessageState (Place.Text head.now text.old) }
     requires some { 0 < length rest.now }
     ensures some { IfOk result (λ front. 0 < front.0) }
     ensures within { IfOk result (λ front. front.0 ≤ length rest.now) }
     ensures takes { IfOk result (λ front. front.1 ≡ false →
-        TakesOctets S.goes S.failures (Place.Text head.now text.old) sink.old (take front.0 rest.now)
+        ConsumesOctets S.goes S.failures (Place.Text head.now text.old) sink.old (take front.0 rest.now)
         (Place.Text head.now text.new) sink.new) }
     ensures ended { IfOk result (λ front. front.1 ≡ true → (trailer : ArrayVec ℕ) → trailer.items ≡ [] →
-        TakesOctets S.goes S.failures (Place.Text head.now text.old) sink.old (take front.0 rest.now)
+        ConsumesOctets S.goes S.failures (Place.Text head.now text.old) sink.old (take front.0 rest.now)
         (Place.Trailer head.now trailer) sink.new) }
     ensures stops { IfErr result (
-        RefusesInPart S.goes S.failures (Place.Text head.now text.old) sink.old rest.now sink.new) }
+        RejectsOctetOfMessage S.goes S.failures (Place.Text head.now text.old) sink.old rest.now sink.new) }
 {
     let _ = head;
     story_laws();
-    places_are_reached();
+    text_states_are_reached();
     match text.run(rest, sink) {
         Ok(()) => Ok((rest.len(), false)),
         Err(fault) => {

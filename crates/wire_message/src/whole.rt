@@ -5,11 +5,11 @@ ghost use Rattle.iim_dataset.specs.Format.Octets.{stx, sp};
 ghost use Rattle.wire_message.specs.Kept.{is_in_class, parts_in, IsKept};
 ghost use Rattle.wire_message.specs.Format.Messages.{Are, IsField, is_info_octet, max_info, IsGap, BeginsWithHeader, has_feed};
 ghost use Rattle.wire_message.specs.declared.place.Place.TheVariants.{Filler};
-ghost use Rattle.wire_message.specs.Steps.{TakesSome};
+ghost use Rattle.wire_message.specs.Steps.{ConsumesAnOctet};
 
 use crate::class::Class;
 use crate::ends::Ends;
-use crate::field::front_len;
+use crate::field::prefix_len;
 use crate::head::MessageHead;
 use crate::lengths::{
     MAX_CATEGORY, MAX_FILLER, MAX_INFO, MAX_NUMBER, MAX_PRIORITY, MAX_SOURCE, MAX_WORDS,
@@ -25,7 +25,7 @@ fn part(class: Class, most: usize, octets: &[u8]) -> (&[u8], &[u8])
     ensures class { Are (is_in_class class) result.0.now }
     ensures few { length result.0.now ≤ most }
 {
-    octets.split_at(front_len(class, most, octets))
+    octets.split_at(prefix_len(class, most, octets))
 }
 
 /// Returns what follows the octet, if it comes first.
@@ -91,7 +91,7 @@ fn are_some(source: &[u8], number: &[u8], priority: &[u8], category: &[u8], word
 /// Reads a header that is complete at the start, from SOH to STX. Returns its joined parts, where
 /// they end, and what follows STX.
 #[inline(always)]
-fn front_head(octets: &[u8]) -> Option<(&[u8], Ends, &[u8])>
+fn parse_header(octets: &[u8]) -> Option<(&[u8], Ends, &[u8])>
     ensures head { IfSome result (λ front. (begins : BeginsWithHeader octets.now (parts_in front.0.now front.1))
         × (begins.before ≡ []) × (begins.rest ≡ front.2.now)) }
     ensures kept { IfSome result (λ front. IsKept front.0.now front.1) }
@@ -122,10 +122,10 @@ fn front_head(octets: &[u8]) -> Option<(&[u8], Ends, &[u8])>
 /// returns its number of octets.
 #[inline(never)]
 pub(crate) fn whole_head(place: &mut Place, octets: &[u8]) -> Option<usize>
-    ensures takes { IfSome result (λ used. (count : ℕ) → TakesSome (Filler count) octets.now place.new used) }
+    ensures takes { IfSome result (λ used. (count : ℕ) → ConsumesAnOctet (Filler count) octets.now place.new used) }
     ensures same { IfNone result (place.new ≡ place.old) }
 {
-    let (header, ends, rest) = front_head(octets)?;
+    let (header, ends, rest) = parse_header(octets)?;
     let head = MessageHead::of_octets(header, ends);
     let text = TextReader::new();
     *place = Place::Text { head, text };

@@ -11,7 +11,7 @@ use Rattle.std.proofs.lemmas.Nat.{and_block}
 use Rattle.std.proofs.lemmas.Simd.{zip2_of_maps, zip2_splat, map-map, mask_l-mod, mask_l-lt, ones-mask_l_cons}
 use Rattle.std.proofs.lemmas.Bool.Decides.{nat_tests}
 use Rattle.std.proofs.lemmas.List.{drop_more, drop_all, drop-drop, take_rest, take-append-drop, length-map, length-append, length-replicate, take_all, length-take-le, map-append}
-use Rattle.wire_story.specs.Format.Texts.{LineOctet, WordsSoFar, CountsWords, capped, is_word_octet, is_blank, words_begun, begun_with, inside_after}
+use Rattle.wire_story.specs.Format.Texts.{LineOctet, WordsSoFar, CountsWords, capped, is_word_octet, is_blank, words_begun, words_begun_with, inside_after}
 use Rattle.wire_story.specs.Steps.{told-append, outside_after}
 use Rattle.wire_story.proofs.{Words.told_last, Marked.mask_drop, Marked.mask_join}
 
@@ -24,7 +24,7 @@ ones_begun : (inside : Bool) (xs : List ℕ) → count_ones (mask_l (begins insi
 unfolding count_ones
 ones_begun inside [] = refl
 ones_begun inside (b ∷ xs) = ones-mask_l_cons (is_word_octet b && not inside) (begins (is_word_octet b) xs)
-    ∙ ap (λ n. begun_with inside b + n) (ones_begun (is_word_octet b) xs)
+    ∙ ap (λ n. words_begun_with inside b + n) (ones_begun (is_word_octet b) xs)
 
 lowest_bits : (t inside : Bool) → bit_and (cond t 1 0) (cond inside 0 1) ≡ cond (t && not inside) 1 0
 lowest_bits true true = refl
@@ -61,7 +61,7 @@ whole_mask (b ∷ xs) =
 
 -- ---- Octets after others.
 
-begun_one : (inside : Bool) (b : ℕ) → begun_with inside b ≤ 1
+begun_one : (inside : Bool) (b : ℕ) → words_begun_with inside b ≤ 1
 begun_one inside b = grind arith
 
 pub begun_few : (inside : Bool) (xs : List ℕ) → words_begun inside xs ≤ length xs

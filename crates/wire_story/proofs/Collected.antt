@@ -6,8 +6,8 @@ use Rattle.std.specs.List.{slice_range, onto_first, list_all, join_with_byte}
 use Rattle.std.proofs.lemmas.Bool.{and_parts, and_from, cases_Bool}
 use Rattle.std.proofs.lemmas.List.Splits.{slice_split-cons_yes, slice_split-cons_no, length-slice_split, join_with_byte-slice_split}
 use Rattle.std.proofs.lemmas.List.Folds.{list_all-append}
-use Rattle.wire_story.specs.Format.Texts.{is_line_octet, IsLine, IsText, IsTextSoFar, MakeText, packed_text, StoryEvent, LineOctet, LineEnd, delivered, events_of_lines}
-use Rattle.wire_story.specs.{States.Reading.add_octet, States.Reading.collect, Format.Packing.AreEvents, Steps.lines_in, Steps.collect-append}
+use Rattle.wire_story.specs.Format.Texts.{is_line_octet, IsLine, IsText, IsTextSoFar, LinesMakeText, packed_text, StoryEvent, LineOctet, LineEnd, delivered, events_of_lines}
+use Rattle.wire_story.specs.{States.Reading.add_octet, States.Reading.collect, Format.Packing.AreStoryEvents, Steps.lines_in, Steps.collect-append}
 use Rattle.wire_story.specs.Laws.{TextsHaveOneReading, TextsSoFarHaveOneReading}
 use Rattle.wire_story.proofs.{Spans.Are-head, Spans.Are-tail, Spans.Are-append, HeldReturns.not_at, HeldReturns.held_is}
 use Rattle.wire_story.proofs.Told.{delivered_lines, delivered_so_far}
@@ -83,7 +83,7 @@ octet_some (line ∷ []) b = omega arith
 octet_some (line ∷ next ∷ lines) b = omega arith
 
 -- Lines collected from events make a text.
-pub collected_made : (lines : List (List ℕ)) (events : List StoryEvent) → AreEvents events → MakeText lines → MakeText (collect lines events)
+pub collected_made : (lines : List (List ℕ)) (events : List StoryEvent) → AreStoryEvents events → LinesMakeText lines → LinesMakeText (collect lines events)
 collected_made lines [] h made = made
 collected_made lines (LineOctet b ∷ events) h made = collected_made (add_octet lines b) events h.1 (octet_some lines b, octet_made lines b h.0 made.1)
 collected_made lines (LineEnd ∷ events) h made =
@@ -92,15 +92,15 @@ collected_made lines (LineEnd ∷ events) h made =
       list_all-append (list_all is_line_octet) lines ([] ∷ []) ∙ and_from (list_all (list_all is_line_octet) lines) true made.1 refl,
     )
 
-line_events : (run : List ℕ) → IsLine run → AreEvents (map LineOctet run)
+line_events : (run : List ℕ) → IsLine run → AreStoryEvents (map LineOctet run)
 line_events [] l = tt
 line_events (b ∷ bs) l = (Are-head is_line_octet b bs l, line_events bs (Are-tail is_line_octet b bs l))
 
-pub text_made : (octets run : List ℕ) → IsLine run → MakeText (lines_in octets) → MakeText (lines_in (octets ++ run))
-text_made octets run l h = subst MakeText (sym (push_run octets run l)) (collected_made (lines_in octets) (map LineOctet run) (line_events run l) h)
+pub text_made : (octets run : List ℕ) → IsLine run → LinesMakeText (lines_in octets) → LinesMakeText (lines_in (octets ++ run))
+text_made octets run l h = subst LinesMakeText (sym (push_run octets run l)) (collected_made (lines_in octets) (map LineOctet run) (line_events run l) h)
 
-pub end_made : (octets : List ℕ) → MakeText (lines_in octets) → MakeText (lines_in (octets ++ 10 ∷ []))
-end_made octets h = subst MakeText (sym (push_end octets)) (collected_made (lines_in octets) (LineEnd ∷ []) (tt, tt) h)
+pub end_made : (octets : List ℕ) → LinesMakeText (lines_in octets) → LinesMakeText (lines_in (octets ++ 10 ∷ []))
+end_made octets h = subst LinesMakeText (sym (push_end octets)) (collected_made (lines_in octets) (LineEnd ∷ []) (tt, tt) h)
 
 -- ---- The lines collected from a text.
 

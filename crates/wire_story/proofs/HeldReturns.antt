@@ -3,7 +3,7 @@
 use Rattle.std.proofs.Common.{◌≡◌, ℕ, zero, suc, ◌+◌, ◌<◌, ◌≤◌, Bool, true, false, ◌&&◌, ◌==◌, nat_lt, List, [], ◌∷◌, ◌++◌, replicate, Option, Some, None, ◌⊎◌, inl, inr, refl, sym, ap, subst, ◌∙◌, arith, append-nil, append_assoc, eqb, option_and_then}
 use Rattle.std.proofs.lemmas.Bool.Decides.{nat_tests}
 use Rattle.std.proofs.lemmas.Bool.{lt-ltb, both_ways, ne_eqb}
-use Rattle.wire_story.specs.Format.Texts.{is_line_octet, IsLine, line_end, IsTextSoFar, Holds}
+use Rattle.wire_story.specs.Format.Texts.{is_line_octet, IsLine, line_end, IsTextSoFar, EndsInReturns}
 use Rattle.wire_story.proofs.Spans.{Are-head, Are-tail, Are-cons}
 
 -- after an LF none is pending; a CR is pending, up to two; another octet of a line may come if none
@@ -75,7 +75,8 @@ replicate-more : (h : ℕ) (bs : List ℕ) → replicate h 13 ++ (13 ∷ bs) ≡
 replicate-more zero bs = refl
 replicate-more (suc h) bs = ap (λ (t : List ℕ). 13 ∷ t) (replicate-more h bs)
 
-so_far-cons : (b : ℕ) (bs : List ℕ) (lines : List (List ℕ)) (line : List ℕ) (k : ℕ) → is_line_octet b ≡ true → IsTextSoFar bs lines line k → Holds (b ∷ bs) k
+so_far-cons : (b : ℕ) (bs : List ℕ) (lines : List (List ℕ)) (line : List ℕ) (k : ℕ) → is_line_octet b ≡ true → IsTextSoFar bs lines line k → EndsInReturns
+    (b ∷ bs) k
 so_far-cons b bs [] line k t h = ([], b ∷ line, (Are-cons is_line_octet b line t h.0, h.1, ap (λ (x : List ℕ). b ∷ x) h.2))
 so_far-cons b bs (first ∷ lines) line k t h =
     ((b ∷ first) ∷ lines, line, (Are-cons is_line_octet b first t h.0, h.1, h.2, h.3, ap (λ (x : List ℕ). b ∷ x) h.4, h.5))
@@ -85,7 +86,7 @@ pub and_then_is : (o : Option ℕ) (f : ℕ → Option ℕ) (k : ℕ) → option
 and_then_is None f k e = absurd cc
 and_then_is (Some j) f k e = (j, refl, e)
 
-pub so_far : (h : ℕ) (xs : List ℕ) (k : ℕ) → h ≤ 2 → held_after h xs ≡ Some k → Holds (replicate h 13 ++ xs) k
+pub so_far : (h : ℕ) (xs : List ℕ) (k : ℕ) → h ≤ 2 → held_after h xs ≡ Some k → EndsInReturns (replicate h 13 ++ xs) k
 so_far h [] k le e =
     let same : h ≡ k = cc in
     ([], [], (refl, subst (λ (n : ℕ). n ≤ 2) same le, append-nil (replicate h 13) ∙ ap (λ (n : ℕ). replicate n 13) same))

@@ -10,7 +10,7 @@ use Rattle.std.proofs.lemmas.List.Sums.{prefix_len_passes, prefix_len-le-length}
 use Rattle.std.proofs.lemmas.Bool.{and_from, cases_lt}
 use Rattle.std.proofs.lemmas.Bool.Decides.{nat_tests}
 use Rattle.std.proofs.lemmas.List.Folds.{list_all_more, prefix_len-append}
-use Rattle.wire_story.specs.{Format.Texts.is_line_octet, Format.Texts.IsLine, Steps.is_low, Steps.AreMarks}
+use Rattle.wire_story.specs.{Format.Texts.is_line_octet, Format.Texts.IsLine, Steps.is_low, Steps.MaskCovers}
 use Rattle.wire_story.specs.declared.marks.Marks.{Marks}
 
 -- ---- Masks.
@@ -54,12 +54,12 @@ is_ended xs many within = omega (arith, mask_join is_low (take many xs) (0 ∷ [
 -- ---- Marks.
 
 -- A mask that covers no octet.
-pub no_marks : (xs : List ℕ) → AreMarks xs (record { left = 1 })
+pub no_marks : (xs : List ℕ) → MaskCovers xs (record { left = 1 })
 no_marks xs = record { many = 0; within = omega arith; few = omega arith; is = refl }
 
 -- the mask of the next sixteen octets
 abbrev pub marks_block : (xs : List ℕ) (at mask : ℕ) → at + 16 ≤ length xs → mask ≡ mask_l (map is_low (take 16 (slice_range xs at (length xs))))
-    → AreMarks (drop at xs) (record { left = mask + 65536 })
+    → MaskCovers (drop at xs) (record { left = mask + 65536 })
 marks_block xs at mask room is = record {
   many = 16;
   within = omega (arith, length-drop at xs);
@@ -68,11 +68,11 @@ marks_block xs at mask room is = record {
 }
 
 -- Some bit is set.
-pub some_left : (xs : List ℕ) (m : Marks) (h : AreMarks xs m) → 0 < m.left
+pub some_left : (xs : List ℕ) (m : Marks) (h : MaskCovers xs m) → 0 < m.left
 some_left xs m h = omega (arith, h.is, pow_pos h.many)
 
 -- If a bit remains, the mask covers what is before it.
-pub tells_used : (xs : List ℕ) (m : Marks) (h : AreMarks xs m) (used : ℕ) → m.left / 2 ^ used ≢ 0 → used ≤ h.many
+pub tells_used : (xs : List ℕ) (m : Marks) (h : MaskCovers xs m) (used : ℕ) → m.left / 2 ^ used ≢ 0 → used ≤ h.many
 tells_used xs m h used more = elim (cases_lt h.many used) [
   | inl less ↦ absurd (more (div-eq_of_lt (omega
       (arith, h.is, mask_lt h.many xs h.within, two-pow-succ h.many, pow_mono {i = suc h.many} {j = used} (omega (arith, less))))))
@@ -80,7 +80,7 @@ tells_used xs m h used more = elim (cases_lt h.many used) [
 ]
 
 -- The mask after some of the octets.
-pub marks_after : (xs : List ℕ) (m : Marks) (h : AreMarks xs m) (s : ℕ) → s ≤ h.many → AreMarks (drop s xs) (record { left = m.left / 2 ^ s })
+pub marks_after : (xs : List ℕ) (m : Marks) (h : MaskCovers xs m) (s : ℕ) → s ≤ h.many → MaskCovers (drop s xs) (record { left = m.left / 2 ^ s })
 marks_after xs m h s le =
     let more = h.many - s in
     let whole : h.many ≡ s + more = omega (arith, le) in
@@ -104,7 +104,7 @@ either_way : (n l : ℕ) → cond (n == l) (l + 0) n ≡ n
 either_way n l = grind (arith, nat_tests)
 
 -- The lowest bit that is set is that of the first low octet.
-lowest_low : (xs : List ℕ) (m : Marks) (h : AreMarks xs m) → count_trailing_zeros 64 m.left ≡ prefix_len (λ b. not (is_low b)) (take h.many xs)
+lowest_low : (xs : List ℕ) (m : Marks) (h : MaskCovers xs m) → count_trailing_zeros 64 m.left ≡ prefix_len (λ b. not (is_low b)) (take h.many xs)
 lowest_low xs m h =
     let front = take h.many xs in
     let is : m.left ≡ mask_l (map is_low (ended h.many xs)) = h.is ∙ sym (is_ended xs h.many h.within) in
@@ -115,16 +115,16 @@ lowest_low xs m h =
     ∙ either_way (prefix_len (λ b. not (is_low b)) front) (length front)
 
 -- The lowest bit that is set is no later than the sentinel.
-pub lowest_few : (xs : List ℕ) (m : Marks) (h : AreMarks xs m) → count_trailing_zeros 64 m.left ≤ h.many
+pub lowest_few : (xs : List ℕ) (m : Marks) (h : MaskCovers xs m) → count_trailing_zeros 64 m.left ≤ h.many
 lowest_few xs m h = omega (arith, lowest_low xs m h, prefix_len-le-length (λ b. not (is_low b)) (take h.many xs), length-take-le h.many xs h.within)
 
 -- ---- Prefixes that lie in one line.
 
 -- The first `at` octets lie in one line, and the mask covers what follows.
-pub record CalmTo (xs : List ℕ) (at left : ℕ) : Type 0 where
+pub record IsUnmarkedTo (xs : List ℕ) (at left : ℕ) : Type 0 where
   pub within : at ≤ length xs
   pub line : IsLine (take at xs)
-  pub marks : AreMarks (drop at xs) (record { left = left })
+  pub marks : MaskCovers (drop at xs) (record { left = left })
 
 calm_octet : (b : ℕ) → b < 256 → not (is_low b) ≡ true → is_line_octet b ≡ true
 calm_octet b fits high = grind (arith, nat_tests)
@@ -153,14 +153,14 @@ calm_block xs fits at within none front =
     calm_front xs fits at 16 16 within (omega arith) front (omega (arith, all, length-take-le 16 (drop at xs) (omega (arith, within, length-drop at xs))))
 
 -- The octets before the lowest bit that is set continue the line.
-pub calm_to : {xs : List ℕ} {at left to s next : ℕ} → ((k : ℕ) → get_or xs k 0 < 256) → CalmTo xs at left → s ≡ count_trailing_zeros 64 left
-    → next ≡ left / 2 ^ count_trailing_zeros 64 left → to ≡ at + s → CalmTo xs to next
+pub calm_to : {xs : List ℕ} {at left to s next : ℕ} → ((k : ℕ) → get_or xs k 0 < 256) → IsUnmarkedTo xs at left → s ≡ count_trailing_zeros 64 left
+    → next ≡ left / 2 ^ count_trailing_zeros 64 left → to ≡ at + s → IsUnmarkedTo xs to next
 calm_to {xs = xs} {at = at} {left = left} {s = s} fits front is digits there =
     let marks = front.marks in
     let low : s ≡ prefix_len (λ b. not (is_low b)) (take marks.many (drop at xs)) = is ∙ lowest_low (drop at xs) (record { left = left }) marks in
     let few : s ≤ marks.many = omega (arith, is, lowest_few (drop at xs) (record { left = left }) marks) in
     let within : at + s ≤ length xs = omega (arith, few, marks.within, front.within, length-drop at xs) in
-    let whole : CalmTo xs (at + s) (left / 2 ^ s) = record {
+    let whole : IsUnmarkedTo xs (at + s) (left / 2 ^ s) = record {
       within = within;
       line = calm_front xs fits at marks.many s within few front.line (omega (arith, low));
       marks = rw drop-drop at (marks_after (drop at xs) (record { left = left }) marks s few);
@@ -168,13 +168,15 @@ calm_to {xs = xs} {at = at} {left = left} {s = s} fits front is digits there =
     rw (there, digits, ← is) whole
 
 -- The octets before the next lowest bit continue the line, after one octet that does.
-pub calm_after : {xs : List ℕ} {at left to s next : ℕ} → ((k : ℕ) → get_or xs k 0 < 256) → CalmTo xs at left → left ≢ 1 → is_line_octet (get_or xs at 0) ≡ true
-    → s ≡ count_trailing_zeros 64 (left / 2 ^ 1) → next ≡ left / 2 ^ 1 / 2 ^ count_trailing_zeros 64 (left / 2 ^ 1) → to ≡ at + (1 + s) → CalmTo xs to next
+pub calm_after : {xs : List ℕ} {at left to s next : ℕ} → ((k : ℕ) → get_or xs k 0 < 256) → IsUnmarkedTo xs at left → left ≢ 1 → is_line_octet (get_or xs at 0)
+    ≡ true
+    → s ≡ count_trailing_zeros 64 (left / 2 ^ 1) → next ≡ left / 2 ^ 1 / 2 ^ count_trailing_zeros 64 (left / 2 ^ 1) → to ≡ at + (1 + s)
+    → IsUnmarkedTo xs to next
 calm_after {xs = xs} {at = at} {left = left} fits front more stands is digits there =
     let m : Marks = record { left = left } in
     let some = tells_used (drop at xs) m front.marks 1 (λ none. more (omega (arith, none, some_left (drop at xs) m front.marks))) in
     let within : at < length xs = omega (arith, some, front.marks.within, length-drop at xs) in
-    let after : CalmTo xs (at + 1) (left / 2 ^ 1) = record {
+    let after : IsUnmarkedTo xs (at + 1) (left / 2 ^ 1) = record {
       within = omega arith;
       line = line_more xs at within front.line stands;
       marks = rw drop-drop at (marks_after (drop at xs) m front.marks 1 some);
@@ -184,11 +186,11 @@ calm_after {xs = xs} {at = at} {left = left} fits front more stands is digits th
 -- The mask of the last sixteen octets, after those before `at`.
 pub marks_last : (xs : List ℕ) (at mask : ℕ) → 16 ≤ length xs → at ≤ length xs → length xs ≤ at + 16
     → mask ≡ mask_l (map is_low (take 16 (slice_range xs (length xs - 16) (length xs))))
-    → AreMarks (drop at xs) (record { left = (mask + 65536) / 2 ^ (at - (length xs - 16)) })
+    → MaskCovers (drop at xs) (record { left = (mask + 65536) / 2 ^ (at - (length xs - 16)) })
 marks_last xs at mask room within near is =
     let start = length xs - 16 in
     let s = at - start in
     let e : start + s ≡ at = omega arith in
     let h = marks_block xs start mask (omega arith) is in
-    subst (λ (ys : List ℕ). AreMarks ys (record { left = (mask + 65536) / 2 ^ s })) (drop-drop s start xs ∙ ap (λ n. drop n xs) e)
+    subst (λ (ys : List ℕ). MaskCovers ys (record { left = (mask + 65536) / 2 ^ s })) (drop-drop s start xs ∙ ap (λ n. drop n xs) e)
     (marks_after (drop start xs) (record { left = mask + 65536 }) h s (omega arith))

@@ -4,7 +4,7 @@ use Rattle.std.specs.List.{list_all, join_with_byte}
 use Rattle.std.proofs.lemmas.Bool.{and_parts, and_from}
 use Rattle.std.proofs.lemmas.List.{map-append}
 use Rattle.std.proofs.lemmas.List.Concat.{flat_map-append}
-use Rattle.wire_story.specs.Format.Texts.{is_line_octet, line_end, packed_text, IsText, MakeText, StoryEvent, LineOctet, LineEnd, events_of_lines, octet_for}
+use Rattle.wire_story.specs.Format.Texts.{is_line_octet, line_end, packed_text, IsText, LinesMakeText, StoryEvent, LineOctet, LineEnd, events_of_lines, octet_for}
 use Rattle.wire_story.specs.{States.Reading.add_octet, States.Reading.collect, Format.Packing.packed_event, Format.Packing.packed_events, Steps.octets_of_line}
 use Rattle.wire_story.specs.Laws.{LinesArePackedAsTheirEvents, EventsArePackedAsLines}
 use Rattle.wire_story.proofs.Collected.{octet_some, collected_made}
@@ -55,14 +55,14 @@ events_packed events h = record { text = collected_packed ([] ∷ []) events (om
 
 -- ---- Lines that make a text.
 
-pub packed : (lines : List (List ℕ)) → MakeText lines → IsText (packed_text lines) lines
+pub packed : (lines : List (List ℕ)) → LinesMakeText lines → IsText (packed_text lines) lines
 packed [] h = absurd (omega (arith, h.0))
 packed (line ∷ []) h = ((and_parts (list_all is_line_octet line) true h.1).0, refl)
 packed (line ∷ next ∷ lines) h =
     let parts = and_parts (list_all is_line_octet line) (list_all (list_all is_line_octet) (next ∷ lines)) h.1 in
     (parts.0, 1, omega arith, packed_text (next ∷ lines), refl, packed (next ∷ lines) (omega arith, parts.1))
 
-pub made : (x : List ℕ) (lines : List (List ℕ)) → IsText x lines → MakeText lines
+pub made : (x : List ℕ) (lines : List (List ℕ)) → IsText x lines → LinesMakeText lines
 made x [] h = absurd h
 made x (line ∷ []) h = (omega arith, and_from (list_all is_line_octet line) true h.0 refl)
 made x (line ∷ next ∷ lines) h =

@@ -5,21 +5,21 @@ use Rattle.std.proofs.Math.Seq.{take-add}
 use Rattle.std.specs.List.{slice_range}
 use Rattle.std.proofs.Common.{◌≡◌, ℕ, zero, suc, ◌+◌, true, List, [], ◌∷◌, ◌++◌, map, take, replicate, refl, sym, ap, ◌∙◌, append-nil, length}
 use Rattle.std.proofs.lemmas.List.Concat.{flat_map-append}
-use Rattle.wire_story.specs.Format.Texts.{is_line_octet, IsLine, line_end, IsText, IsTextSoFar, StoryEvent, LineOctet, LineEnd, events_of, delivered, events_of_lines}
+use Rattle.wire_story.specs.Format.Texts.{is_line_octet, IsLine, line_end, IsText, IsTextSoFar, StoryEvent, LineOctet, LineEnd, events_of_octet, delivered, events_of_lines}
 use Rattle.wire_story.proofs.{Spans.Are-head, Spans.Are-tail, HeldReturns.not_at}
 
 delivered-append : (x y : List ℕ) → delivered (x ++ y) ≡ delivered x ++ delivered y
-delivered-append x y = flat_map-append events_of x y
+delivered-append x y = flat_map-append events_of_octet x y
 
 -- A prefix, and then one of what remains.
-pub take_front : (piece : List ℕ) (i k : ℕ) → take (i + k) piece ≡ take i piece ++ take k (slice_range piece i (length piece))
-take_front piece i k = take-add i k piece ∙ ap (λ r. take i piece ++ take k r) (sym (take_rest piece i))
+pub consume_prefix : (piece : List ℕ) (i k : ℕ) → take (i + k) piece ≡ take i piece ++ take k (slice_range piece i (length piece))
+consume_prefix piece i k = take-add i k piece ∙ ap (λ r. take i piece ++ take k r) (sym (take_rest piece i))
 
 pub delivered_front : (piece : List ℕ) (i k : ℕ)
     → delivered (take i piece) ++ delivered (take k (slice_range piece i (length piece))) ≡ delivered (take (i + k) piece)
-delivered_front piece i k = sym (ap delivered (take_front piece i k) ∙ delivered-append (take i piece) (take k (slice_range piece i (length piece))))
+delivered_front piece i k = sym (ap delivered (consume_prefix piece i k) ∙ delivered-append (take i piece) (take k (slice_range piece i (length piece))))
 
-events_line : (b : ℕ) → is_line_octet b ≡ true → events_of b ≡ LineOctet b ∷ []
+events_line : (b : ℕ) → is_line_octet b ≡ true → events_of_octet b ≡ LineOctet b ∷ []
 events_line b h = rw (not_at b 10 h refl, not_at b 13 h refl) refl
 
 pub delivered_line : (line : List ℕ) → IsLine line → delivered line ≡ map LineOctet line

@@ -2,7 +2,7 @@
 use Rattle.std.proofs.Common.{◌≡◌, ℕ, ◌+◌, cond, Bool, true, false, not, List, [], ◌∷◌, ◌++◌, length, map, inl, inr, refl, sym, ap, subst, ◌∙◌, arith, append-nil}
 use Rattle.std.proofs.lemmas.Bool.{cases_Bool, both_ways}
 use Rattle.std.proofs.lemmas.List.Sums.{sum_by-cons}
-use Rattle.wire_story.specs.Format.Texts.{LineOctet, LineEnd, delivered, events_of_lines, is_word_octet, is_blank, words_begun, words_in, words, EndsWord, HasWords, capped, words_told}
+use Rattle.wire_story.specs.Format.Texts.{LineOctet, LineEnd, delivered, events_of_lines, is_word_octet, is_blank, words_begun, words_in, words, EndsWord, HasWords, capped, words_of_events}
 use Rattle.wire_story.specs.{Laws.WordsAreLongestRuns, Laws.TextsAreCountedAsLines, Steps.told-append}
 use Rattle.wire_story.proofs.{Spans.Are, Spans.Are-head, Spans.Are-tail, Spans.Are-cons, Spans.span, Spans.no_stop, Told.delivered_lines}
 use Rattle.std.proofs.lemmas.Bool.Decides.{nat_tests}
@@ -123,11 +123,11 @@ longest_runs line = record { some = all_words (split line); one = one_way line; 
 
 -- ---- Words of events.
 
-pub told_last : (inside : Bool) (line : List ℕ) → words_told inside (map LineOctet line) ≡ words_begun inside line
+pub told_last : (inside : Bool) (line : List ℕ) → words_of_events inside (map LineOctet line) ≡ words_begun inside line
 told_last inside [] = refl
 told_last inside (b ∷ xs) = omega (arith, told_last (is_word_octet b) xs)
 
-told_lines : (lines : List (List ℕ)) → words_told false (events_of_lines lines) ≡ words lines
+told_lines : (lines : List (List ℕ)) → words_of_events false (events_of_lines lines) ≡ words lines
 told_lines [] = refl
 told_lines (line ∷ []) = omega (arith, told_last false line)
 told_lines (line ∷ next ∷ lines) =
@@ -136,7 +136,7 @@ told_lines (line ∷ next ∷ lines) =
 
 pub texts_counted : TextsAreCountedAsLines
 texts_counted x lines old new text none out counts =
-    let told : words_told old.inside (delivered x) ≡ words lines =
-    ap (λ (inside : Bool). words_told inside (delivered x)) out ∙ (ap (words_told false) (delivered_lines x lines text) ∙ told_lines lines) in
-    let all : old.words + words_told old.inside (delivered x) ≡ words lines = omega (arith, none, told) in
+    let told : words_of_events old.inside (delivered x) ≡ words lines =
+    ap (λ (inside : Bool). words_of_events inside (delivered x)) out ∙ (ap (words_of_events false) (delivered_lines x lines text) ∙ told_lines lines) in
+    let all : old.words + words_of_events old.inside (delivered x) ≡ words lines = omega (arith, none, told) in
     counts.words (omega (arith, none)) ∙ ap capped all

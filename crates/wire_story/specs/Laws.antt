@@ -1,10 +1,10 @@
 -- Lemmas on all texts and stories. The record at the end has a field for each.
 use Rattle.std.specs.Prelude.{◌≡◌, ℕ, List, ◌↔◌, [], ◌∷◌, ◌++◌, map, Option}
-use Rattle.wire_story.specs.Format.Texts.{packed_text, IsText, IsTextSoFar, Holds, AreLines, MakeText, StoryEvent, events_of_lines, delivered, octet_for, StoryLanguage, Octet, End, LivesWith, words_in, words, HasWords, WordsSoFar, capped, CountsWords}
-use Rattle.wire_story.specs.Format.Packing.{packed_events, AreEvents, IsPackedAsLines}
+use Rattle.wire_story.specs.Format.Texts.{packed_text, IsText, IsTextSoFar, EndsInReturns, HasLines, LinesMakeText, StoryEvent, events_of_lines, delivered, octet_for, StoryLanguage, Octet, End, IsViableStory, words_in, words, HasWords, WordsSoFar, capped, CountsWords}
+use Rattle.wire_story.specs.Format.Packing.{packed_events, AreStoryEvents, IsPackedAsLines}
 use Rattle.std.specs.List.{join_with_byte}
-use Rattle.iim_dataset.specs.Format.Octets.{lf, IsAlive}
-use Rattle.wire_story.specs.States.Reading.{collect, StandsAt, IsPlace}
+use Rattle.iim_dataset.specs.Format.Octets.{lf, IsViablePrefix}
+use Rattle.wire_story.specs.States.Reading.{collect, TextReaderHasRead, IsTextState}
 use Rattle.std.proofs.Common.{false, length}
 
 -- ---- How events are packed, and their lines.
@@ -15,7 +15,7 @@ LinesArePackedAsTheirEvents = (lines : List (List ℕ)) → packed_text lines �
 
 -- Events are packed as their lines.
 abbrev pub EventsArePackedAsLines : Type 0
-EventsArePackedAsLines = (events : List StoryEvent) → AreEvents events → IsPackedAsLines events
+EventsArePackedAsLines = (events : List StoryEvent) → AreStoryEvents events → IsPackedAsLines events
 
 -- ---- All texts.
 
@@ -39,28 +39,28 @@ TextsSoFarAreDeliveredAsLines = (x : List ℕ) (lines : List (List ℕ)) (line :
     → IsTextSoFar x lines line held → delivered x ≡ events_of_lines (lines ++ line ∷ [])
 
 -- The events delivered of a chunk and then of another are those of the two joined.
-abbrev pub DeliveryMayBeCut : Type 0
-DeliveryMayBeCut = (x y : List ℕ) → delivered (x ++ y) ≡ delivered x ++ delivered y
+abbrev pub DeliveryOfChunksJoins : Type 0
+DeliveryOfChunksJoins = (x y : List ℕ) → delivered (x ++ y) ≡ delivered x ++ delivered y
 
 -- Octets are a viable prefix of a story exactly if they are a text so far.
-abbrev pub StoriesLiveAsTextsSoFar : Type 0
-StoriesLiveAsTextsSoFar = (x : List ℕ) → LivesWith x ↔ ((held : ℕ) × Holds x held)
+abbrev pub StoriesAreViableAsTextsSoFar : Type 0
+StoriesAreViableAsTextsSoFar = (x : List ℕ) → IsViableStory x ↔ ((held : ℕ) × EndsInReturns x held)
 
 -- A story may end after octets exactly if they are a text.
 abbrev pub StoriesEndAsTexts : Type 0
-StoriesEndAsTexts = (x : List ℕ) → IsAlive StoryLanguage (map Octet x ++ End ∷ []) ↔ AreLines x
+StoriesEndAsTexts = (x : List ℕ) → IsViablePrefix StoryLanguage (map Octet x ++ End ∷ []) ↔ HasLines x
 
 -- A text so far is a text exactly if it does not end in CR.
 abbrev pub TextsEndInNoReturn : Type 0
-TextsEndInNoReturn = (x : List ℕ) → AreLines x ↔ Holds x 0
+TextsEndInNoReturn = (x : List ℕ) → HasLines x ↔ EndsInReturns x 0
 
 -- The packed octets of lines that make a text are a text of these lines.
 abbrev pub PackedLinesAreAText : Type 0
-PackedLinesAreAText = (lines : List (List ℕ)) → MakeText lines → IsText (packed_text lines) lines
+PackedLinesAreAText = (lines : List (List ℕ)) → LinesMakeText lines → IsText (packed_text lines) lines
 
 -- The lines of a text make a text.
 abbrev pub LinesOfATextMakeOne : Type 0
-LinesOfATextMakeOne = (x : List ℕ) (lines : List (List ℕ)) → IsText x lines → MakeText lines
+LinesOfATextMakeOne = (x : List ℕ) (lines : List (List ℕ)) → IsText x lines → LinesMakeText lines
 
 -- The octets for the events of lines are the lines joined by LF.
 abbrev pub LinesAreJoinedByLineFeeds : Type 0
@@ -71,17 +71,17 @@ abbrev pub TextsAreCollectedAsLines : Type 0
 TextsAreCollectedAsLines = (x : List ℕ) (lines : List (List ℕ)) → IsText x lines → collect ([] ∷ []) (delivered x) ≡ lines
 
 -- The invariant of a reader holds for exactly the states that some octets reach.
-abbrev pub PlacesAreReached : Type 0
-PlacesAreReached = (reader : Option ℕ) → IsPlace reader ↔ ((octets : List ℕ) × StandsAt reader octets)
+abbrev pub TextStatesAreReached : Type 0
+TextStatesAreReached = (reader : Option ℕ) → IsTextState reader ↔ ((octets : List ℕ) × TextReaderHasRead reader octets)
 
 -- The octets determine the state of a reader, however they are split.
-abbrev pub OctetsLeadToOnePlace : Type 0
-OctetsLeadToOnePlace = (octets : List ℕ) (a b : Option ℕ) → StandsAt a octets → StandsAt b octets → a ≡ b
+abbrev pub OctetsDetermineTheTextState : Type 0
+OctetsDetermineTheTextState = (octets : List ℕ) (a b : Option ℕ) → TextReaderHasRead a octets → TextReaderHasRead b octets → a ≡ b
 
 -- If two lists of octets reach the same state, they reach the same state with the same further
 -- octets.
-abbrev pub OctetsLeadOnAlike : Type 0
-OctetsLeadOnAlike = (old new : Option ℕ) (a b x : List ℕ) → StandsAt old a → StandsAt old b → StandsAt new (a ++ x) → StandsAt new (b ++ x)
+abbrev pub TextStatesDetermineLaterOnes : Type 0
+TextStatesDetermineLaterOnes = (old new : Option ℕ) (a b x : List ℕ) → TextReaderHasRead old a → TextReaderHasRead old b → TextReaderHasRead new (a ++ x) → TextReaderHasRead new (b ++ x)
 
 -- ---- The words of lines.
 
@@ -106,7 +106,7 @@ pub record StoryLaws : Type 0 where
   -- which octets are texts:
   pub texts_have_one_reading : TextsHaveOneReading
   pub texts_so_far_have_one_reading : TextsSoFarHaveOneReading
-  pub stories_live_as_texts_so_far : StoriesLiveAsTextsSoFar
+  pub stories_are_viable_as_texts_so_far : StoriesAreViableAsTextsSoFar
   pub stories_end_as_texts : StoriesEndAsTexts
   pub texts_end_in_no_return : TextsEndInNoReturn
   -- the events of a text, collected and counted:
@@ -120,5 +120,5 @@ pub record StoryLaws : Type 0 where
   pub lines_of_a_text_make_one : LinesOfATextMakeOne
   pub events_are_packed_as_lines : EventsArePackedAsLines
   -- the states of readers:
-  pub octets_lead_to_one_place : OctetsLeadToOnePlace
-  pub octets_lead_on_alike : OctetsLeadOnAlike
+  pub octets_determine_the_text_state : OctetsDetermineTheTextState
+  pub text_states_determine_later_ones : TextStatesDetermineLaterOnes

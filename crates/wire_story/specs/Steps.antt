@@ -4,8 +4,8 @@ use Rattle.std.specs.{List.slice_split, Simd.Lanes.mask_l}
 use Rattle.std.proofs.Common.{rules, [], ◌∷◌, ◌++◌, refl, ap, ◌∙◌, false, arith}
 use Rattle.std.proofs.lemmas.List.{map-append}
 use Rattle.iim_dataset.specs.{Steps.appends_nothing, Steps.appends_joined, Format.Octets.lf, States.Devices.Device}
-use Rattle.wire_story.specs.Format.Texts.{max_returns, line_end, LineOctet, inside_after, StoryEvent, LineEnd, octet_for, is_word_octet, WordsSoFar, words_told, CountsWords}
-use Rattle.wire_story.specs.States.Reading.{add_octet, collect, WritesOn}
+use Rattle.wire_story.specs.Format.Texts.{max_returns, line_end, LineOctet, inside_after, StoryEvent, LineEnd, octet_for, is_word_octet, WordsSoFar, words_of_events, CountsWords}
+use Rattle.wire_story.specs.States.Reading.{add_octet, collect, WritesToTarget}
 use Rattle.wire_story.specs.declared.marks.Marks.{Marks}
 
 -- the lines that are stored joined by LF
@@ -21,7 +21,7 @@ abbrev pub outside_after : Bool → List ℕ → ℕ
 outside_after inside xs = if inside_after inside (map LineOctet xs) then 0 else 1
 
 -- The mask covers the next `many` octets: it has a bit for each, and the sentinel bit after those.
-pub record AreMarks (xs : List ℕ) (m : Marks) : Type 0 where
+pub record MaskCovers (xs : List ℕ) (m : Marks) : Type 0 where
   pub many : ℕ
   pub within : many ≤ length xs
   pub few : many ≤ 16
@@ -29,14 +29,14 @@ pub record AreMarks (xs : List ℕ) (m : Marks) : Type 0 where
 
 -- The first `used` octets, at least one, were consumed: `held` CR are pending after them, and this
 -- is the mask of what remains.
-pub record IsTextFront (rest : List ℕ) (held used : ℕ) (marks : Marks) : Type 0 where
+pub record IsTextPrefix (rest : List ℕ) (held used : ℕ) (marks : Marks) : Type 0 where
   pub few : held ≤ max_returns
   pub some : 0 < used
   pub within : used ≤ length rest
-  pub next : AreMarks (drop used rest) marks
+  pub next : MaskCovers (drop used rest) marks
 
 -- A line end of `end` octets comes first: LF alone, or with one CR before it.
-pub record StartsLineEnd (rest : List ℕ) (end : ℕ) : Type 0 where
+pub record BeginsWithLineEnd (rest : List ℕ) (end : ℕ) : Type 0 where
   pub some : 0 < end
   pub few : end ≤ 2
   pub within : end ≤ length rest
@@ -55,7 +55,7 @@ collect_joined a b c xs ys first later = later ∙ (ap (λ (lines : List (List �
 -- ---- The lemmas on a counter of words that its impl provides.
 
 pub told-append : (inside : Bool) (xs ys : List StoryEvent)
-    → (words_told inside (xs ++ ys) ≡ words_told inside xs + words_told (inside_after inside xs) ys)
+    → (words_of_events inside (xs ++ ys) ≡ words_of_events inside xs + words_of_events (inside_after inside xs) ys)
     × (inside_after inside (xs ++ ys) ≡ inside_after (inside_after inside xs) ys)
 told-append inside [] ys = (omega arith, refl)
 told-append inside (LineOctet b ∷ xs) ys = let more = told-append (is_word_octet b) xs ys in (omega (arith, more.0), more.1)
@@ -72,11 +72,11 @@ counts_joined a b c xs ys first later = record {
 
 -- ---- The lemmas on writers of lines that their impl provides.
 
-pub writes_nothing : (device : Device) (stops : ℕ) → WritesOn device device stops stops []
+pub writes_nothing : (device : Device) (stops : ℕ) → WritesToTarget device device stops stops []
 writes_nothing device stops = search (rules, arith, appends_nothing)
 
-pub writes_joined : (a b c : Device) (i j k : ℕ) (xs ys : List StoryEvent) → WritesOn a b i j (map octet_for xs) → WritesOn b c j k (map octet_for ys)
-    → WritesOn a c i k (map octet_for (xs ++ ys))
+pub writes_joined : (a b c : Device) (i j k : ℕ) (xs ys : List StoryEvent) → WritesToTarget a b i j (map octet_for xs) → WritesToTarget b c j k (map octet_for ys)
+    → WritesToTarget a c i k (map octet_for (xs ++ ys))
 writes_joined a b c i j k xs ys h l = record {
   octets = rw map-append (appends_joined a.octets b.octets c.octets (map octet_for xs) (map octet_for ys) h.octets l.octets);
   failures = omega arith;

@@ -2,7 +2,7 @@
 
 ghost use Rattle.std.specs.Prelude.{◌≡◌};
 ghost use Rattle.wire_story.specs.Format.Texts.{line_end};
-ghost use Rattle.wire_story.specs.Laws.{LinesArePackedAsTheirEvents, TextsAreDeliveredAsLines, DeliveryMayBeCut, PlacesAreReached, StoryLaws};
+ghost use Rattle.wire_story.specs.Laws.{LinesArePackedAsTheirEvents, TextsAreDeliveredAsLines, DeliveryOfChunksJoins, TextStatesAreReached, StoryLaws};
 
 use crate::line::LINE_END;
 
@@ -18,8 +18,8 @@ pub fn texts_are_delivered_as_lines()
 {}
 
 /// Proves that the events delivered of two chunks are those of the two joined.
-pub fn delivery_may_be_cut()
-    ensures { DeliveryMayBeCut }
+pub fn delivery_of_chunks_joins()
+    ensures { DeliveryOfChunksJoins }
 {}
 
 /// Proves that the line end of a packer is CR LF.
@@ -35,6 +35,6 @@ pub fn lines_are_packed_as_their_events()
 
 /// Proves that some octets reach each state that satisfies the invariant of the reader, and that
 /// octets reach no other state.
-pub fn places_are_reached()
-    ensures { PlacesAreReached }
+pub fn text_states_are_reached()
+    ensures { TextStatesAreReached }
 {}

@@ -11,7 +11,7 @@ pub const LINE_END: [u8; 2] = [CR, LF];
 
 /// Checks whether a line may have the octet.
 #[inline(always)]
-pub(crate) fn may_stand(octet: u8) -> bool
+pub(crate) fn may_be_in_line(octet: u8) -> bool
     ensures { result ≡ is_line_octet octet }
 {
     !(octet == SOH || octet == STX || octet == ETX || octet == EOT || octet == LF || octet == CR)

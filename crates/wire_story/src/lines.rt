@@ -1,8 +1,8 @@
 //! A sink that collects the lines.
 
 ghost use Rattle.std.specs.Prelude.{◌≡◌, ◌<◌, [], ◌∷◌, length, map, take, refl, vec_capacity, IfErr, OnOk, OnErr};
-ghost use Rattle.iim_dataset.specs.Format.Octets.{Rose};
-ghost use Rattle.wire_story.specs.Format.Texts.{IsLine, MakeText, LineOctet};
+ghost use Rattle.iim_dataset.specs.Format.Octets.{CounterRose};
+ghost use Rattle.wire_story.specs.Format.Texts.{IsLine, LinesMakeText, LineOctet};
 ghost use Rattle.wire_story.specs.States.Reading.{Collected, collect};
 ghost use Rattle.wire_story.specs.Steps.{lines_in};
 
@@ -30,7 +30,7 @@ impl Model for Lines {
     ghost view = { λ lines. record
         { lines = lines_in lines.octets.items; failures = lines.failures; room = vec_capacity lines.octets } };
 
-    ghost invariant = { λ lines. MakeText (lines_in lines.octets.items) };
+    ghost invariant = { λ lines. LinesMakeText (lines_in lines.octets.items) };
 }
 
 impl Lines {
@@ -49,7 +49,7 @@ impl Lines {
     /// Iterates over the lines, in order.
     pub fn iter(&self) -> LineIter<'_>
         ensures lines { result ≡ self.now.lines }
-        ensures text { MakeText self.now.lines }
+        ensures text { LinesMakeText self.now.lines }
     {
         LineIter::new(&self.octets)
     }
@@ -65,7 +65,7 @@ impl Lines {
     fn refused(&mut self) -> Stop
         ensures taken { result.taken ≡ 0 }
         ensures lines { self.new.lines ≡ self.old.lines }
-        ensures counted { Rose self.old.failures self.new.failures }
+        ensures counted { CounterRose self.old.failures self.new.failures }
     {
         self.failures = self.failures.saturating_add(1);
         Stop { taken: 0 }
@@ -86,11 +86,11 @@ impl StorySink for Lines {
     fn text(&mut self, run: &[u8]) -> Result<(), Stop>
         requires { IsLine run.now }
         ensures ok { OnOk result (self.new.lines ≡ collect self.old.lines (map LineOctet run.now)) }
-        ensures calm { OnOk result (self.new.failures ≡ self.old.failures) }
+        ensures no_failure { OnOk result (self.new.failures ≡ self.old.failures) }
         ensures refused { IfErr result (λ stop. stop.taken < length run.now) }
         ensures front { IfErr result (λ stop.
             self.new.lines ≡ collect self.old.lines (map LineOctet (take stop.taken run.now))) }
-        ensures counted { OnErr result (Rose self.old.failures self.new.failures) }
+        ensures counted { OnErr result (CounterRose self.old.failures self.new.failures) }
 
         // Octets are stored all or none.
         ensures unchanged { OnErr result (self.new.lines ≡ self.old.lines) }

@@ -5,21 +5,21 @@ ghost use Rattle.std.specs.Prelude.{◌≡◌, ◌<◌, ◌≤◌, ◌+◌, ◌/
 ghost use Rattle.std.specs.Int.Count.{count_trailing_zeros};
 ghost use Rattle.std.specs.Simd.Lanes.{mask_l};
 ghost use Rattle.wire_story.specs.Format.Texts.{is_line_octet, IsLine};
-ghost use Rattle.wire_story.specs.Steps.{is_low, AreMarks};
+ghost use Rattle.wire_story.specs.Steps.{is_low, MaskCovers};
 
-use crate::line::may_stand;
+use crate::line::may_be_in_line;
 use std::simd::prelude::*;
 
 /// The number of octets that are tested at once.
 pub(crate) const BLOCK: usize = 16;
 
 /// The octets that a line may not have are all below this one, and so are few others.
-const LEAST_CALM: u8 = 14;
+const LEAST_UNMARKED: u8 = 14;
 
 /// The sentinel bit after the bits of a mask.
 const END: u64 = 1 << 16;
 
-/// A mask of the next octets: which of them are low, that is, below `LEAST_CALM`.
+/// A mask of the next octets: which of them are low, that is, below `LEAST_UNMARKED`.
 #[derive(Clone, Copy)]
 pub(crate) struct Marks {
     // The lowest bit is that of the next octet. The highest bit that is set is the sentinel, after
@@ -34,12 +34,12 @@ fn mask_of(block: &[u8]) -> u64
     ensures { result ≡ mask_l (map is_low (take 16 block.now)) }
 {
     let octets = u8x16::from_slice(block);
-    octets.simd_lt(u8x16::splat(LEAST_CALM)).to_bitmask()
+    octets.simd_lt(u8x16::splat(LEAST_UNMARKED)).to_bitmask()
 }
 
 /// Returns the number of octets before the lowest bit that is set, and the mask from that bit on.
 #[inline(always)]
-fn calm_before(left: u64) -> (usize, u64)
+fn first_marked(left: u64) -> (usize, u64)
     requires { 0 < left }
     ensures count { result.0 ≡ count_trailing_zeros 64 left }
     ensures digits { result.1 ≡ left / 2 ^ count_trailing_zeros 64 left }
@@ -51,7 +51,7 @@ fn calm_before(left: u64) -> (usize, u64)
 /// Returns the position of the first low octet after the first `from` octets, by the last block,
 /// which overlaps them; or the number of octets otherwise.
 #[inline(always)]
-fn tail_calm(from: usize, octets: &[u8]) -> usize
+fn next_low_octet(from: usize, octets: &[u8]) -> usize
     requires room { 16 ≤ length octets.now }
     requires within { from ≤ length octets.now }
     requires near { length octets.now ≤ from + 16 }
@@ -61,7 +61,7 @@ fn tail_calm(from: usize, octets: &[u8]) -> usize
 {
     let start = octets.len() - BLOCK;
     let mask = mask_of(&octets[start..]);
-    let (calm, _) = calm_before((mask + END) >> (from - start));
+    let (calm, _) = first_marked((mask + END) >> (from - start));
     from + calm
 }
 
@@ -76,10 +76,10 @@ pub(crate) fn tail_len(from: usize, octets: &[u8]) -> usize
 {
     let mut at = from;
     if octets.len() >= BLOCK && octets.len() - from < BLOCK {
-        at = tail_calm(from, octets);
+        at = next_low_octet(from, octets);
     }
     while at < octets.len() {
-        if !may_stand(octets[at]) {
+        if !may_be_in_line(octets[at]) {
             return at;
         }
         at += 1;
@@ -95,7 +95,7 @@ fn next_marks(from: usize, octets: &[u8]) -> (usize, u64)
     requires line { IsLine (take from octets.now) }
     ensures within { result.0 ≤ length octets.now }
     ensures line { IsLine (take result.0 octets.now) }
-    ensures marks { AreMarks (drop result.0 octets.now) (record { left = result.1 }) }
+    ensures marks { MaskCovers (drop result.0 octets.now) (record { left = result.1 }) }
     ensures later { from ≤ result.0 }
     ensures more { result.0 ≡ from → 2 ≤ result.1 }
 {
@@ -105,7 +105,7 @@ fn next_marks(from: usize, octets: &[u8]) -> (usize, u64)
         at += BLOCK;
         mask = mask_of(&octets[at..]);
     }
-    let (calm, left) = calm_before(mask + END);
+    let (calm, left) = first_marked(mask + END);
     (at + calm, left)
 }
 
@@ -121,10 +121,10 @@ impl Marks {
     /// Returns the mask after the next `used` octets.
     #[inline(always)]
     pub(crate) fn after(self, used: usize, octets: &[u8]) -> Marks
-        requires marks { AreMarks octets.now self }
+        requires marks { MaskCovers octets.now self }
         requires within { used ≤ length octets.now }
         requires short { used < 64 }
-        ensures { AreMarks (drop used octets.now) result }
+        ensures { MaskCovers (drop used octets.now) result }
     {
         let _ = octets;
         let left = self.left >> used;
@@ -136,7 +136,7 @@ impl Marks {
 
     /// Checks whether the mask has a low octet.
     #[inline(always)]
-    pub(crate) fn has_some(self) -> bool
+    pub(crate) fn has_low_octet(self) -> bool
         ensures { result ≡ nat_lt 1 (count_ones self.left) }
     {
         self.left.count_ones() > 1
@@ -145,26 +145,26 @@ impl Marks {
     /// Returns the number of octets before the first one that is low or that the mask does not
     /// cover. They lie in one line.
     #[inline(always)]
-    pub(crate) fn calm_len(self, octets: &[u8]) -> usize
-        requires { AreMarks octets.now self }
+    pub(crate) fn unmarked_len(self, octets: &[u8]) -> usize
+        requires { MaskCovers octets.now self }
         ensures within { result ≤ length octets.now }
         ensures line { IsLine (take result octets.now) }
         ensures short { result ≤ 16 }
     {
         let _ = octets;
-        calm_before(self.left).0
+        first_marked(self.left).0
     }
 
     /// Returns the length of the longest prefix that lies in one line, and the mask after it.
     #[inline(always)]
     pub(crate) fn run_len(self, octets: &[u8]) -> (usize, Marks)
-        requires { AreMarks octets.now self }
+        requires { MaskCovers octets.now self }
         ensures within { result.0 ≤ length octets.now }
         ensures line { IsLine (take result.0 octets.now) }
         ensures longest { result.0 < length octets.now → is_line_octet (slice_index octets.now result.0) ≡ false }
-        ensures marks { AreMarks (drop result.0 octets.now) result.1 }
+        ensures marks { MaskCovers (drop result.0 octets.now) result.1 }
     {
-        let first = calm_before(self.left);
+        let first = first_marked(self.left);
         let mut at = first.0;
         let mut left = first.1;
         while left != 1 || octets.len() - at >= BLOCK {
@@ -173,10 +173,10 @@ impl Marks {
                 at = next.0;
                 left = next.1;
             } else {
-                if !may_stand(octets[at]) {
+                if !may_be_in_line(octets[at]) {
                     return (at, Marks { left });
                 }
-                let next = calm_before(left >> 1);
+                let next = first_marked(left >> 1);
                 at += 1 + next.0;
                 left = next.1;
             }

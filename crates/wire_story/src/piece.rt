@@ -4,8 +4,8 @@
 ghost use Rattle.std.specs.Prelude.{◌≡◌, ◌<◌, ◌≤◌, false, length, drop, slice_index, take, Some, IfErr, IfOk, IsTrue, OnOk};
 ghost use Rattle.iim_dataset.specs.Format.Octets.{lf, cr};
 ghost use Rattle.wire_story.specs.Format.Texts.{is_line_octet, IsLine, max_returns};
-ghost use Rattle.wire_story.specs.States.Reading.{TakesPiece, RefusesOne};
-ghost use Rattle.wire_story.specs.Steps.{AreMarks, IsTextFront, StartsLineEnd};
+ghost use Rattle.wire_story.specs.States.Reading.{TextReaderConsumes, TextReaderRejects};
+ghost use Rattle.wire_story.specs.Steps.{MaskCovers, IsTextPrefix, BeginsWithLineEnd};
 
 use crate::fault::{TextCause, TextFault};
 use crate::marks::{BLOCK, Marks, tail_len};
@@ -19,13 +19,13 @@ const MAX_RETURNS: u8 = 2;
 /// mask after it.
 #[inline(always)]
 fn run_len(held: u8, marks: Marks, octets: &[u8]) -> (usize, Marks)
-    requires { AreMarks octets.now marks }
+    requires { MaskCovers octets.now marks }
     ensures within { result.0 ≤ length octets.now }
     ensures line { IsLine (take result.0 octets.now) }
     ensures held { 0 < result.0 → held ≡ 0 }
     ensures longest { held ≡ 0 → result.0 < length octets.now →
         is_line_octet (slice_index octets.now result.0) ≡ false }
-    ensures marks { AreMarks (drop result.0 octets.now) result.1 }
+    ensures marks { MaskCovers (drop result.0 octets.now) result.1 }
 {
     if held > 0 {
         return (0, marks);
@@ -47,16 +47,20 @@ fn has_line_end(held: u8, octets: &[u8]) -> bool
 /// Consumes the CR that comes first, or CR LF at once if no CR is pending. Returns the number of CR
 /// that are pending then, and the number of octets consumed.
 #[inline(always)]
-fn take_return<S: StorySink>(held: u8, rest: &[u8], sink: &mut S) -> Result<(u8, usize), TextFault>
+fn consume_return<S: StorySink>(
+    held: u8,
+    rest: &[u8],
+    sink: &mut S,
+) -> Result<(u8, usize), TextFault>
     requires few { held ≤ max_returns }
     requires some { 0 < length rest.now }
     requires first { slice_index rest.now 0 ≡ cr }
     ensures few { IfOk result (λ front. front.0 ≤ max_returns) }
     ensures short { IfOk result (λ front. (0 < front.1) × (front.1 ≤ 2) × (front.1 ≤ length rest.now)) }
     ensures taken { IfOk result (λ front.
-        TakesPiece S.goes S.failures (Some held) (take front.1 rest.now) (Some front.0) sink.old sink.new) }
+        TextReaderConsumes S.goes S.failures (Some held) (take front.1 rest.now) (Some front.0) sink.old sink.new) }
     ensures refused { IfErr result (λ fault.
-        RefusesOne S.goes S.failures (Some held) rest.now fault sink.old sink.new) }
+        TextReaderRejects S.goes S.failures (Some held) rest.now fault sink.old sink.new) }
 {
     if has_line_end(held, rest) {
         return match sink.line_end() {
@@ -79,16 +83,20 @@ fn take_return<S: StorySink>(held: u8, rest: &[u8], sink: &mut S) -> Result<(u8,
 /// Consumes what comes first, which a line may not have or which follows pending CR. Returns the
 /// number of CR that are pending then, and the number of octets consumed.
 #[inline(always)]
-fn take_mark<S: StorySink>(held: u8, rest: &[u8], sink: &mut S) -> Result<(u8, usize), TextFault>
+fn consume_marked<S: StorySink>(
+    held: u8,
+    rest: &[u8],
+    sink: &mut S,
+) -> Result<(u8, usize), TextFault>
     requires few { held ≤ max_returns }
     requires some { 0 < length rest.now }
     requires mark { held ≡ 0 → is_line_octet (slice_index rest.now 0) ≡ false }
     ensures few { IfOk result (λ front. front.0 ≤ max_returns) }
     ensures short { IfOk result (λ front. (0 < front.1) × (front.1 ≤ 2) × (front.1 ≤ length rest.now)) }
     ensures taken { IfOk result (λ front.
-        TakesPiece S.goes S.failures (Some held) (take front.1 rest.now) (Some front.0) sink.old sink.new) }
+        TextReaderConsumes S.goes S.failures (Some held) (take front.1 rest.now) (Some front.0) sink.old sink.new) }
     ensures refused { IfErr result (λ fault.
-        RefusesOne S.goes S.failures (Some held) rest.now fault sink.old sink.new) }
+        TextReaderRejects S.goes S.failures (Some held) rest.now fault sink.old sink.new) }
 {
     let octet = rest[0];
     if octet == LF {
@@ -101,7 +109,7 @@ fn take_mark<S: StorySink>(held: u8, rest: &[u8], sink: &mut S) -> Result<(u8, u
         };
     }
     if octet == CR {
-        return take_return(held, rest, sink);
+        return consume_return(held, rest, sink);
     }
     if held > 0 {
         return Err(TextFault {
@@ -122,9 +130,9 @@ fn take_run<S: StorySink>(held: u8, run: usize, rest: &[u8], sink: &mut S) -> Re
     requires line { IsLine (take run rest.now) }
     requires held { 0 < run → held ≡ 0 }
     ensures taken { OnOk result (
-        TakesPiece S.goes S.failures (Some held) (take run rest.now) (Some held) sink.old sink.new) }
+        TextReaderConsumes S.goes S.failures (Some held) (take run rest.now) (Some held) sink.old sink.new) }
     ensures refused { IfErr result (λ fault.
-        RefusesOne S.goes S.failures (Some held) rest.now fault sink.old sink.new) }
+        TextReaderRejects S.goes S.failures (Some held) rest.now fault sink.old sink.new) }
 {
     if run == 0 {
         return Ok(());
@@ -142,7 +150,7 @@ fn take_run<S: StorySink>(held: u8, run: usize, rest: &[u8], sink: &mut S) -> Re
 /// follows it. Returns the number of CR that are pending then, the number of octets consumed, and
 /// the mask after them.
 #[inline(always)]
-fn take_front<S: StorySink>(
+fn consume_prefix<S: StorySink>(
     held: u8,
     rest: &[u8],
     marks: Marks,
@@ -150,12 +158,12 @@ fn take_front<S: StorySink>(
 ) -> Result<(u8, usize, Marks), TextFault>
     requires few { held ≤ max_returns }
     requires some { 0 < length rest.now }
-    requires marks { AreMarks rest.now marks }
-    ensures front { IfOk result (λ front. IsTextFront rest.now front.0 front.1 front.2) }
+    requires marks { MaskCovers rest.now marks }
+    ensures front { IfOk result (λ front. IsTextPrefix rest.now front.0 front.1 front.2) }
     ensures taken { IfOk result (λ front.
-        TakesPiece S.goes S.failures (Some held) (take front.1 rest.now) (Some front.0) sink.old sink.new) }
+        TextReaderConsumes S.goes S.failures (Some held) (take front.1 rest.now) (Some front.0) sink.old sink.new) }
     ensures refused { IfErr result (λ fault.
-        RefusesOne S.goes S.failures (Some held) rest.now fault sink.old sink.new) }
+        TextReaderRejects S.goes S.failures (Some held) rest.now fault sink.old sink.new) }
 {
     let (run, here) = run_len(held, marks, rest);
     match take_run(held, run, rest, sink) {
@@ -163,7 +171,7 @@ fn take_front<S: StorySink>(
             if run == rest.len() {
                 return Ok((held, run, here));
             }
-            match take_mark(held, &rest[run..], sink) {
+            match consume_marked(held, &rest[run..], sink) {
                 Ok((now, used)) => Ok((now, run + used, here.after(used, &rest[run..]))),
                 Err(fault) => Err(fault.after(run)),
             }
@@ -177,7 +185,7 @@ fn take_front<S: StorySink>(
 #[inline(always)]
 fn end_len(run: usize, octets: &[u8]) -> usize
     requires { run ≤ length octets.now }
-    ensures { 0 < result → StartsLineEnd (drop run octets.now) result }
+    ensures { 0 < result → BeginsWithLineEnd (drop run octets.now) result }
 {
     if run == octets.len() {
         return 0;
@@ -193,12 +201,12 @@ fn end_len(run: usize, octets: &[u8]) -> usize
 
 /// Passes the line end of `end` octets that comes first to the sink. No CR is pending.
 #[inline(always)]
-fn take_end<S: StorySink>(end: usize, rest: &[u8], sink: &mut S) -> Result<(), TextFault>
-    requires { StartsLineEnd rest.now end }
+fn consume_line_end<S: StorySink>(end: usize, rest: &[u8], sink: &mut S) -> Result<(), TextFault>
+    requires { BeginsWithLineEnd rest.now end }
     ensures taken { OnOk result (
-        TakesPiece S.goes S.failures (Some 0) (take end rest.now) (Some 0) sink.old sink.new) }
+        TextReaderConsumes S.goes S.failures (Some 0) (take end rest.now) (Some 0) sink.old sink.new) }
     ensures refused { IfErr result (λ fault.
-        RefusesOne S.goes S.failures (Some 0) rest.now fault sink.old sink.new) }
+        TextReaderRejects S.goes S.failures (Some 0) rest.now fault sink.old sink.new) }
 {
     let _ = rest;
     match sink.line_end() {
@@ -214,22 +222,22 @@ fn take_end<S: StorySink>(end: usize, rest: &[u8], sink: &mut S) -> Result<(), T
 /// octet or right after the octets of the mask. Returns the number of octets consumed, or 0 if the
 /// end does not come there.
 #[inline(always)]
-fn take_line<S: StorySink>(rest: &[u8], marks: Marks, sink: &mut S) -> Result<usize, TextFault>
-    requires marks { AreMarks rest.now marks }
+fn consume_line<S: StorySink>(rest: &[u8], marks: Marks, sink: &mut S) -> Result<usize, TextFault>
+    requires marks { MaskCovers rest.now marks }
     ensures within { IfOk result (λ used. used ≤ length rest.now) }
     ensures short { IfOk result (λ used. used ≤ 18) }
     ensures taken { IfOk result (λ used.
-        TakesPiece S.goes S.failures (Some 0) (take used rest.now) (Some 0) sink.old sink.new) }
+        TextReaderConsumes S.goes S.failures (Some 0) (take used rest.now) (Some 0) sink.old sink.new) }
     ensures refused { IfErr result (λ fault.
-        RefusesOne S.goes S.failures (Some 0) rest.now fault sink.old sink.new) }
+        TextReaderRejects S.goes S.failures (Some 0) rest.now fault sink.old sink.new) }
 {
-    let run = marks.calm_len(rest);
+    let run = marks.unmarked_len(rest);
     let end = end_len(run, rest);
     if end == 0 {
         return Ok(0);
     }
     match take_run(0, run, rest, sink) {
-        Ok(()) => match take_end(end, &rest[run..], sink) {
+        Ok(()) => match consume_line_end(end, &rest[run..], sink) {
             Ok(()) => Ok(run + end),
             Err(fault) => Err(fault.after(run)),
         },
@@ -240,23 +248,23 @@ fn take_line<S: StorySink>(rest: &[u8], marks: Marks, sink: &mut S) -> Result<us
 /// Consumes lines from the start if no CR is pending, as long as the mask has a low octet. Returns
 /// the number of octets consumed, and the mask after them.
 #[inline(always)]
-fn take_lines<S: StorySink>(
+fn consume_lines<S: StorySink>(
     rest: &[u8],
     marks: Marks,
     sink: &mut S,
 ) -> Result<(usize, Marks), TextFault>
-    requires marks { AreMarks rest.now marks }
+    requires marks { MaskCovers rest.now marks }
     ensures within { IfOk result (λ lines. lines.0 ≤ length rest.now) }
-    ensures marks { IfOk result (λ lines. AreMarks (drop lines.0 rest.now) lines.1) }
+    ensures marks { IfOk result (λ lines. MaskCovers (drop lines.0 rest.now) lines.1) }
     ensures taken { IfOk result (λ lines.
-        TakesPiece S.goes S.failures (Some 0) (take lines.0 rest.now) (Some 0) sink.old sink.new) }
+        TextReaderConsumes S.goes S.failures (Some 0) (take lines.0 rest.now) (Some 0) sink.old sink.new) }
     ensures refused { IfErr result (λ fault.
-        RefusesOne S.goes S.failures (Some 0) rest.now fault sink.old sink.new) }
+        TextReaderRejects S.goes S.failures (Some 0) rest.now fault sink.old sink.new) }
 {
     let mut at = 0;
     let mut here = marks;
-    while here.has_some() {
-        match take_line(&rest[at..], here, sink) {
+    while here.has_low_octet() {
+        match consume_line(&rest[at..], here, sink) {
             Ok(used) => {
                 if used == 0 {
                     return Ok((at, here));
@@ -272,7 +280,7 @@ fn take_lines<S: StorySink>(
 
 /// Consumes a prefix of the remaining octets, and after a short one the lines that the mask covers.
 #[inline(always)]
-fn take_fronts<S: StorySink>(
+fn consume_prefixes<S: StorySink>(
     held: u8,
     rest: &[u8],
     marks: Marks,
@@ -280,25 +288,25 @@ fn take_fronts<S: StorySink>(
 ) -> Result<(u8, usize, Marks), TextFault>
     requires few { held ≤ max_returns }
     requires some { 0 < length rest.now }
-    requires marks { AreMarks rest.now marks }
-    ensures front { IfOk result (λ front. IsTextFront rest.now front.0 front.1 front.2) }
+    requires marks { MaskCovers rest.now marks }
+    ensures front { IfOk result (λ front. IsTextPrefix rest.now front.0 front.1 front.2) }
     ensures taken { IfOk result (λ front.
-        TakesPiece S.goes S.failures (Some held) (take front.1 rest.now) (Some front.0) sink.old sink.new) }
+        TextReaderConsumes S.goes S.failures (Some held) (take front.1 rest.now) (Some front.0) sink.old sink.new) }
     ensures refused { IfErr result (λ fault.
-        RefusesOne S.goes S.failures (Some held) rest.now fault sink.old sink.new) }
+        TextReaderRejects S.goes S.failures (Some held) rest.now fault sink.old sink.new) }
 {
-    let (now, used, after) = take_front(held, rest, marks, sink)?;
+    let (now, used, after) = consume_prefix(held, rest, marks, sink)?;
     if used == rest.len() || used >= BLOCK || now > 0 {
         return Ok((now, used, after));
     }
-    match take_lines(&rest[used..], after, sink) {
+    match consume_lines(&rest[used..], after, sink) {
         Ok((more, last)) => Ok((0, used + more, last)),
         Err(fault) => Err(fault.after(used)),
     }
 }
 
 /// Consumes a chunk after `held` pending CR, and returns the number of CR that are pending then.
-pub(crate) fn take_piece<S: StorySink>(
+pub(crate) fn consume_chunk<S: StorySink>(
     held: u8,
     piece: &[u8],
     sink: &mut S,
@@ -306,9 +314,9 @@ pub(crate) fn take_piece<S: StorySink>(
     requires { held ≤ max_returns }
     ensures few { IfOk result (λ now. now ≤ max_returns) }
     ensures taken { IfOk result (λ now.
-        TakesPiece S.goes S.failures (Some held) piece.now (Some now) sink.old sink.new) }
+        TextReaderConsumes S.goes S.failures (Some held) piece.now (Some now) sink.old sink.new) }
     ensures refused { IfErr result (λ fault.
-        RefusesOne S.goes S.failures (Some held) piece.now fault sink.old sink.new) }
+        TextReaderRejects S.goes S.failures (Some held) piece.now fault sink.old sink.new) }
 {
     if held == 0 && piece.len() < BLOCK && tail_len(0, piece) == piece.len() {
         return match take_run(0, piece.len(), piece, sink) {
@@ -320,7 +328,7 @@ pub(crate) fn take_piece<S: StorySink>(
     let mut at = 0;
     let mut marks = Marks::new();
     while at < piece.len() {
-        match take_fronts(now, &piece[at..], marks, sink) {
+        match consume_prefixes(now, &piece[at..], marks, sink) {
             Ok((next, used, after)) => {
                 now = next;
                 marks = after;

@@ -2,17 +2,17 @@
 
 ghost use Rattle.std.specs.Prelude.{◌≡◌, ◌≤◌, [], List, ℕ, Option, is_none, Some, None, ◌↔◌, IsSome, IfSome, IfErr, OnOk, OnErr};
 ghost use Rattle.std.specs.Option.{ForSome};
-ghost use Rattle.wire_story.specs.Format.Texts.{AreLines, max_returns, End, StoryDiesAt};
-ghost use Rattle.wire_story.specs.States.Reading.{StandsAt, TakesPiece, RefusesOne};
+ghost use Rattle.wire_story.specs.Format.Texts.{HasLines, max_returns, End, EndsViableStory};
+ghost use Rattle.wire_story.specs.States.Reading.{TextReaderHasRead, TextReaderConsumes, TextReaderRejects};
 
 use crate::fault::{TextCause, TextFault};
-use crate::laws::places_are_reached;
-use crate::piece::take_piece;
+use crate::laws::text_states_are_reached;
+use crate::piece::consume_chunk;
 use crate::sink::StorySink;
 use std::marker::Model;
 
 /// The greatest number of CR that may be pending: a third one is rejected.
-const MOST_HELD: u8 = 2;
+const MAX_PENDING: u8 = 2;
 
 /// A push parser of a text. It stores nothing of the text but the number of CR at its end.
 ///
@@ -34,7 +34,7 @@ impl TextReader {
     /// Creates a reader at the start of a text.
     pub fn new() -> TextReader
         ensures takes_calls { IsSome result }
-        ensures stands { StandsAt result [] }
+        ensures stands { TextReaderHasRead result [] }
     {
         TextReader { held: Some(0) }
     }
@@ -59,10 +59,10 @@ impl TextReader {
     /// there are more than 2.
     pub fn at(held: u8) -> Option<TextReader>
         ensures place { IfSome result (λ reader. reader ≡ Some held) }
-        ensures exactly { IsSome result ↔ ((octets : List ℕ) × StandsAt (Some held) octets) }
+        ensures exactly { IsSome result ↔ ((octets : List ℕ) × TextReaderHasRead (Some held) octets) }
     {
-        places_are_reached();
-        if held > MOST_HELD {
+        text_states_are_reached();
+        if held > MAX_PENDING {
             return None;
         }
         Some(TextReader { held: Some(held) })
@@ -80,14 +80,14 @@ impl TextReader {
         // The octets so far, with the slice, are a viable prefix of a text, and the sink received
         // what is delivered of the slice.
         ensures takes_calls { OnOk result (IsSome self.new) }
-        ensures taken { OnOk result (TakesPiece S.goes S.failures self.old run.now self.new sink.old sink.new) }
+        ensures taken { OnOk result (TextReaderConsumes S.goes S.failures self.old run.now self.new sink.old sink.new) }
 
         // With the rejected octet they are not a viable prefix, or the sink stopped.
         ensures failed { OnErr result (self.new ≡ None) }
         ensures refused { IfErr result (λ fault.
-            RefusesOne S.goes S.failures self.old run.now fault sink.old sink.new) }
+            TextReaderRejects S.goes S.failures self.old run.now fault sink.old sink.new) }
     {
-        match take_piece(self.held.unwrap(), run, sink) {
+        match consume_chunk(self.held.unwrap(), run, sink) {
             Ok(held) => {
                 self.held = Some(held);
                 Ok(())
@@ -107,12 +107,13 @@ impl TextReader {
 
         // The octets so far are a text.
         ensures unchanged { OnOk result (self.new ≡ self.old) }
-        ensures text { OnOk result ((octets : List ℕ) → StandsAt self.old octets → AreLines octets) }
+        ensures text { OnOk result ((octets : List ℕ) → TextReaderHasRead self.old octets → HasLines octets) }
 
         // A CR is pending, so the text may not end here.
         ensures failed { OnErr result (self.new ≡ None) }
         ensures fault { IfErr result (λ fault. (fault.taken ≡ 0) × (fault.cause ≡ TextCause.LoneReturn)) }
-        ensures refused { OnErr result ((octets : List ℕ) → StandsAt self.old octets → StoryDiesAt octets End) }
+        ensures refused { OnErr result ((octets : List ℕ) → TextReaderHasRead self.old octets
+            → EndsViableStory octets End) }
     {
         if self.held.unwrap() == 0 {
             return Ok(());

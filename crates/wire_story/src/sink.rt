@@ -1,7 +1,7 @@
 //! The sink that the text of a story goes to.
 
 ghost use Rattle.std.specs.Prelude.{◌≡◌, ◌<◌, ◌++◌, [], ◌∷◌, List, ℕ, length, map, take, IfErr, OnOk, OnErr};
-ghost use Rattle.iim_dataset.specs.Format.Octets.{Rose};
+ghost use Rattle.iim_dataset.specs.Format.Octets.{CounterRose};
 ghost use Rattle.wire_story.specs.Format.Texts.{IsLine, StoryEvent, LineOctet, LineEnd};
 
 use iim_dataset::Stop;
@@ -20,18 +20,18 @@ pub trait StorySink {
     fn text(&mut self, run: &[u8]) -> Result<(), Stop>
         requires { IsLine run.now }
         ensures ok { OnOk result (goes self.old (map LineOctet run.now) self.new) }
-        ensures calm { OnOk result (failures self.new ≡ failures self.old) }
+        ensures no_failure { OnOk result (failures self.new ≡ failures self.old) }
         ensures refused { IfErr result (λ stop. stop.taken < length run.now) }
         ensures front { IfErr result (λ stop. goes self.old (map LineOctet (take stop.taken run.now)) self.new) }
-        ensures counted { OnErr result (Rose (failures self.old) (failures self.new)) };
+        ensures counted { OnErr result (CounterRose (failures self.old) (failures self.new)) };
 
     /// Receives the end of the current line, or rejects it.
     fn line_end(&mut self) -> Result<(), Stop>
         ensures ok { OnOk result (goes self.old (LineEnd ∷ []) self.new) }
-        ensures calm { OnOk result (failures self.new ≡ failures self.old) }
+        ensures no_failure { OnOk result (failures self.new ≡ failures self.old) }
         ensures refused { IfErr result (λ stop. stop.taken ≡ 0) }
         ensures front { OnErr result (goes self.old [] self.new) }
-        ensures counted { OnErr result (Rose (failures self.old) (failures self.new)) };
+        ensures counted { OnErr result (CounterRose (failures self.old) (failures self.new)) };
 
     /// The empty list of events relates each value to itself, so an empty slice may change nothing.
     ghost nothing: { (sink : Self) → goes sink [] sink };

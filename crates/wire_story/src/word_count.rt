@@ -36,7 +36,7 @@ impl Model for WordCount {
 
 /// Checks whether an octet of a line belongs to a word.
 #[inline(always)]
-fn is_of_word(octet: u8) -> bool
+fn belongs_to_word(octet: u8) -> bool
     ensures { result ≡ is_word_octet octet }
 {
     !(octet == SP || octet == TAB)
@@ -66,7 +66,7 @@ fn wide_blanks(block: &[u8]) -> u64
 /// no word is in progress before them, and otherwise 0; `after` is the same for the end of the
 /// octets. A word begins with an octet of a word after a blank, or at the beginning of a line.
 #[inline(always)]
-fn begun_in(before: u64, octets: &[u8], blanks: u64, after: u64) -> u64
+fn count_words_begun(before: u64, octets: &[u8], blanks: u64, after: u64) -> u64
     requires short { length octets.now < 64 }
     requires blanks { blanks ≡ mask_l (map is_blank octets.now) }
     requires one { before ≤ 1 }
@@ -82,7 +82,7 @@ fn begun_in(before: u64, octets: &[u8], blanks: u64, after: u64) -> u64
 /// Counts the words that begin in octets of a line, by two blocks, which may overlap. Returns also
 /// 1 if the last octet is a blank, and otherwise 0.
 #[inline(always)]
-fn few_begun(before: u64, octets: &[u8]) -> (u64, u64)
+fn count_in_two_blocks(before: u64, octets: &[u8]) -> (u64, u64)
     requires one { before ≤ 1 }
     requires some { 16 ≤ length octets.now }
     requires few { length octets.now ≤ 32 }
@@ -93,13 +93,13 @@ fn few_begun(before: u64, octets: &[u8]) -> (u64, u64)
     let last = block_blanks(&octets[octets.len() - BLOCK..]);
     let blanks = first + (last >> (2 * BLOCK - octets.len())) * (1 << BLOCK);
     let after = last >> (BLOCK - 1);
-    (begun_in(before, octets, blanks, after), after)
+    (count_words_begun(before, octets, blanks, after), after)
 }
 
 /// Counts the words that begin in octets of a line, by two wide blocks, which may overlap. Returns
 /// also 1 if the last octet is a blank, and otherwise 0.
 #[inline(always)]
-fn more_begun(before: u64, octets: &[u8]) -> (u64, u64)
+fn count_in_two_wide_blocks(before: u64, octets: &[u8]) -> (u64, u64)
     requires one { before ≤ 1 }
     requires some { 32 ≤ length octets.now }
     requires few { length octets.now < 64 }
@@ -110,13 +110,13 @@ fn more_begun(before: u64, octets: &[u8]) -> (u64, u64)
     let last = wide_blanks(&octets[octets.len() - WIDE..]);
     let blanks = first + (last >> (2 * WIDE - octets.len())) * (1 << WIDE);
     let after = last >> (WIDE - 1);
-    (begun_in(before, octets, blanks, after), after)
+    (count_words_begun(before, octets, blanks, after), after)
 }
 
 /// Counts the words that begin in octets of a line, by wide blocks, of which the last may overlap
 /// the one before. Returns also 1 if the last octet is a blank, and otherwise 0.
 #[inline(always)]
-fn many_begun(before: u64, octets: &[u8]) -> (u64, u64)
+fn count_in_wide_blocks(before: u64, octets: &[u8]) -> (u64, u64)
     requires one { before ≤ 1 }
     requires some { 32 ≤ length octets.now }
     ensures begun { result.0 ≡ words_begun (before == 0) octets.now }
@@ -126,31 +126,31 @@ fn many_begun(before: u64, octets: &[u8]) -> (u64, u64)
     let mut after = before;
     let mut at = 0;
     while octets.len() - at >= 2 * WIDE {
-        let (more, last) = more_begun(after, &octets[at..at + WIDE]);
+        let (more, last) = count_in_two_wide_blocks(after, &octets[at..at + WIDE]);
         begun += more;
         after = last;
         at += WIDE;
     }
-    let (more, last) = more_begun(after, &octets[at..]);
+    let (more, last) = count_in_two_wide_blocks(after, &octets[at..]);
     (begun + more, last)
 }
 
 /// Counts the words that begin in octets of a line, by blocks as wide as the octets allow. Returns
 /// also 1 if the last octet is a blank, and otherwise 0.
 #[inline(always)]
-fn blocks_begun(before: u64, octets: &[u8]) -> (u64, u64)
+fn count_in_blocks(before: u64, octets: &[u8]) -> (u64, u64)
     requires one { before ≤ 1 }
     requires some { 16 ≤ length octets.now }
     ensures begun { result.0 ≡ words_begun (before == 0) octets.now }
     ensures last { result.1 ≡ outside_after (before == 0) octets.now }
 {
     if octets.len() < WIDE {
-        return few_begun(before, octets);
+        return count_in_two_blocks(before, octets);
     }
     if octets.len() < 2 * WIDE {
-        return more_begun(before, octets);
+        return count_in_two_wide_blocks(before, octets);
     }
-    many_begun(before, octets)
+    count_in_wide_blocks(before, octets)
 }
 
 impl WordCount {
@@ -203,11 +203,11 @@ impl WordCount {
 
     /// Receives octets of the current line, by blocks.
     #[inline(never)]
-    fn take_blocks(&mut self, octets: &[u8])
+    fn count_blocks(&mut self, octets: &[u8])
         requires { 16 ≤ length octets.now }
         ensures { CountsWords self.old (map LineOctet octets.now) self.new }
     {
-        let (begun, after) = blocks_begun(u64::from(!self.inside), octets);
+        let (begun, after) = count_in_blocks(u64::from(!self.inside), octets);
         self.add(begun, after);
     }
 
@@ -216,7 +216,7 @@ impl WordCount {
     fn take(&mut self, octet: u8)
         ensures { CountsWords self.old (LineOctet octet ∷ []) self.new }
     {
-        if !is_of_word(octet) {
+        if !belongs_to_word(octet) {
             self.inside = false;
             return;
         }
@@ -228,7 +228,7 @@ impl WordCount {
 
     /// Receives octets of the current line, one by one.
     #[inline(always)]
-    fn take_each(&mut self, octets: &[u8])
+    fn count_each(&mut self, octets: &[u8])
         ensures { CountsWords self.old (map LineOctet octets.now) self.new }
     {
         for octet in octets {
@@ -254,9 +254,9 @@ impl StorySink for WordCount {
         ensures counts { CountsWords self.old (map LineOctet run.now) self.new }
     {
         if run.len() < BLOCK {
-            self.take_each(run);
+            self.count_each(run);
         } else {
-            self.take_blocks(run);
+            self.count_blocks(run);
         }
         Ok(())
     }

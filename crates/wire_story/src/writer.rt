@@ -1,8 +1,8 @@
 //! A sink that writes the lines joined by LF.
 
 ghost use Rattle.std.specs.Prelude.{◌≡◌, ◌<◌, [], ◌∷◌, length, map, take, IfErr, OnOk, OnErr};
-ghost use Rattle.iim_dataset.specs.Format.Octets.{lf, Rose};
-ghost use Rattle.iim_dataset.specs.States.Devices.{Wrote, Stopped, WithinInterruptionLimit};
+ghost use Rattle.iim_dataset.specs.Format.Octets.{lf, CounterRose};
+ghost use Rattle.iim_dataset.specs.States.Devices.{WroteAllOf, WroteOnlyPrefixOf, WithinInterruptionLimit};
 ghost use Rattle.wire_story.specs.Format.Texts.{IsLine, LineOctet, LineEnd};
 
 use crate::sink::StorySink;
@@ -39,15 +39,15 @@ impl<W: Target> LineWriter<W> {
     /// Writes octets, or those before the one at which it stops.
     fn write(&mut self, octets: &[u8]) -> Result<(), Stop>
         ensures ok { OnOk result (WritesOctets W.state self.old octets.now self.new) }
-        ensures calm { OnOk result (stops_of self.new ≡ stops_of self.old) }
+        ensures no_failure { OnOk result (stops_of self.new ≡ stops_of self.old) }
         ensures front { IfErr result (λ stop.
             WritesOctets W.state self.old (take stop.taken octets.now) self.new) }
-        ensures wrote { OnOk result (Wrote (device_of W.state self.old) (device_of W.state self.new) octets.now) }
+        ensures wrote { OnOk result (WroteAllOf (device_of W.state self.old) (device_of W.state self.new) octets.now) }
         ensures stopped { IfErr result (λ stop.
-            Stopped (device_of W.state self.old) (device_of W.state self.new) octets.now stop.taken) }
-        ensures patience { WithinInterruptionLimit (length octets.now) (device_of W.state self.old)
+            WroteOnlyPrefixOf (device_of W.state self.old) (device_of W.state self.new) octets.now stop.taken) }
+        ensures retry_limit { WithinInterruptionLimit (length octets.now) (device_of W.state self.old)
             (device_of W.state self.new) }
-        ensures counted { OnErr result (Rose (stops_of self.old) (stops_of self.new)) }
+        ensures counted { OnErr result (CounterRose (stops_of self.old) (stops_of self.new)) }
     {
         match put(&mut self.writer, octets) {
             Ok(()) => Ok(()),
@@ -77,18 +77,18 @@ impl<W: Target> StorySink for LineWriter<W> {
     fn text(&mut self, run: &[u8]) -> Result<(), Stop>
         requires { IsLine run.now }
         ensures ok { OnOk result (WritesLines W.state self.old (map LineOctet run.now) self.new) }
-        ensures calm { OnOk result (stops_of self.new ≡ stops_of self.old) }
+        ensures no_failure { OnOk result (stops_of self.new ≡ stops_of self.old) }
         ensures refused { IfErr result (λ stop. stop.taken < length run.now) }
         ensures front { IfErr result (λ stop.
             WritesLines W.state self.old (map LineOctet (take stop.taken run.now)) self.new) }
-        ensures counted { OnErr result (Rose (stops_of self.old) (stops_of self.new)) }
+        ensures counted { OnErr result (CounterRose (stops_of self.old) (stops_of self.new)) }
 
         // It stops only if the target failed in this call, or was interrupted at least a million
         // times in it.
-        ensures wrote { OnOk result (Wrote (device_of W.state self.old) (device_of W.state self.new) run.now) }
+        ensures wrote { OnOk result (WroteAllOf (device_of W.state self.old) (device_of W.state self.new) run.now) }
         ensures stopped { IfErr result (λ stop.
-            Stopped (device_of W.state self.old) (device_of W.state self.new) run.now stop.taken) }
-        ensures patience { WithinInterruptionLimit (length run.now) (device_of W.state self.old)
+            WroteOnlyPrefixOf (device_of W.state self.old) (device_of W.state self.new) run.now stop.taken) }
+        ensures retry_limit { WithinInterruptionLimit (length run.now) (device_of W.state self.old)
             (device_of W.state self.new) }
     {
         self.write(run)
@@ -96,16 +96,17 @@ impl<W: Target> StorySink for LineWriter<W> {
 
     fn line_end(&mut self) -> Result<(), Stop>
         ensures ok { OnOk result (WritesLines W.state self.old (LineEnd ∷ []) self.new) }
-        ensures calm { OnOk result (stops_of self.new ≡ stops_of self.old) }
+        ensures no_failure { OnOk result (stops_of self.new ≡ stops_of self.old) }
         ensures refused { IfErr result (λ stop. stop.taken ≡ 0) }
         ensures front { OnErr result (WritesLines W.state self.old [] self.new) }
-        ensures counted { OnErr result (Rose (stops_of self.old) (stops_of self.new)) }
+        ensures counted { OnErr result (CounterRose (stops_of self.old) (stops_of self.new)) }
 
         // For the LF, it stops only if the target failed in this call, or was interrupted at least
         // a million times in it.
-        ensures wrote { OnOk result (Wrote (device_of W.state self.old) (device_of W.state self.new) (lf ∷ [])) }
-        ensures stopped { OnErr result (Stopped (device_of W.state self.old) (device_of W.state self.new) (lf ∷ []) 0) }
-        ensures patience { WithinInterruptionLimit 1 (device_of W.state self.old) (device_of W.state self.new) }
+        ensures wrote { OnOk result (WroteAllOf (device_of W.state self.old) (device_of W.state self.new) (lf ∷ [])) }
+        ensures stopped { OnErr result (WroteOnlyPrefixOf (device_of W.state self.old) (device_of W.state self.new)
+            (lf ∷ []) 0) }
+        ensures retry_limit { WithinInterruptionLimit 1 (device_of W.state self.old) (device_of W.state self.new) }
     {
         self.write(&[LF])
     }

@@ -1,7 +1,7 @@
 //! Calls of the records: checking and building them.
 
 ghost use Rattle.std.specs.Prelude.{◌≢◌, length, OnOk};
-ghost use Rattle.iim_fields.specs.States.Standing.{IsBetween, IsInside};
+ghost use Rattle.iim_fields.specs.States.Standing.{IsBetweenDatasets, IsInsideDataset};
 
 use crate::given::LIMITS;
 use crate::outcome::Trouble;
@@ -12,18 +12,18 @@ use worked::STORY_FIELDS;
 
 /// Passes all octets of the dataset in progress.
 fn give(fields: &mut Fields, head: Head, octets: &[u8])
-    requires inside { IsInside fields.old head (length octets.now) }
+    requires inside { IsInsideDataset fields.old head (length octets.now) }
     requires value { head.rec ≢ 8 }
-    ensures { IsInside fields.new head 0 }
+    ensures { IsInsideDataset fields.new head 0 }
 {
     fields.bytes(octets);
 }
 
 /// Passes a dataset that is not of record 8.
 fn pass(fields: &mut Fields, rec: u8, set: u8, octets: &[u8]) -> Result<(), FieldFault>
-    requires between { IsBetween fields.old }
+    requires between { IsBetweenDatasets fields.old }
     requires value { rec ≢ 8 }
-    ensures { OnOk result (IsBetween fields.new) }
+    ensures { OnOk result (IsBetweenDatasets fields.new) }
 {
     let head = Head {
         rec,

@@ -217,12 +217,12 @@ fn expect_failures(alloc: Global, plan: Plan, way: Way) -> Result<(), Trouble> {
     work.expect_failures(way)
 }
 
-fn each_call_fails_where_its_subfile_is_full(alloc: Global) -> Result<(), Trouble> {
+fn packer_fails_in_the_call_that_writes(alloc: Global) -> Result<(), Trouble> {
     let plan = plan(9, Size::Known(50))?;
     expect_failures(alloc, plan, Way::CallByCall)
 }
 
-fn a_whole_pack_fails_at_each_call(alloc: Global) -> Result<(), Trouble> {
+fn pack_reports_a_failure_of_each_write(alloc: Global) -> Result<(), Trouble> {
     for subfile in [1, 9, 1024] {
         let plan = plan(subfile, Size::Unknown(Some(64)))?;
         expect_failures(alloc, plan, Way::AtOnce)?;
@@ -232,8 +232,8 @@ fn a_whole_pack_fails_at_each_call(alloc: Global) -> Result<(), Trouble> {
 
 /// Runs the tests of a writer that fails within each call.
 pub(crate) fn tell(rt: &impl Print, told: &mut Told, alloc: Global) -> io::Result<()> {
-    let calls = each_call_fails_where_its_subfile_is_full(alloc);
-    told.trial(rt, "each_call_fails_where_its_subfile_is_full", calls)?;
-    let whole = a_whole_pack_fails_at_each_call(alloc);
-    told.trial(rt, "a_whole_pack_fails_at_each_call", whole)
+    let calls = packer_fails_in_the_call_that_writes(alloc);
+    told.trial(rt, "packer_fails_in_the_call_that_writes", calls)?;
+    let whole = pack_reports_a_failure_of_each_write(alloc);
+    told.trial(rt, "pack_reports_a_failure_of_each_write", whole)
 }

@@ -143,7 +143,7 @@ fn end_after_calls(good: usize) -> End {
     }
 }
 
-fn writes_fail_call_by_call(alloc: Global) -> Result<(), Trouble> {
+fn packer_reports_a_failure_of_each_write(alloc: Global) -> Result<(), Trouble> {
     for good in 0..247usize {
         let writer: TrialWriter<512> = TrialWriter::new(good as u64, DeviceTrouble::Failure);
         let end = pack_story(alloc, writer)?;
@@ -152,7 +152,7 @@ fn writes_fail_call_by_call(alloc: Global) -> Result<(), Trouble> {
     Ok(())
 }
 
-fn a_full_writer_takes_nothing(alloc: Global) -> Result<(), Trouble> {
+fn packer_stops_at_a_full_writer(alloc: Global) -> Result<(), Trouble> {
     let none: TrialWriter<0> = TrialWriter::new(1000, DeviceTrouble::Failure);
     right_at(0, pack_story(alloc, none)? == End::InStart(0))?;
     let some: TrialWriter<100> = TrialWriter::new(1000, DeviceTrouble::Failure);
@@ -165,8 +165,8 @@ fn a_full_writer_takes_nothing(alloc: Global) -> Result<(), Trouble> {
 
 /// Runs the tests of a packer whose writer fails.
 pub(crate) fn tell(rt: &impl Print, told: &mut Told, alloc: Global) -> io::Result<()> {
-    let calls = writes_fail_call_by_call(alloc);
-    told.trial(rt, "writes_fail_call_by_call", calls)?;
-    let full = a_full_writer_takes_nothing(alloc);
-    told.trial(rt, "a_full_writer_takes_nothing", full)
+    let calls = packer_reports_a_failure_of_each_write(alloc);
+    told.trial(rt, "packer_reports_a_failure_of_each_write", calls)?;
+    let full = packer_stops_at_a_full_writer(alloc);
+    told.trial(rt, "packer_stops_at_a_full_writer", full)
 }

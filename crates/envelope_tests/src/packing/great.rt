@@ -86,13 +86,13 @@ fn expect_great(alloc: Global, piece: &[u8]) -> Result<(), Trouble> {
 /// The header has 25 octets and the shortest trailer 2. After 65,535 chunks the text may have
 /// 65,513 more octets. Records 1 and 2 have 158 octets, record 7 has 28, since 7:90 has eight
 /// octets of data. The tag of a full subfile has 9 octets, and the last subfile has 4.
-fn an_object_above_four_octets_of_size(alloc: Global) -> Result<(), Trouble> {
+fn packs_an_object_above_4_gib(alloc: Global) -> Result<(), Trouble> {
     let piece = vec![in alloc; b'a'; 65_536]?;
     expect_great(alloc, &piece)
 }
 
 /// Runs the test.
 pub(crate) fn tell(rt: &impl Print, told: &mut Told, alloc: Global) -> io::Result<()> {
-    let came = an_object_above_four_octets_of_size(alloc);
-    told.trial(rt, "an_object_above_four_octets_of_size", came)
+    let came = packs_an_object_above_4_gib(alloc);
+    told.trial(rt, "packs_an_object_above_4_gib", came)
 }

@@ -54,7 +54,7 @@ const NONE: Calls = Calls {
     first: [0; 4],
 };
 
-fn two_lines(alloc: Global) -> Result<(), Trouble> {
+fn sink_receives_two_lines_in_three_calls(alloc: Global) -> Result<(), Trouble> {
     let mut calls = NONE;
     let answer = {
         let mut unpacker = Unpacker::new(alloc, LIMITS)?;
@@ -87,7 +87,7 @@ fn fed_long(alloc: Global, calls: &mut Calls) -> Result<Result<Progress, Refusal
     Ok(unpacker.feed(&octets, calls))
 }
 
-fn one_long_line(alloc: Global) -> Result<(), Trouble> {
+fn sink_receives_one_long_line_in_one_call(alloc: Global) -> Result<(), Trouble> {
     let mut calls = NONE;
     let answer = fed_long(alloc, &mut calls)?;
     right(answer == Ok(Progress::Done { used: 32_872 }))?;
@@ -139,7 +139,7 @@ fn text_before(
 
 /// The sinks stop at the first octet of the text, within a line, at the end of a line, and before
 /// and within the next.
-fn sinks_that_stop(alloc: Global) -> Result<(), Trouble> {
+fn stops_where_the_sink_stops(alloc: Global) -> Result<(), Trouble> {
     let rows: [((u64, usize), usize, &[u8]); 5] = [
         ((0, 0), 212, b"\n"),
         ((0, 4), 216, b"Rate\n"),
@@ -156,7 +156,19 @@ fn sinks_that_stop(alloc: Global) -> Result<(), Trouble> {
 
 /// Runs the tests of sinks.
 pub(crate) fn tell(rt: &impl Print, told: &mut Told, alloc: Global) -> io::Result<()> {
-    told.trial(rt, "two_lines", two_lines(alloc))?;
-    told.trial(rt, "one_long_line", one_long_line(alloc))?;
-    told.trial(rt, "sinks_that_stop", sinks_that_stop(alloc))
+    told.trial(
+        rt,
+        "sink_receives_two_lines_in_three_calls",
+        sink_receives_two_lines_in_three_calls(alloc),
+    )?;
+    told.trial(
+        rt,
+        "sink_receives_one_long_line_in_one_call",
+        sink_receives_one_long_line_in_one_call(alloc),
+    )?;
+    told.trial(
+        rt,
+        "stops_where_the_sink_stops",
+        stops_where_the_sink_stops(alloc),
+    )
 }

@@ -68,7 +68,7 @@ fn patient(
     next(alloc, &mut intake)
 }
 
-fn a_reader_that_fails_at_each_call(alloc: Global) -> Result<(), Trouble> {
+fn intake_reports_a_failure_of_each_read(alloc: Global) -> Result<(), Trouble> {
     for good in 0..246usize {
         let fault = IntakeFault::Read;
         expect_fault(alloc, STORY, good, DeviceTrouble::Failure, fault)?;
@@ -93,7 +93,7 @@ fn expect_troubles(alloc: Global, good: usize) -> Result<(), Trouble> {
     right_at(good, answer == (Ok(Some(14)), 114))
 }
 
-fn a_failing_reader(alloc: Global) -> Result<(), Trouble> {
+fn intake_reports_failure_and_interruption(alloc: Global) -> Result<(), Trouble> {
     for good in [0usize, 1, 60, 113] {
         expect_troubles(alloc, good)?;
     }
@@ -102,7 +102,11 @@ fn a_failing_reader(alloc: Global) -> Result<(), Trouble> {
 
 /// Runs the tests of intakes.
 pub(crate) fn tell(rt: &impl Print, told: &mut Told, alloc: Global) -> io::Result<()> {
-    let each = a_reader_that_fails_at_each_call(alloc);
-    told.trial(rt, "a_reader_that_fails_at_each_call", each)?;
-    told.trial(rt, "a_failing_reader", a_failing_reader(alloc))
+    let each = intake_reports_a_failure_of_each_read(alloc);
+    told.trial(rt, "intake_reports_a_failure_of_each_read", each)?;
+    told.trial(
+        rt,
+        "intake_reports_failure_and_interruption",
+        intake_reports_failure_and_interruption(alloc),
+    )
 }

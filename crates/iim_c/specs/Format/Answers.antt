@@ -1,10 +1,10 @@
 -- The answer of a call, and a buffer that octets are written into.
 use Rattle.std.specs.Prelude.{ℕ, ◌≡◌, ◌≤◌, List, ◌++◌, length, take, map}
-use Rattle.iim_places.specs.{Format.Causes.cause_number, Format.Streams.raised, declared.refusal.Refusal.Refusal}
+use Rattle.iim_places.specs.{Format.Causes.cause_number, Format.Streams.sum_capped, declared.refusal.Refusal.Refusal}
 use Rattle.iim_places.specs.{declared.refusal.Layer.Layer, declared.ticket.fault.TicketFault.TicketFault}
 use Rattle.iim_places.specs.declared.refusal.Layer.TheVariants.{Dataset, Record, Limits, Object, Message, Story, Outside}
 use Rattle.iim_places.specs.declared.ticket.fault.TicketFault.TheVariants.{OutOfMemory}
-use Rattle.iim_places.specs.Format.Faults.{ticket_number}
+use Rattle.iim_places.specs.Format.Faults.{ticket_fault_number}
 use Rattle.iim_c.specs.Format.Statuses as status
 use Rattle.wire_story.specs.Format.Texts.{StoryEvent, octet_for}
 pub use Rattle.iim_c.specs.declared.answer.IimAnswer.{IimAnswer}
@@ -52,15 +52,15 @@ refusal_answer status e = record (status_answer status) {
 -- the answer for a ticket that is rejected; a failed allocation has a separate status
 abbrev pub ticket_answer : TicketFault → IimAnswer
 ticket_answer OutOfMemory = status_answer status.no_memory
-ticket_answer fault = record (status_answer status.bad_ticket) { cause = ticket_number fault }
+ticket_answer fault = record (status_answer status.bad_ticket) { cause = ticket_fault_number fault }
 
 -- a number of octets as it is counted: capped at the greatest number of 64 bits
 abbrev pub counted : List ℕ → ℕ
-counted octets = raised 0 (length octets)
+counted octets = sum_capped 0 (length octets)
 
 -- The octets fit into the buffer, and are at its front.
-abbrev pub HoldsFirst : List ℕ → List ℕ → Type 0
-HoldsFirst out octets = (length octets ≤ length out) × (take (length octets) out ≡ octets)
+abbrev pub BeginsWith : List ℕ → List ℕ → Type 0
+BeginsWith out octets = (length octets ≤ length out) × (take (length octets) out ≡ octets)
 
 -- This number of octets was received, and they are at the front of the buffer, if they fit.
 abbrev pub HasTaken : List ℕ → ℕ → List ℕ → Type 0

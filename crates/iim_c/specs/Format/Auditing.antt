@@ -1,14 +1,14 @@
 -- The result of auditing a chunk from the state of a ticket on, and the rows of an audit.
 use Rattle.std.specs.Prelude.{◌≡◌, ℕ, ◌-◌, ℤ, pos, List, ◌++◌, length, replicate, Option, is_some, ◌<◌, ◌≤◌, ◌⊎◌, [], ◌∷◌, take, drop, None, ⊤}
 use Rattle.std.specs.Option.{unwrap_or}
-use Rattle.iim_c.specs.Format.Tables.{TellsInstant, IsInstant, IsToldAs}
-use Rattle.iim_c.specs.Format.Answers.{status_answer, short_answer, refusal_answer, IimAnswer, HoldsFirst}
-use Rattle.iim_c.specs.Format.Feeding.{IsSaid, IsNowhere, most_of_ticket}
-use Rattle.iim_c.specs.{Format.Tickets.words_so_far, Format.Tickets.begins_at, declared.instant.IimInstant.IimInstant}
+use Rattle.iim_c.specs.Format.Tables.{IsOptionalInstant, IsInstant, IsInstantAt}
+use Rattle.iim_c.specs.Format.Answers.{status_answer, short_answer, refusal_answer, IimAnswer, BeginsWith}
+use Rattle.iim_c.specs.Format.Feeding.{HoldsForTicket, HasNoState, max_ticket_octets}
+use Rattle.iim_c.specs.{Format.Tickets.words_so_far, Format.Tickets.state_at_start, declared.instant.IimInstant.IimInstant}
 use Rattle.iim_fields.specs.Format.Records.{instant_of_release, instant_of_expiration}
-use Rattle.iim_places.specs.{Format.Admitted.Value, Format.Open.IsOpen, Format.Streams.IsEnvelopeWithin}
-use Rattle.iim_places.specs.{Format.Streams.raised, Format.Tickets.IsTicketOf, declared.refusal.Refusal.Refusal}
-use Rattle.iim_audit.specs.Format.{HaveWords, Refuses, row_with}
+use Rattle.iim_places.specs.{Format.Admitted.Value, Format.Open.IsIncomplete, Format.Streams.IsEnvelopeWithin}
+use Rattle.iim_places.specs.{Format.Streams.sum_capped, Format.Tickets.IsTicketOf, declared.refusal.Refusal.Refusal}
+use Rattle.iim_audit.specs.Format.{WordsAreCounted, RejectsChunk, row_with_first_of}
 use Rattle.iim_audit.specs.declared.copy.CopyState.TheVariants.{Held, Expired, Free}
 use Rattle.iim_audit.specs.declared.{copy.CopyState.CopyState, row.AuditRow.AuditRow}
 use Rattle.iim_c.specs.Format.Statuses as status
@@ -27,7 +27,7 @@ copy_number Expired = 2
 
 -- The row of an envelope of this length, which begins at this offset of the input. It has what the
 -- row of an audit has, except the earlier envelope that it repeats, and the instants of its copy.
-pub record TellsRow (at octets : ℕ) (told : AuditRow) (release expires : Option ℤ) (row : IimAuditRow) : Type 0 where
+pub record IsRowFor (at octets : ℕ) (told : AuditRow) (release expires : Option ℤ) (row : IimAuditRow) : Type 0 where
   pub at_is : row.at ≡ at
   pub octets_are : row.octets ≡ octets
   pub service : row.service ≡ padded 10 told.id.service
@@ -42,54 +42,54 @@ pub record TellsRow (at octets : ℕ) (told : AuditRow) (release expires : Optio
   pub has_age : row.has_age ≡ is_some told.age
   pub age : row.age ≡ unwrap_or told.age (pos 0)
   pub copy : row.copy ≡ copy_number told.copy
-  pub release_is : TellsInstant release row.has_release row.release
-  pub expires_is : TellsInstant expires row.has_expires row.expires
+  pub release_is : IsOptionalInstant release row.has_release row.release
+  pub expires_is : IsOptionalInstant expires row.has_expires row.expires
 
 -- ---- rows
 
 -- the current envelope: the offset in the input at which it begins, its octets so far, and their
 -- count
-pub record InHand : Type 0 where
+pub record CurrentEnvelope : Type 0 where
   pub at : ℕ
   pub octets : List ℕ
   pub count : ℕ
 
 -- the same envelope after more octets
-abbrev pub with_more : InHand → List ℕ → InHand
-with_more hand more = record { at = hand.at; octets = hand.octets ++ more; count = raised hand.count (length more) }
+abbrev pub with_more : CurrentEnvelope → List ℕ → CurrentEnvelope
+with_more hand more = record { at = hand.at; octets = hand.octets ++ more; count = sum_capped hand.count (length more) }
 
 -- the next envelope, if this one is complete
-abbrev pub after : InHand → InHand
-after hand = record { at = raised hand.at hand.count; octets = []; count = 0 }
+abbrev pub after : CurrentEnvelope → CurrentEnvelope
+after hand = record { at = sum_capped hand.at hand.count; octets = []; count = 0 }
 
 -- The current octets are an envelope, and this is its row.
-pub record IsRow (limits : Limits) (now : ℤ) (hand : InHand) (row : IimAuditRow) : Type 0 where
+pub record IsRow (limits : Limits) (now : ℤ) (hand : CurrentEnvelope) (row : IimAuditRow) : Type 0 where
   pub value : Value
   pub envelope : IsEnvelopeWithin limits hand.octets value
-  pub tells : TellsRow hand.at hand.count (row_with now value None) (instant_of_release value.fields) (instant_of_expiration value.fields) row
+  pub tells : IsRowFor hand.at hand.count (row_with_first_of now value None) (instant_of_release value.fields) (instant_of_expiration value.fields) row
 
 -- Octets of the input complete the current envelope and further ones, with a row for each in this
 -- order; `next` is the current envelope afterwards.
-abbrev pub AreRows : Limits → ℤ → InHand → List ℕ → List IimAuditRow → InHand → Type 0
-AreRows limits now hand octets [] next = (octets ≡ []) × (next ≡ hand)
-AreRows limits now hand octets (row ∷ rows) next =
+abbrev pub AreRowsOfEnvelopes : Limits → ℤ → CurrentEnvelope → List ℕ → List IimAuditRow → CurrentEnvelope → Type 0
+AreRowsOfEnvelopes limits now hand octets [] next = (octets ≡ []) × (next ≡ hand)
+AreRowsOfEnvelopes limits now hand octets (row ∷ rows) next =
     (ended : List ℕ) × (others : List ℕ) × (octets ≡ ended ++ others) × IsRow limits now (with_more hand ended) row
-    × AreRows limits now (after (with_more hand ended)) others rows next
+    × AreRowsOfEnvelopes limits now (after (with_more hand ended)) others rows next
 
 -- ---- the state after the rows
 
 -- The current envelope is a viable prefix, the ticket is that of its octets, and this is the state
 -- beside it.
-pub record GoesOn (limits : Limits) (hand : InHand) (next : List ℕ) (kept : IimSoFar) : Type 0 where
-  pub is_open : IsOpen limits hand.octets
+pub record CanContinueAfter (limits : Limits) (hand : CurrentEnvelope) (next : List ℕ) (kept : IimSoFar) : Type 0 where
+  pub is_open : IsIncomplete limits hand.octets
   pub ticket : IsTicketOf hand.octets next
   pub at : kept.at ≡ hand.at
   pub octets : kept.octets ≡ hand.count
-  pub words : HaveWords hand.octets (record { words = kept.words; inside = kept.inside })
+  pub words : WordsAreCounted hand.octets (record { words = kept.words; inside = kept.inside })
 
 -- the result for a chunk: the rows, the next ticket, the state beside it, and the answer if the
 -- ticket fits
-pub record Outcome : Type 0 where
+pub record ChunkOutcome : Type 0 where
   pub rows : List IimAuditRow
   pub next : List ℕ
   pub kept : IimSoFar
@@ -97,44 +97,44 @@ pub record Outcome : Type 0 where
 
 -- The octets complete the envelopes of the rows, and `said` holds of the current envelope
 -- afterwards.
-abbrev pub EndRows : Limits → ℤ → List ℕ → List IimAuditRow → (InHand → Type 0) → InHand → Type 0
-EndRows limits now octets rows said hand = (last : InHand) × AreRows limits now hand octets rows last × said last
+abbrev pub CompleteRowsThen : Limits → ℤ → List ℕ → List IimAuditRow → (CurrentEnvelope → Type 0) → CurrentEnvelope → Type 0
+CompleteRowsThen limits now octets rows said hand = (last : CurrentEnvelope) × AreRowsOfEnvelopes limits now hand octets rows last × said last
 
 -- The chunk completes the envelopes of the rows, and its remaining octets begin one more.
-abbrev pub UsesAll : Limits → ℤ → List ℕ → Outcome → InHand → Type 0
-UsesAll limits now piece o hand = (used : ℕ) × (used ≤ length piece)
-    × EndRows limits now (take used piece) o.rows (λ last. GoesOn limits (with_more last (drop used piece)) o.next o.kept) hand
+abbrev pub ConsumesAll : Limits → ℤ → List ℕ → ChunkOutcome → CurrentEnvelope → Type 0
+ConsumesAll limits now piece o hand = (used : ℕ) × (used ≤ length piece)
+    × CompleteRowsThen limits now (take used piece) o.rows (λ last. CanContinueAfter limits (with_more last (drop used piece)) o.next o.kept) hand
 
 -- The first `used` octets complete exactly these envelopes.
-abbrev pub UsesSome : Limits → ℤ → List ℕ → ℕ → Outcome → InHand → Type 0
-UsesSome limits now piece used o = EndRows limits now (take used piece) o.rows (λ last. GoesOn limits last o.next o.kept)
+abbrev pub ConsumesSome : Limits → ℤ → List ℕ → ℕ → ChunkOutcome → CurrentEnvelope → Type 0
+ConsumesSome limits now piece used o = CompleteRowsThen limits now (take used piece) o.rows (λ last. CanContinueAfter limits last o.next o.kept)
 
 -- An octet after these envelopes is rejected.
-abbrev pub RefusesOne : Limits → ℤ → List ℕ → ℕ → Refusal → Outcome → InHand → Type 0
-RefusesOne limits now piece used e o =
-    EndRows limits now (take used piece) o.rows (λ last. Refuses limits last.octets last.count (drop used piece) e × (o.kept ≡ begins_at last.at))
+abbrev pub RejectsAfterRows : Limits → ℤ → List ℕ → ℕ → Refusal → ChunkOutcome → CurrentEnvelope → Type 0
+RejectsAfterRows limits now piece used e o =
+    CompleteRowsThen limits now (take used piece) o.rows (λ last. RejectsChunk limits last.octets last.count (drop used piece) e × (o.kept ≡ state_at_start last.at))
 
 -- ---- the result for a chunk
 
 -- Some octets have reached the ticket's state, and they are a viable prefix. `said` holds of all
 -- such octets whose words are as counted in `so_far`.
-abbrev pub IsSaidOf : Limits → List ℕ → IimSoFar → (InHand → Type 0) → Type 0
-IsSaidOf limits ticket so_far said =
-    IsSaid limits ticket so_far.octets
-    (λ p a. HaveWords p (words_so_far ticket so_far) → said (record { at = so_far.at; octets = p; count = a })) (λ p a. ⊥)
+abbrev pub HoldsForAudit : Limits → List ℕ → IimSoFar → (CurrentEnvelope → Type 0) → Type 0
+HoldsForAudit limits ticket so_far said =
+    HoldsForTicket limits ticket so_far.octets
+    (λ p a. WordsAreCounted p (words_so_far ticket so_far) → said (record { at = so_far.at; octets = p; count = a })) (λ p a. ⊥)
 
 -- the answer after which the audit continues
-abbrev pub answer_with : (state used : ℕ) → Outcome → IimAnswer
-answer_with state used o = record (status_answer state) { octet = o.kept.octets; used = used; written = length o.rows; ticket = length o.next }
+abbrev pub continuing_answer : (state used : ℕ) → ChunkOutcome → IimAnswer
+continuing_answer state used o = record (status_answer state) { octet = o.kept.octets; used = used; written = length o.rows; ticket = length o.next }
 
 -- The result for a chunk, with an array of the capacity `room`: the whole chunk was consumed; or
 -- as much of it as gives `room` rows; or one of its octets is rejected.
-abbrev pub IsOutcome : Limits → ℤ → List ℕ → IimSoFar → List ℕ → ℕ → Outcome → Type 0
+abbrev pub IsOutcome : Limits → ℤ → List ℕ → IimSoFar → List ℕ → ℕ → ChunkOutcome → Type 0
 IsOutcome limits now ticket so_far piece room o =
-    (IsSaidOf limits ticket so_far (UsesAll limits now piece o) × (length o.rows < room) × (o.answer ≡ answer_with status.more (length piece) o))
-    ⊎ ((used : ℕ) × IsSaidOf limits ticket so_far (UsesSome limits now piece used o) × (used ≤ length piece) × (length o.rows ≡ room)
-    × (o.answer ≡ answer_with status.done used o))
-    ⊎ ((used : ℕ) × (e : Refusal) × IsSaidOf limits ticket so_far (RefusesOne limits now piece used e o) × (used ≤ length piece) × (length o.rows < room)
+    (HoldsForAudit limits ticket so_far (ConsumesAll limits now piece o) × (length o.rows < room) × (o.answer ≡ continuing_answer status.more (length piece) o))
+    ⊎ ((used : ℕ) × HoldsForAudit limits ticket so_far (ConsumesSome limits now piece used o) × (used ≤ length piece) × (length o.rows ≡ room)
+    × (o.answer ≡ continuing_answer status.done used o))
+    ⊎ ((used : ℕ) × (e : Refusal) × HoldsForAudit limits ticket so_far (RejectsAfterRows limits now piece used e o) × (used ≤ length piece) × (length o.rows < room)
     × (o.next ≡ []) × (o.answer ≡ record (refusal_answer status.refused e) { used = used; written = length o.rows }))
 
 -- ---- the answer
@@ -142,24 +142,24 @@ IsOutcome limits now ticket so_far piece room o =
 -- The rows are at the front of the array, and its other entries are unchanged. Either the ticket
 -- fits and is in its buffer, and the state is written; or it does not fit, and the state is
 -- unchanged.
-abbrev pub IsAnswered : Outcome → List IimAuditRow → List IimAuditRow → List ℕ → IimSoFar → IimSoFar → IimAnswer → Type 0
+abbrev pub IsAnswered : ChunkOutcome → List IimAuditRow → List IimAuditRow → List ℕ → IimSoFar → IimSoFar → IimAnswer → Type 0
 IsAnswered o array array_new ticket_out old new told = (array_new ≡ o.rows ++ drop (length o.rows) array)
-    × ((HoldsFirst ticket_out o.next × (new ≡ o.kept) × (told ≡ o.answer))
+    × ((BeginsWith ticket_out o.next × (new ≡ o.kept) × (told ≡ o.answer))
     ⊎ ((length ticket_out < length o.next) × (new ≡ old) × (told ≡ short_answer (length o.rows) (length o.next))))
 
 -- The chunk is audited at an instant, from the state of the ticket on, and its result is the
 -- answer. A buffer of the length that the limits allow is never too short. Or the call cannot
 -- continue: the envelope of the ticket is complete, or the ticket is rejected, or the allocation
 -- fails. Then no row is written.
-abbrev pub IsAuditedAt : Limits → List ℕ → IimSoFar → List ℕ → ℤ → List IimAuditRow → List IimAuditRow → List ℕ → IimSoFar → IimAnswer → Type 0
-IsAuditedAt limits ticket old piece now array array_new ticket_out new told =
-    ((o : Outcome) × IsOutcome limits now ticket old piece (length array) o × (length o.next ≤ most_of_ticket limits)
+abbrev pub ReturnsAuditedAt : Limits → List ℕ → IimSoFar → List ℕ → ℤ → List IimAuditRow → List IimAuditRow → List ℕ → IimSoFar → IimAnswer → Type 0
+ReturnsAuditedAt limits ticket old piece now array array_new ticket_out new told =
+    ((o : ChunkOutcome) × IsOutcome limits now ticket old piece (length array) o × (length o.next ≤ max_ticket_octets limits)
     × IsAnswered o array array_new ticket_out old new told)
-    ⊎ (IsSaid limits ticket old.octets (λ p a. ⊥) (λ p a. ⊤) × (array_new ≡ array) × (new ≡ old) × (told ≡ status_answer status.bad_ticket))
-    ⊎ (IsNowhere limits ticket told × (array_new ≡ array) × (new ≡ old))
+    ⊎ (HoldsForTicket limits ticket old.octets (λ p a. ⊥) (λ p a. ⊤) × (array_new ≡ array) × (new ≡ old) × (told ≡ status_answer status.bad_ticket))
+    ⊎ (HasNoState limits ticket told × (array_new ≡ array) × (new ≡ old))
 
 -- The instant is invalid, and nothing is changed.
-pub record IsNoInstant (now : IimInstant) (array array_new : List IimAuditRow) (old new : IimSoFar) (told : IimAnswer) : Type 0 where
+pub record IsInvalidInstant (now : IimInstant) (array array_new : List IimAuditRow) (old new : IimSoFar) (told : IimAnswer) : Type 0 where
   pub none : IsInstant now → ⊥
   pub array_is : array_new ≡ array
   pub keeps : new ≡ old
@@ -168,5 +168,5 @@ pub record IsNoInstant (now : IimInstant) (array array_new : List IimAuditRow) (
 -- The chunk is audited at the given instant, or that is invalid.
 abbrev pub IsAudited : Limits → List ℕ → IimSoFar → List ℕ → IimInstant → List IimAuditRow → List IimAuditRow → List ℕ → IimSoFar → IimAnswer → Type 0
 IsAudited limits ticket old piece now array array_new ticket_out new told =
-    ((nanosecond : ℤ) × IsToldAs now nanosecond × IsAuditedAt limits ticket old piece nanosecond array array_new ticket_out new told)
-    ⊎ IsNoInstant now array array_new old new told
+    ((nanosecond : ℤ) × IsInstantAt now nanosecond × ReturnsAuditedAt limits ticket old piece nanosecond array array_new ticket_out new told)
+    ⊎ IsInvalidInstant now array array_new old new told

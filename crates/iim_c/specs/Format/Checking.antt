@@ -21,9 +21,9 @@ answer_for (Refused e) = refusal_answer status.refused e
 answer_for (Truncated e) = refusal_answer status.truncated e
 
 -- The answer is that of the stream; or an allocation failed.
-abbrev pub IsChecked : Limits → List ℕ → IimAnswer → Type 0
-IsChecked limits octets told = ((answer : Answer) × Answers limits octets answer × (told ≡ answer_for answer)) ⊎ (told ≡ status_answer status.no_memory)
+abbrev pub ReturnsChecked : Limits → List ℕ → IimAnswer → Type 0
+ReturnsChecked limits octets told = ((answer : Answer) × Answers limits octets answer × (told ≡ answer_for answer)) ⊎ (told ≡ status_answer status.no_memory)
 
 -- The octets have no other answer.
-abbrev pub IsOnly : Limits → List ℕ → IimAnswer → Type 0
-IsOnly limits octets told = (answer : Answer) → Answers limits octets answer → (told ≡ answer_for answer) ⊎ (told ≡ status_answer status.no_memory)
+abbrev pub IsOnlyAnswer : Limits → List ℕ → IimAnswer → Type 0
+IsOnlyAnswer limits octets told = (answer : Answer) → Answers limits octets answer → (told ≡ answer_for answer) ⊎ (told ≡ status_answer status.no_memory)

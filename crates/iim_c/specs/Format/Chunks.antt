@@ -1,7 +1,7 @@
 -- What feeding a chunk to an unpacker comes to, if the text goes to a buffer.
 use Rattle.std.specs.Prelude.{◌≡◌, ℕ, List, length, ◌≢◌, map}
 use Rattle.iim_places.specs.declared.refusal.{Refusal.Refusal, Cause.TheVariants.Message}
-use Rattle.iim_unpack.specs.States.Unpacking.{Unpacking, Stands, limits_in, Progresses, IsRefusedIn}
+use Rattle.iim_unpack.specs.States.Unpacking.{Unpacking, HasRead, limits_in, Progresses, IsRefusedIn}
 use Rattle.iim_unpack.specs.declared.unpacker.Progress.{Progress, TheVariants.More, TheVariants.Done}
 use Rattle.iim_c.specs.Format.Answers.{HasTaken}
 use Rattle.iim_c.specs.Format.Statuses as status
@@ -12,16 +12,16 @@ use Rattle.wire_message.specs.declared.fault.MessageCause.TheVariants.{Sink}
 pub record HasFedText (u v : Unpacking) (piece out : List ℕ) (count : ℕ) (progress : Progress) : Type 0 where
   pub more : List StoryEvent
   pub taken : HasTaken out count (map octet_for more)
-  pub goes : (p : List ℕ) (n : ℕ) → Stands u p n → Progresses v p n piece more progress
+  pub goes : (p : List ℕ) (n : ℕ) → HasRead u p n → Progresses v p n piece more progress
 
 -- An octet of the chunk was rejected.
 pub record HasRefusedText (u : Unpacking) (piece out : List ℕ) (count : ℕ) (e : Refusal) : Type 0 where
   pub more : List StoryEvent
   pub taken : HasTaken out count (map octet_for more)
-  pub refuses : (p : List ℕ) (n : ℕ) → Stands u p n → IsRefusedIn (limits_in u) p n piece more e
+  pub refuses : (p : List ℕ) (n : ℕ) → HasRead u p n → IsRefusedIn (limits_in u) p n piece more e
   pub by_octets : e.cause ≢ Message Sink
 
 -- the status for progress, and the number of octets of the chunk that were consumed
-abbrev pub used_in : Progress → ℕ → ℕ × ℕ
-used_in More piece = (status.more, piece)
-used_in (Done used) piece = (status.done, used)
+abbrev pub progress_status : Progress → ℕ → ℕ × ℕ
+progress_status More piece = (status.more, piece)
+progress_status (Done used) piece = (status.done, used)

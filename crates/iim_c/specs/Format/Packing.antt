@@ -1,7 +1,7 @@
 -- The result of packing a script.
 use Rattle.std.specs.Prelude.{◌≡◌, ℕ, ◌<◌, ◌≤◌, ◌⊎◌, true, false, IsTrue, if◌then◌else◌, List, [], ◌++◌, length, drop, Some, None}
 use Rattle.iim_object.specs.{Format.Objects.is_plan, declared.size.Size.TheVariants.Unknown}
-use Rattle.iim_pack_script.specs.Format.{Asked, asked, IsFormOf, IsScriptRefusal, IsScriptOf, ScriptContent, refusal_line}
+use Rattle.iim_pack_script.specs.Format.{Asked, asked, IsRequestedForm, IsScriptRefusal, IsScriptOf, ScriptContent, refusal_line}
 use Rattle.iim_request.specs.Format.{default_subfile}
 use Rattle.iim_c.specs.{declared.packing.IimPacking.IimPacking, Format.Checking.given_or}
 use Rattle.iim_c.specs.Format.Answers.{status_answer, IimAnswer}
@@ -12,12 +12,12 @@ abbrev pub asked_for : IimPacking → Asked
 asked_for p = asked (given_or p.subfile default_subfile) p.unknown (if p.has_max then Some p.max else None)
 
 -- The options are invalid: a known size has a maximum, or no plan can have these numbers.
-abbrev pub AsksNothing : IimPacking → Type 0
-AsksNothing p = ((p.has_max ≡ true) × (p.unknown ≡ false)) ⊎ (IsTrue (is_plan (asked_for p).subfile (Unknown (asked_for p).max)) → ⊥)
+abbrev pub AreInvalidOptions : IimPacking → Type 0
+AreInvalidOptions p = ((p.has_max ≡ true) × (p.unknown ≡ false)) ⊎ (IsTrue (is_plan (asked_for p).subfile (Unknown (asked_for p).max)) → ⊥)
 
 -- The options are valid.
-abbrev pub AsksSomething : IimPacking → Type 0
-AsksSomething p = AsksNothing p → ⊥
+abbrev pub AreValidOptions : IimPacking → Type 0
+AreValidOptions p = AreInvalidOptions p → ⊥
 
 -- the packed form; or an invalid line and the cause; or the options are invalid; or an allocation
 -- failed
@@ -31,10 +31,10 @@ pub data PackOutcome : Type 0 where
 -- rejects them with this line and this cause, which it prints with a name. If the options are
 -- invalid, that is the only outcome, whatever the script is.
 abbrev pub IsPackOutcome : IimPacking → List ℕ → PackOutcome → Type 0
-IsPackOutcome p octets (Packed form) = AsksSomething p × ((t : ScriptContent) × IsScriptOf octets t × IsFormOf (asked_for p) t form)
-IsPackOutcome p octets (Refused line cause) = AsksSomething p × ((name : List ℕ) × IsScriptRefusal (asked_for p) octets (refusal_line line cause name))
-IsPackOutcome p octets BadPacking = AsksNothing p
-IsPackOutcome p octets NoMemory = AsksSomething p
+IsPackOutcome p octets (Packed form) = AreValidOptions p × ((t : ScriptContent) × IsScriptOf octets t × IsRequestedForm (asked_for p) t form)
+IsPackOutcome p octets (Refused line cause) = AreValidOptions p × ((name : List ℕ) × IsScriptRefusal (asked_for p) octets (refusal_line line cause name))
+IsPackOutcome p octets BadPacking = AreInvalidOptions p
+IsPackOutcome p octets NoMemory = AreValidOptions p
 
 -- the answer for an outcome
 abbrev pub pack_answer : PackOutcome → IimAnswer
@@ -49,12 +49,12 @@ form_of (Packed form) = form
 form_of _ = []
 
 -- The answer has the length of the packed form, or the reason why there is no packed form.
-abbrev pub IsSized : IimPacking → List ℕ → IimAnswer → Type 0
-IsSized p octets told = (o : PackOutcome) × IsPackOutcome p octets o × (told ≡ pack_answer o)
+abbrev pub ReturnsPackedSize : IimPacking → List ℕ → IimAnswer → Type 0
+ReturnsPackedSize p octets told = (o : PackOutcome) × IsPackOutcome p octets o × (told ≡ pack_answer o)
 
 -- The packed form is at the front of the buffer, and the rest is unchanged; or it does not fit,
 -- and the whole buffer is unchanged.
-abbrev pub IsPacked : IimPacking → List ℕ → List ℕ → List ℕ → IimAnswer → Type 0
-IsPacked p octets old new told = (o : PackOutcome) × IsPackOutcome p octets o
+abbrev pub ReturnsPacked : IimPacking → List ℕ → List ℕ → List ℕ → IimAnswer → Type 0
+ReturnsPacked p octets old new told = (o : PackOutcome) × IsPackOutcome p octets o
     × (((length (form_of o) ≤ length old) × (new ≡ form_of o ++ drop (length (form_of o)) old) × (told ≡ pack_answer o))
     ⊎ ((length old < length (form_of o)) × (new ≡ old) × (told ≡ record (status_answer status.short) { written = length (form_of o) })))

@@ -6,7 +6,7 @@ use Rattle.iim_places.specs.Format.Causes.{cause_name, cause_number, layer_name}
 use Rattle.iim_places.specs.declared.refusal.{Cause.Cause, Layer.Layer}
 use Rattle.iim_script.specs.Format.Causes as script_words
 use Rattle.iim_c.specs.Format.Answers.{layer_number}
-use Rattle.iim_places.specs.Format.Faults.{ticket_number, ticket_name}
+use Rattle.iim_places.specs.Format.Faults.{ticket_fault_number, ticket_fault_name}
 use Rattle.iim_c.specs.declared.{rule.IimRule.IimRule, instant.IimInstant.IimInstant}
 use Rattle.jiff.specs.Words.{IsTimestampNanos}
 use Rattle.iim_tables.specs.Format.Dates.{nanoseconds_in_second}
@@ -57,24 +57,24 @@ rule_for None = record { min = 0; max = 0; kind = 0; duty = 0; repeats = false }
 -- ---- The names and the meanings of causes, by their numbers.
 
 -- a cause: its number, its name and its meaning
-pub record CauseTold : Type 0 where
+pub record CauseEntry : Type 0 where
   pub number : ℕ
   pub name : List ℕ
   pub text : List ℕ
 
-abbrev pub told : ℕ → List ℕ → List ℕ → CauseTold
+abbrev pub told : ℕ → List ℕ → List ℕ → CauseEntry
 told number name text = record { number = number; name = name; text = text }
 
 -- a cause in octets, and one in a script
-abbrev pub of_octets : Cause → List ℕ → CauseTold
+abbrev pub of_octets : Cause → List ℕ → CauseEntry
 of_octets cause text = told (cause_number cause) (cause_name cause) text
 
-abbrev pub of_script : ScriptCause → List ℕ → CauseTold
-of_script cause text = told (script_words.cause_number cause) (script_words.cause_name cause) text
+abbrev pub of_script : ScriptCause → List ℕ → CauseEntry
+of_script cause text = told (script_words.script_cause_number cause) (script_words.script_cause_name cause) text
 
 -- the causes in octets, in memory and readers, in packing, in audits, in scripts and in tickets
-unfoldable pub causes_told : List CauseTold
-causes_told =
+unfoldable pub cause_table : List CauseEntry
+cause_table =
     of_octets octets.Marker (codes "a tag doesn't begin with 1C")
     ∷ of_octets octets.CountForm (codes "octet 4 of a tag is above 80, or it is 80 and octet 5 is not 1 to 8")
     ∷ of_octets octets.Truncated (codes "the input ends inside an envelope; the octet is how many there were")
@@ -112,21 +112,21 @@ causes_told =
     ∷ told 90 (codes "TooManyEnvelopes") (codes "an input has more than 1,000,000 envelopes; the command prints `too many envelopes`")
     ∷ of_script script.ScriptLine (codes "a line has no form that may stand there, or a line is missing")
     ∷ of_script script.ScriptTooLong (codes "the script has more than 16,777,216 octets; it is told of line 0")
-    ∷ told (ticket_number tickets.TicketForm) (ticket_name tickets.TicketForm) (codes "the octets have not the form of a ticket")
-    ∷ told (ticket_number tickets.TicketVersion) (ticket_name tickets.TicketVersion) (codes "the ticket is of a version other than 1 and 2")
-    ∷ told (ticket_number tickets.Impossible) (ticket_name tickets.Impossible) (codes "no envelope can be at the place that the ticket tells; of version 1, none by the sizes of that version")
+    ∷ told (ticket_fault_number tickets.TicketForm) (ticket_fault_name tickets.TicketForm) (codes "the octets have not the form of a ticket")
+    ∷ told (ticket_fault_number tickets.TicketVersion) (ticket_fault_name tickets.TicketVersion) (codes "the ticket is of a version other than 1 and 2")
+    ∷ told (ticket_fault_number tickets.Impossible) (ticket_fault_name tickets.Impossible) (codes "no envelope can be at the place that the ticket tells; of version 1, none by the sizes of that version")
     ∷ []
 
 -- the first cause with this number
-unfoldable pub cause_told : ℕ → Option CauseTold
-cause_told number = find (λ cause. cause.number == number) causes_told
+unfoldable pub cause_entry : ℕ → Option CauseEntry
+cause_entry number = find (λ cause. cause.number == number) cause_table
 
 -- its name, and its meaning
-abbrev pub cause_named : ℕ → Option (List ℕ)
-cause_named number = option_map (λ cause. cause.name) (cause_told number)
+abbrev pub name_for_cause : ℕ → Option (List ℕ)
+name_for_cause number = option_map (λ cause. cause.name) (cause_entry number)
 
 abbrev pub cause_text : ℕ → Option (List ℕ)
-cause_text number = option_map (λ cause. cause.text) (cause_told number)
+cause_text number = option_map (λ cause. cause.text) (cause_entry number)
 
 -- ---- The names of layers and of datasets, by their numbers.
 
@@ -138,8 +138,8 @@ name_in names number = option_map layer_name (find (λ layer. layer_number layer
 unfoldable pub layer_names : List Layer
 layer_names = layers.Dataset ∷ layers.Record ∷ layers.Limits ∷ layers.Object ∷ layers.Message ∷ layers.Story ∷ layers.Outside ∷ []
 
-unfoldable pub layer_named : ℕ → Option (List ℕ)
-layer_named number = name_in layer_names number
+unfoldable pub name_of_layer : ℕ → Option (List ℕ)
+name_of_layer number = name_in layer_names number
 
 -- a dataset and its name
 pub record NamedDataset : Type 0 where
@@ -205,8 +205,8 @@ dataset_names =
     ∷ entry 9 10 (codes "Confirmed ObjectData Size")
     ∷ []
 
-unfoldable pub dataset_named : ℕ → ℕ → Option (List ℕ)
-dataset_named rec set = option_map (λ e. e.name) (find (is_for rec set) dataset_names)
+unfoldable pub dataset_name_of : ℕ → ℕ → Option (List ℕ)
+dataset_name_of rec set = option_map (λ e. e.name) (find (is_for rec set) dataset_names)
 
 -- the name, or no octets
 abbrev pub name_or_none : Option (List ℕ) → List ℕ
@@ -215,8 +215,8 @@ name_or_none None = []
 
 -- The name and a NUL are at the front of the buffer, and the rest is unchanged; or they do not
 -- fit, and the whole buffer is unchanged. The count is the length of the name.
-abbrev pub IsNamed : List ℕ → List ℕ → List ℕ → ℕ → Type 0
-IsNamed name old new count = (count ≡ length name)
+abbrev pub WritesName : List ℕ → List ℕ → List ℕ → ℕ → Type 0
+WritesName name old new count = (count ≡ length name)
     × (((length name < length old) × (new ≡ (name ++ 0 ∷ []) ++ drop (length name + 1) old)) ⊎ ((length old ≤ length name) × (new ≡ old)))
 
 -- the nanoseconds from 1970-01-01T00:00:00Z to an instant
@@ -228,10 +228,10 @@ abbrev pub IsInstant : IimInstant → Type 0
 IsInstant instant = (instant.nanosecond < nanoseconds_in_second) × IsTimestampNanos (nanoseconds_to instant)
 
 -- The instant is valid, and is this many nanoseconds after 1970-01-01T00:00:00Z.
-abbrev pub IsToldAs : IimInstant → ℤ → Type 0
-IsToldAs instant nanosecond = IsInstant instant × (nanosecond ≡ nanoseconds_to instant)
+abbrev pub IsInstantAt : IimInstant → ℤ → Type 0
+IsInstantAt instant nanosecond = IsInstant instant × (nanosecond ≡ nanoseconds_to instant)
 
 -- The instant is present, with its seconds rounded down; or it is absent, and its numbers are 0.
-abbrev pub TellsInstant : Option ℤ → Bool → IimInstant → Type 0
-TellsInstant (Some nanosecond) has instant = (has ≡ true) × (instant.nanosecond < nanoseconds_in_second) × (nanoseconds_to instant ≡ nanosecond)
-TellsInstant None has instant = (has ≡ false) × (instant ≡ record { second = pos 0; nanosecond = 0 })
+abbrev pub IsOptionalInstant : Option ℤ → Bool → IimInstant → Type 0
+IsOptionalInstant (Some nanosecond) has instant = (has ≡ true) × (instant.nanosecond < nanoseconds_in_second) × (nanoseconds_to instant ≡ nanosecond)
+IsOptionalInstant None has instant = (has ≡ false) × (instant ≡ record { second = pos 0; nanosecond = 0 })

@@ -2,26 +2,26 @@
 -- come next.
 use Rattle.std.specs.Prelude.{◌≡◌, ℕ, ◌+◌, ◌≤◌, ◌⊎◌, Bool, false, List, [], ◌∷◌, length, get_or, take, drop, None, is_some, ◌≢◌, ◌-◌, ◌==◌, if◌then◌else◌, ◌++◌, ◌<◌, ◌/◌, ◌%◌, ◌↔◌, replicate, ⊤, nat_le}
 use Rattle.std.specs.{Option.unwrap_or, Int.bit_at}
-use Rattle.iim_dataset.specs.Format.Datasets.{Dataset, SpellsTag, count_octets, head_of, Begun, InTag, InData, Reads}
-use Rattle.iim_places.specs.Format.TicketForm.{Split, SplitsTicket, IsFaultOf}
-use Rattle.iim_places.specs.Format.Causes.{Token, AtOctet, AtHead, AtValue, begun_record, begun_number}
-use Rattle.iim_places.specs.Format.Tickets.{Phase, TagBegun, DataBegun, AllEnded}
-use Rattle.iim_places.specs.{Format.Open.RefusesNext, Format.Open.IsOpen, Format.Admitted.Value}
-use Rattle.iim_places.specs.{Format.Streams.IsEnvelopeWithin, Format.Streams.Kills, States.Restored.IsRestoreFault}
+use Rattle.iim_dataset.specs.Format.Datasets.{Dataset, EncodesTag, count_octets, head_of, PartialDataset, InTag, InData, ReadsAsDatasets}
+use Rattle.iim_places.specs.Format.TicketForm.{Contents, HasContents, IsTicketFormFault}
+use Rattle.iim_places.specs.Format.Causes.{Token, AtOctet, AtHead, AtValue, partial_record, partial_number}
+use Rattle.iim_places.specs.Format.Tickets.{Phase, PartialTag, PartialData, AllEnded}
+use Rattle.iim_places.specs.{Format.Open.RefusesNext, Format.Open.IsIncomplete, Format.Admitted.Value}
+use Rattle.iim_places.specs.{Format.Streams.IsEnvelopeWithin, Format.Streams.RefusesOctet, States.Restored.IsRestoreFault}
 use Rattle.iim_places.specs.declared.{ticket.fault.TicketFault.TicketFault, fault.TokenFault.TokenFault}
-use Rattle.iim_c.specs.Format.{Answers.status_answer, Answers.ticket_answer, Answers.IimAnswer, Feeding.IsSaid}
+use Rattle.iim_c.specs.Format.{Answers.status_answer, Answers.ticket_answer, Answers.IimAnswer, Feeding.HoldsForTicket}
 use Rattle.iim_c.specs.declared.{field.IimDataset.IimDataset, header.IimMessage.IimMessage, sizes.IimObject.IimObject}
 use Rattle.iim_c.specs.declared.{begun.IimBegun.IimBegun, so_far.IimSoFar.IimSoFar}
 use Rattle.iim_c.specs.Format.Statuses as status
 use Rattle.iim_fields.specs.{Format.Causes.section_after, declared.limits.Limits.Limits}
 use Rattle.wire_story.specs.Format.Texts.{WordsSoFar}
-use Rattle.iim_audit.specs.Format.{no_words}
+use Rattle.iim_audit.specs.Format.{no_words_counted}
 pub use Rattle.iim_c.specs.declared.span.IimSpan.{IimSpan}
 
 -- ---- slices of a ticket
 
 -- The slice of the ticket has these octets.
-pub record StandAt (ticket : List ℕ) (span : IimSpan) (octets : List ℕ) : Type 0 where
+pub record HasOctetsAt (ticket : List ℕ) (span : IimSpan) (octets : List ℕ) : Type 0 where
   pub within : span.offset + span.count ≤ length ticket
   pub octets_are : take span.count (drop span.offset ticket) ≡ octets
 
@@ -30,33 +30,33 @@ no_span = record { offset = 0; count = 0 }
 
 -- The octets are not a ticket, and the answer has the reason.
 abbrev pub IsNoTicket : List ℕ → IimAnswer → Type 0
-IsNoTicket ticket told = (fault : TicketFault) × IsFaultOf ticket fault × (told ≡ ticket_answer fault)
+IsNoTicket ticket told = (fault : TicketFault) × IsTicketFormFault ticket fault × (told ≡ ticket_answer fault)
 
 -- ---- datasets
 
 -- The dataset after the first n, and the slice of the ticket with its data.
-pub record IsFieldAt (ticket : List ℕ) (s : Split) (n : ℕ) (found : IimDataset) : Type 0 where
+pub record IsFieldAt (ticket : List ℕ) (s : Contents) (n : ℕ) (found : IimDataset) : Type 0 where
   pub field : Dataset
   pub after : List Dataset
   pub is_next : drop n s.fields ≡ field ∷ after
   pub rec_is : found.rec ≡ field.rec
   pub set_is : found.set ≡ field.set
-  pub stands : StandAt ticket found.data field.octets
+  pub stands : HasOctetsAt ticket found.data field.octets
 
 abbrev pub no_dataset : IimDataset
 no_dataset = record { rec = 0; set = 0; «data» = no_span }
 
 -- The ticket has more than n datasets, and this is the next one; or it has no more; or it is not a
 -- ticket.
-abbrev pub IsField : List ℕ → ℕ → IimDataset → IimAnswer → Type 0
-IsField ticket n found told =
-    ((s : Split) × SplitsTicket ticket s × IsFieldAt ticket s n found × (told ≡ status_answer status.done))
-    ⊎ ((s : Split) × SplitsTicket ticket s × (length s.fields ≤ n) × (found ≡ no_dataset) × (told ≡ status_answer status.none))
+abbrev pub ReturnsField : List ℕ → ℕ → IimDataset → IimAnswer → Type 0
+ReturnsField ticket n found told =
+    ((s : Contents) × HasContents ticket s × IsFieldAt ticket s n found × (told ≡ status_answer status.done))
+    ⊎ ((s : Contents) × HasContents ticket s × (length s.fields ≤ n) × (found ≡ no_dataset) × (told ≡ status_answer status.none))
     ⊎ (IsNoTicket ticket told × (found ≡ no_dataset))
 
 -- The array begins with the first `count` datasets after the first `from`, as many as fit; its
 -- other entries are unchanged.
-pub record ArrayHasFields (ticket : List ℕ) (s : Split) (from count : ℕ) (old new : List IimDataset) : Type 0 where
+pub record ArrayHasFields (ticket : List ℕ) (s : Contents) (from count : ℕ) (old new : List IimDataset) : Type 0 where
   pub each : (k : ℕ) → k < count → k < length old → IsFieldAt ticket s (from + k) (get_or new k no_dataset)
   pub others : drop count new ≡ drop count old
 
@@ -68,21 +68,21 @@ fields_answer count room = record (status_answer (if nat_le count room then stat
 -- octets are not a ticket, and the array is unchanged.
 abbrev pub ReturnsFields : List ℕ → ℕ → List IimDataset → List IimDataset → IimAnswer → Type 0
 ReturnsFields ticket from old new told =
-    ((s : Split) × SplitsTicket ticket s × ArrayHasFields ticket s from (length s.fields - from) old new
+    ((s : Contents) × HasContents ticket s × ArrayHasFields ticket s from (length s.fields - from) old new
     × (told ≡ fields_answer (length s.fields - from) (length old)))
     ⊎ (IsNoTicket ticket told × (new ≡ old))
 
 -- ---- header and trailer
 
 -- The slice has the text with this index.
-abbrev pub TextStands : List ℕ → Split → ℕ → IimSpan → Type 0
-TextStands ticket s n span = StandAt ticket span (get_or s.texts n [])
+abbrev pub HasTextAt : List ℕ → Contents → ℕ → IimSpan → Type 0
+HasTextAt ticket s n span = HasOctetsAt ticket span (get_or s.texts n [])
 
 -- The part is this, and the slices of the message have its texts.
-abbrev pub IsMessageOf : List ℕ → Split → IimMessage → Type 0
+abbrev pub IsMessageOf : List ℕ → Contents → IimMessage → Type 0
 IsMessageOf ticket s m =
-    (m.part ≡ s.part) × TextStands ticket s 0 m.source × TextStands ticket s 1 m.number × TextStands ticket s 2 m.priority
-    × TextStands ticket s 3 m.category × TextStands ticket s 4 m.words × TextStands ticket s 5 m.info × TextStands ticket s 6 m.trailer
+    (m.part ≡ s.part) × HasTextAt ticket s 0 m.source × HasTextAt ticket s 1 m.number × HasTextAt ticket s 2 m.priority
+    × HasTextAt ticket s 3 m.category × HasTextAt ticket s 4 m.words × HasTextAt ticket s 5 m.info × HasTextAt ticket s 6 m.trailer
 
 abbrev pub no_message : IimMessage
 no_message = record {
@@ -97,17 +97,17 @@ no_message = record {
 }
 
 -- The ticket has this header and trailer; or it is not a ticket.
-abbrev pub IsHeader : List ℕ → IimMessage → IimAnswer → Type 0
-IsHeader ticket m told =
-    ((s : Split) × SplitsTicket ticket s × IsMessageOf ticket s m × (told ≡ status_answer status.done)) ⊎ (IsNoTicket ticket told × (m ≡ no_message))
+abbrev pub ReturnsHeader : List ℕ → IimMessage → IimAnswer → Type 0
+ReturnsHeader ticket m told =
+    ((s : Contents) × HasContents ticket s × IsMessageOf ticket s m × (told ≡ status_answer status.done)) ⊎ (IsNoTicket ticket told × (m ≡ no_message))
 
 -- ---- sizes
 
 -- The number with this index is this; or it was not received, and is 0.
-abbrev pub IsNumber : Split → ℕ → Bool → ℕ → Type 0
+abbrev pub IsNumber : Contents → ℕ → Bool → ℕ → Type 0
 IsNumber s n has number = (has ≡ is_some (get_or s.numbers n None)) × (number ≡ unwrap_or (get_or s.numbers n None) 0)
 
-abbrev pub IsObjectOf : Split → IimObject → Type 0
+abbrev pub IsObjectOf : Contents → IimObject → Type 0
 IsObjectOf s o =
     IsNumber s 0 o.has_mode o.mode × IsNumber s 1 o.has_subfile o.subfile × IsNumber s 2 o.has_announced o.announced
     × IsNumber s 3 o.has_maximum o.maximum × (o.subfiles ≡ s.heads) × (o.octets ≡ s.taken)
@@ -127,9 +127,9 @@ no_object = record {
 }
 
 -- The ticket has these sizes; or it is not a ticket.
-abbrev pub AreSizes : List ℕ → IimObject → IimAnswer → Type 0
-AreSizes ticket o told =
-    ((s : Split) × SplitsTicket ticket s × IsObjectOf s o × (told ≡ status_answer status.done)) ⊎ (IsNoTicket ticket told × (o ≡ no_object))
+abbrev pub ReturnsSizes : List ℕ → IimObject → IimAnswer → Type 0
+ReturnsSizes ticket o told =
+    ((s : Contents) × HasContents ticket s × IsObjectOf s o × (told ≡ status_answer status.done)) ⊎ (IsNoTicket ticket told × (o ≡ no_object))
 
 -- ---- the number of what is in progress
 
@@ -150,8 +150,8 @@ ended = 3
 
 -- the received octets of it that the ticket stores
 abbrev pub kept_of : Phase → List ℕ
-kept_of (TagBegun held) = held
-kept_of (DataBegun set count left taken) = taken
+kept_of (PartialTag held) = held
+kept_of (PartialData set count left taken) = taken
 kept_of AllEnded = []
 
 abbrev pub no_begun : IimBegun
@@ -176,7 +176,7 @@ no_begun = record {
 -- received of it. The token of the next octet begins there, too, except in a subfile, where each
 -- octet is checked as a token.
 abbrev pub begun_by : (at section : ℕ) → Phase → IimSpan → IimBegun
-begun_by at section (TagBegun held) span =
+begun_by at section (PartialTag held) span =
     record no_begun {
       kind = kind_of_tag held;
       rec = get_or held 1 0;
@@ -186,7 +186,7 @@ begun_by at section (TagBegun held) span =
       token = at - length held;
       octets = span;
     }
-begun_by at section (DataBegun set count left taken) span =
+begun_by at section (PartialData set count left taken) span =
     record no_begun {
       kind = in_data;
       rec = section;
@@ -202,42 +202,42 @@ begun_by at section AllEnded span = record no_begun { kind = ended; first = at; 
 
 -- the same with the record of the last head, and with the part of the message, its counter and its
 -- flag
-abbrev pub begun_of : ℕ → Split → IimSpan → IimBegun
+abbrev pub begun_of : ℕ → Contents → IimSpan → IimBegun
 begun_of at s span = record (begun_by at s.section s.phase span) { section = s.section; part = s.part; counter = s.counter; flag = s.flag }
 
-pub record IsBegunOf (ticket : List ℕ) (at : ℕ) (s : Split) (found : IimBegun) : Type 0 where
-  pub stand : StandAt ticket found.octets (kept_of s.phase)
+pub record IsProgressOf (ticket : List ℕ) (at : ℕ) (s : Contents) (found : IimBegun) : Type 0 where
+  pub stand : HasOctetsAt ticket found.octets (kept_of s.phase)
   pub is : found ≡ begun_of at s found.octets
 
 -- The ticket encodes this; or it is not a ticket.
-abbrev pub IsBegunTold : List ℕ → ℕ → IimBegun → IimAnswer → Type 0
-IsBegunTold ticket at found told =
-    ((s : Split) × SplitsTicket ticket s × IsBegunOf ticket at s found × (told ≡ status_answer status.done)) ⊎ (IsNoTicket ticket told × (found ≡ no_begun))
+abbrev pub ReturnsProgress : List ℕ → ℕ → IimBegun → IimAnswer → Type 0
+ReturnsProgress ticket at found told =
+    ((s : Contents) × HasContents ticket s × IsProgressOf ticket at s found × (told ≡ status_answer status.done)) ⊎ (IsNoTicket ticket told × (found ≡ no_begun))
 
 -- ---- what is in progress after octets that have reached the state
 
 -- How much of it was received, how much is remaining, and where it began, after `at` octets. The
 -- length of a partial tag is unknown, so the number of remaining octets is 0. The token of the
 -- next octet is a tag, a value or, in the object, that octet itself.
-abbrev pub TellsBegun : ℕ → Begun → IimBegun → Type 0
-TellsBegun at (InTag held) found =
-    (found.rec ≡ begun_record (InTag held)) × (found.set ≡ begun_number (InTag held)) × (found.came ≡ length held) × (found.left ≡ 0)
+abbrev pub IsInProgress : ℕ → PartialDataset → IimBegun → Type 0
+IsInProgress at (InTag held) found =
+    (found.rec ≡ partial_record (InTag held)) × (found.set ≡ partial_number (InTag held)) × (found.came ≡ length held) × (found.left ≡ 0)
     × (found.first ≡ at - length held) × (found.token ≡ at - length held)
-TellsBegun at (InData h taken) found =
+IsInProgress at (InData h taken) found =
     (found.rec ≡ h.rec) × (found.set ≡ h.set) × (found.came ≡ length taken) × (found.left ≡ h.count - length taken)
     × (found.first ≡ at - length taken) × (found.token ≡ (if h.rec == 8 then at else at - length taken))
 
 -- The last dataset is complete: it has record 9, and no other is in progress.
-abbrev pub HaveEnded : List Dataset → Begun → Type 0
-HaveEnded whole (InTag held) = section_after whole ≡ 9
-HaveEnded whole (InData h taken) = ⊥
+abbrev pub IsCompleteEnvelope : List Dataset → PartialDataset → Type 0
+IsCompleteEnvelope whole (InTag held) = section_after whole ≡ 9
+IsCompleteEnvelope whole (InData h taken) = ⊥
 
 -- After the octets so far this is in progress, or the envelope is complete.
-pub record TellsOctets (p : List ℕ) (at : ℕ) (found : IimBegun) : Type 0 where
+pub record HasProgressOf (p : List ℕ) (at : ℕ) (found : IimBegun) : Type 0 where
   pub whole : List Dataset
-  pub begun : Begun
-  pub reads : Reads count_octets p whole begun
-  pub tells : ((found.kind ≡ ended) × HaveEnded whole begun) ⊎ TellsBegun at begun found
+  pub begun : PartialDataset
+  pub reads : ReadsAsDatasets count_octets p whole begun
+  pub tells : ((found.kind ≡ ended) × IsCompleteEnvelope whole begun) ⊎ IsInProgress at begun found
 
 -- ---- the rejected token
 
@@ -247,13 +247,13 @@ pub record TellsOctets (p : List ℕ) (at : ℕ) (found : IimBegun) : Type 0 whe
 abbrev pub AreOctetsOf : Token → List ℕ → Type 0
 AreOctetsOf (AtOctet (InTag held) octet) xs = xs ≡ held ++ octet ∷ []
 AreOctetsOf (AtOctet (InData h taken) octet) xs = xs ≡ octet ∷ []
-AreOctetsOf (AtHead h) xs = SpellsTag count_octets h xs
-AreOctetsOf (AtValue d) xs = ((d.octets ≢ []) × (xs ≡ d.octets)) ⊎ ((d.octets ≡ []) × SpellsTag count_octets (head_of d) xs)
+AreOctetsOf (AtHead h) xs = EncodesTag count_octets h xs
+AreOctetsOf (AtValue d) xs = ((d.octets ≢ []) × (xs ≡ d.octets)) ⊎ ((d.octets ≡ []) × EncodesTag count_octets (head_of d) xs)
 
 -- Whichever octet is rejected next, by whichever layer: the octets from `token` up to it are those
 -- of the rejected token.
-abbrev pub TellsToken : List ℕ → ℕ → IimBegun → Type 0
-TellsToken p at found = (limits : Limits) (next : ℕ) (fault : TokenFault) → (refused : RefusesNext limits p next fault) → at ≡ length p
+abbrev pub HasTokenOf : List ℕ → ℕ → IimBegun → Type 0
+HasTokenOf p at found = (limits : Limits) (next : ℕ) (fault : TokenFault) → (refused : RefusesNext limits p next fault) → at ≡ length p
     → AreOctetsOf refused.token (drop found.token (p ++ next ∷ []))
 
 -- the bit of an octet in the 32 octets of a set: each has the bits of eight octets, the first of
@@ -266,38 +266,38 @@ abbrev pub no_octets : List ℕ
 no_octets = replicate 32 0
 
 -- With this next octet the envelope can continue or is complete.
-abbrev pub IsTaken : Limits → List ℕ → ℕ → Type 0
-IsTaken limits p next = IsOpen limits (p ++ next ∷ []) ⊎ ((value : Value) × IsEnvelopeWithin limits (p ++ next ∷ []) value)
+abbrev pub IsAccepted : Limits → List ℕ → ℕ → Type 0
+IsAccepted limits p next = IsIncomplete limits (p ++ next ∷ []) ⊎ ((value : Value) × IsEnvelopeWithin limits (p ++ next ∷ []) value)
 
 -- Its bit is set if and only if it is accepted, and is not set if and only if some layer rejects
 -- it.
-pub record TellsNext (limits : Limits) (p : List ℕ) (next bit : ℕ) : Type 0 where
-  pub taken : (bit ≡ 1) ↔ IsTaken limits p next
-  pub refused : (bit ≡ 0) ↔ ((fault : TokenFault) × Kills limits p next fault)
+pub record BitIsAcceptance (limits : Limits) (p : List ℕ) (next bit : ℕ) : Type 0 where
+  pub taken : (bit ≡ 1) ↔ IsAccepted limits p next
+  pub refused : (bit ≡ 0) ↔ ((fault : TokenFault) × RefusesOctet limits p next fault)
 
 -- All octets that have reached the ticket's state are a viable prefix, and the bits are those of
 -- the next octets.
-abbrev pub GoesOnBy : Limits → List ℕ → List ℕ → Type 0
-GoesOnBy limits ticket bits = IsSaid limits ticket 0 (λ p a. (next : ℕ) → next < 256 → TellsNext limits p next (bit_of bits next)) (λ p a. ⊥)
+abbrev pub BitsAreAccepted : Limits → List ℕ → List ℕ → Type 0
+BitsAreAccepted limits ticket bits = HoldsForTicket limits ticket 0 (λ p a. (next : ℕ) → next < 256 → BitIsAcceptance limits p next (bit_of bits next)) (λ p a. ⊥)
 
 -- All octets that have reached the ticket's state are an envelope.
-abbrev pub HasEndedThere : Limits → List ℕ → Type 0
-HasEndedThere limits ticket = IsSaid limits ticket 0 (λ p a. ⊥) (λ p a. ⊤)
+abbrev pub TicketIsComplete : Limits → List ℕ → Type 0
+TicketIsComplete limits ticket = HoldsForTicket limits ticket 0 (λ p a. ⊥) (λ p a. ⊤)
 
 -- the result: the octets that may come next; or the envelope is complete, and none may; or the
 -- ticket is rejected; or an allocation failed
-abbrev pub IsNext : Limits → List ℕ → List ℕ → IimAnswer → Type 0
-IsNext limits ticket bits told =
-    (GoesOnBy limits ticket bits × (told ≡ status_answer status.more))
-    ⊎ (HasEndedThere limits ticket × (bits ≡ no_octets) × (told ≡ status_answer status.done))
+abbrev pub ReturnsNext : Limits → List ℕ → List ℕ → IimAnswer → Type 0
+ReturnsNext limits ticket bits told =
+    (BitsAreAccepted limits ticket bits × (told ≡ status_answer status.more))
+    ⊎ (TicketIsComplete limits ticket × (bits ≡ no_octets) × (told ≡ status_answer status.done))
     ⊎ ((fault : TicketFault) × (ticket ≢ []) × IsRestoreFault limits ticket fault × (bits ≡ no_octets) × (told ≡ ticket_answer fault))
     ⊎ ((bits ≡ no_octets) × (told ≡ status_answer status.no_memory))
 
 -- the stored count of words: zero without a ticket
 abbrev pub words_so_far : List ℕ → IimSoFar → WordsSoFar
-words_so_far [] so_far = no_words
+words_so_far [] so_far = no_words_counted
 words_so_far (x ∷ xs) so_far = record { words = so_far.words; inside = so_far.inside }
 
 -- the state at the beginning of an envelope
-abbrev pub begins_at : ℕ → IimSoFar
-begins_at at = record { at = at; octets = 0; words = 0; inside = false }
+abbrev pub state_at_start : ℕ → IimSoFar
+state_at_start at = record { at = at; octets = 0; words = 0; inside = false }

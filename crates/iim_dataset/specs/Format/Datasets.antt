@@ -46,30 +46,30 @@ IsExtendedCount limit count high low more =
     (high ≡ extended) × (low ≡ length more) × (1 ≤ low) × (low ≤ limit) × Octets more × (number more ≡ count)
 
 -- The octets encode the count of a tag.
-abbrev pub SpellsCount : ℕ → ℕ → List ℕ → Type 0
-SpellsCount limit count (high ∷ low ∷ more) = IsStandardCount count high low more ⊎ IsExtendedCount limit count high low more
-SpellsCount limit count fewer = ⊥
+abbrev pub EncodesCount : ℕ → ℕ → List ℕ → Type 0
+EncodesCount limit count (high ∷ low ∷ more) = IsStandardCount count high low more ⊎ IsExtendedCount limit count high low more
+EncodesCount limit count fewer = ⊥
 
 -- A tag: the tag marker 1Ch, the record number, the dataset number and the count.
-pub record SpellsTag (limit : ℕ) (h : Head) (tag : List ℕ) : Type 0 where
+pub record EncodesTag (limit : ℕ) (h : Head) (tag : List ℕ) : Type 0 where
   pub rec : IsOctet h.rec
   pub set : IsOctet h.set
   pub count : List ℕ
-  pub is_count : SpellsCount limit h.count count
+  pub is_count : EncodesCount limit h.count count
   pub parts : tag ≡ tag_marker ∷ h.rec ∷ h.set ∷ count
 
 -- A dataset: its tag, and then as many octets of data as the tag counts.
-pub record SpellsDataset (limit : ℕ) (d : Dataset) (xs : List ℕ) : Type 0 where
+pub record EncodesDataset (limit : ℕ) (d : Dataset) (xs : List ℕ) : Type 0 where
   pub tag : List ℕ
-  pub is_tag : SpellsTag limit (head_of d) tag
+  pub is_tag : EncodesTag limit (head_of d) tag
   pub data_octets : Octets d.octets
   pub parts : xs ≡ tag ++ d.octets
 
 -- A stream: the encodings of the datasets, joined in order.
-abbrev pub SpellsStream : ℕ → List Dataset → List ℕ → Type 0
-SpellsStream limit [] xs = xs ≡ []
-SpellsStream limit (d ∷ ds) xs = (first : List ℕ) × (rest : List ℕ)
-    × SpellsDataset limit d first × SpellsStream limit ds rest × (xs ≡ first ++ rest)
+abbrev pub EncodesStream : ℕ → List Dataset → List ℕ → Type 0
+EncodesStream limit [] xs = xs ≡ []
+EncodesStream limit (d ∷ ds) xs = (first : List ℕ) × (rest : List ℕ)
+    × EncodesDataset limit d first × EncodesStream limit ds rest × (xs ≡ first ++ rest)
 
 -- ---- the canonical encoding
 
@@ -99,73 +99,73 @@ abbrev pub of_record : ℕ → List Dataset → List Dataset
 of_record r ds = filter (λ d. d.rec == r) ds
 
 -- a proper prefix of the encoding of one dataset
-pub record IsPart (limit : ℕ) (xs : List ℕ) : Type 0 where
+pub record IsPartialDataset (limit : ℕ) (xs : List ℕ) : Type 0 where
   pub begun : Dataset
   pub octets : List ℕ
-  pub spelled : SpellsDataset limit begun octets
+  pub spelled : EncodesDataset limit begun octets
   pub is_part : IsProperPrefix xs octets
 
 -- The octets so far split into complete datasets and a rest that is less than a complete one.
 pub record SplitsInto (limit : ℕ) (xs : List ℕ) (whole : List Dataset) (rest : List ℕ) : Type 0 where
   pub front : List ℕ
-  pub is_front : SpellsStream limit whole front
-  pub is_rest : IsPart limit rest
+  pub is_front : EncodesStream limit whole front
+  pub is_rest : IsPartialDataset limit rest
   pub parts : xs ≡ front ++ rest
 
 -- A partial dataset: octets of its tag (none between datasets), or its head with less than all of
 -- its data.
-pub data Begun : Type 0 where
-  InTag : List ℕ → Begun
-  InData : Head → List ℕ → Begun
+pub data PartialDataset : Type 0 where
+  InTag : List ℕ → PartialDataset
+  InData : Head → List ℕ → PartialDataset
 
 -- The octets are those of the partial dataset.
-abbrev pub IsBegun : ℕ → Begun → List ℕ → Type 0
-IsBegun limit (InTag held) xs = (xs ≡ held) × (h : Head) × (tag : List ℕ) × SpellsTag limit h tag × IsProperPrefix held tag
-IsBegun limit (InData h taken) xs = (tag : List ℕ) × SpellsTag limit h tag × (length taken < h.count) × Octets taken × (xs ≡ tag ++ taken)
+abbrev pub EncodesPartial : ℕ → PartialDataset → List ℕ → Type 0
+EncodesPartial limit (InTag held) xs = (xs ≡ held) × (h : Head) × (tag : List ℕ) × EncodesTag limit h tag × IsProperPrefix held tag
+EncodesPartial limit (InData h taken) xs = (tag : List ℕ) × EncodesTag limit h tag × (length taken < h.count) × Octets taken × (xs ≡ tag ++ taken)
 
 -- The octets so far are these complete datasets and this partial one.
-pub record Reads (limit : ℕ) (xs : List ℕ) (whole : List Dataset) (begun : Begun) : Type 0 where
+pub record ReadsAsDatasets (limit : ℕ) (xs : List ℕ) (whole : List Dataset) (begun : PartialDataset) : Type 0 where
   pub front : List ℕ
   pub rest : List ℕ
-  pub is_front : SpellsStream limit whole front
-  pub is_rest : IsBegun limit begun rest
+  pub is_front : EncodesStream limit whole front
+  pub is_rest : EncodesPartial limit begun rest
   pub parts : xs ≡ front ++ rest
 
 -- The next octet completes the data of the head: it is the last of them, or the head has none and
 -- its tag ends there.
-abbrev pub CompletesData : List ℕ → ℕ → List Dataset → Head → List ℕ → Type 0
-CompletesData octets next whole head given =
-    ((taken : List ℕ) × Reads count_octets octets whole (InData head taken) × (given ≡ taken ++ next ∷ []) × (length given ≡ head.count))
-    ⊎ ((held : List ℕ) × Reads count_octets octets whole (InTag held) × SpellsTag count_octets head (held ++ next ∷ []) × (head.count ≡ 0) × (given ≡ []))
+abbrev pub CompletesTheData : List ℕ → ℕ → List Dataset → Head → List ℕ → Type 0
+CompletesTheData octets next whole head given =
+    ((taken : List ℕ) × ReadsAsDatasets count_octets octets whole (InData head taken) × (given ≡ taken ++ next ∷ []) × (length given ≡ head.count))
+    ⊎ ((held : List ℕ) × ReadsAsDatasets count_octets octets whole (InTag held) × EncodesTag count_octets head (held ++ next ∷ []) × (head.count ≡ 0) × (given ≡ []))
 
 -- The octets are a proper prefix of a tag.
 pub record BeginsTag (limit : ℕ) (octets : List ℕ) : Type 0 where
   pub head : Head
   pub more : List ℕ
   pub some_more : 0 < length more
-  pub whole : SpellsTag limit head (octets ++ more)
+  pub whole : EncodesTag limit head (octets ++ more)
 
 -- No tag begins with the octets.
 abbrev pub BeginsNoTag : ℕ → List ℕ → Type 0
-BeginsNoTag limit octets = (h : Head) (more : List ℕ) → SpellsTag limit h (octets ++ more) → ⊥
+BeginsNoTag limit octets = (h : Head) (more : List ℕ) → EncodesTag limit h (octets ++ more) → ⊥
 
 -- A wrong marker is the first octet of a tag, and a wrong count is the fourth octet or a later one.
-abbrev pub Concerns : HeadCause → ℕ → Type 0
-Concerns Marker at = at ≡ 0
-Concerns CountForm at = 3 ≤ at
+abbrev pub CauseOccursAt : HeadCause → ℕ → Type 0
+CauseOccursAt Marker at = at ≡ 0
+CauseOccursAt CountForm at = 3 ≤ at
 
 -- The first `used` octets are the tag of this head.
 pub record HasTag (octets : List ℕ) (head : Head) (used : ℕ) : Type 0 where
   pub some : 0 < used
   pub within : used ≤ length octets
-  pub tag : SpellsTag count_octets head (take used octets)
+  pub tag : EncodesTag count_octets head (take used octets)
 
 -- The octets before the one at `taken` begin a tag, and no tag begins with these and that one.
 pub record HasNoTag (octets : List ℕ) (fault : HeadFault) : Type 0 where
   pub within : fault.taken < length octets
   pub begun : BeginsTag count_octets (take fault.taken octets)
   pub dead : BeginsNoTag count_octets (take (fault.taken + 1) octets)
-  pub cause : Concerns fault.cause fault.taken
+  pub cause : CauseOccursAt fault.cause fault.taken
 
 -- the hexadecimal digit of a number below 16: 0 to 9, A to F
 abbrev pub hex_digit : ℕ → ℕ

@@ -4,25 +4,25 @@ use Rattle.iim_dataset.specs.declared.{fault.FaultCause.FaultCause, fault.Fault.
 use Rattle.iim_dataset.specs.declared.fault.FaultCause.TheVariants.{Marker, CountForm, Stopped}
 
 -- The number of a cause. Number 60 means that the sink stopped.
-abbrev pub cause_number : FaultCause → ℕ
-cause_number Marker = 1
-cause_number CountForm = 2
-cause_number Stopped = 60
+abbrev pub number_of_dataset_cause : FaultCause → ℕ
+number_of_dataset_cause Marker = 1
+number_of_dataset_cause CountForm = 2
+number_of_dataset_cause Stopped = 60
 
 -- The name of a cause.
-abbrev pub cause_name : FaultCause → List ℕ
-cause_name Marker = codes "Marker"
-cause_name CountForm = codes "CountForm"
-cause_name Stopped = codes "Sink"
+abbrev pub name_of_dataset_cause : FaultCause → List ℕ
+name_of_dataset_cause Marker = codes "Marker"
+name_of_dataset_cause CountForm = codes "CountForm"
+name_of_dataset_cause Stopped = codes "Sink"
 
 -- The number and the name of a cause, as they are printed.
-abbrev pub cause_text : FaultCause → List ℕ
-cause_text cause = decimal (cause_number cause) ++ (codes " " ++ cause_name cause)
+abbrev pub text_of_dataset_cause : FaultCause → List ℕ
+text_of_dataset_cause cause = decimal (number_of_dataset_cause cause) ++ (codes " " ++ name_of_dataset_cause cause)
 
 -- The number of octets before the rejected one, and the cause, as they are printed.
-abbrev pub fault_text : Fault → List ℕ
-fault_text fault = codes "refused after " ++ (decimal fault.used ++ (codes " octets, cause " ++ cause_text fault.cause))
+abbrev pub text_of_dataset_fault : Fault → List ℕ
+text_of_dataset_fault fault = codes "refused after " ++ (decimal fault.used ++ (codes " octets, cause " ++ text_of_dataset_cause fault.cause))
 
 -- The number of octets that a sink accepted before it stopped, as it is printed.
-abbrev pub stop_text : Stop → List ℕ
-stop_text stop = codes "stopped after " ++ (decimal stop.taken ++ codes " octets")
+abbrev pub text_of_stop : Stop → List ℕ
+text_of_stop stop = codes "stopped after " ++ (decimal stop.taken ++ codes " octets")

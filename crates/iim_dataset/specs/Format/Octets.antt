@@ -119,13 +119,13 @@ abbrev pub small_x : ℕ
 small_x = 0x78
 
 -- A counter rose by one. A stored counter that is at the greatest number of 64 bits may stay.
-abbrev pub Rose : ℕ → ℕ → Type 0
-Rose old new = (new ≡ old + 1) ⊎ ((2 ^ 64 ≤ new + 1) × (old ≤ new) × (new ≤ old + 1))
+abbrev pub CounterRose : ℕ → ℕ → Type 0
+CounterRose old new = (new ≡ old + 1) ⊎ ((2 ^ 64 ≤ new + 1) × (old ≤ new) × (new ≤ old + 1))
 
 -- A viable prefix: some continuation of the tokens is in the language.
-abbrev pub IsAlive : {T : Type 0} → (List T → Type 0) → List T → Type 0
-IsAlive {T} Language tokens = (rest : List T) × Language (tokens ++ rest)
+abbrev pub IsViablePrefix : {T : Type 0} → (List T → Type 0) → List T → Type 0
+IsViablePrefix {T} Language tokens = (rest : List T) × Language (tokens ++ rest)
 
 -- The tokens are a viable prefix, and with the next one they are not.
-abbrev pub DiesAt : {T : Type 0} → (List T → Type 0) → List T → T → Type 0
-DiesAt {T} Language tokens token = IsAlive Language tokens × (IsAlive Language (tokens ++ token ∷ []) → ⊥)
+abbrev pub EndsViablePrefix : {T : Type 0} → (List T → Type 0) → List T → T → Type 0
+EndsViablePrefix {T} Language tokens token = IsViablePrefix Language tokens × (IsViablePrefix Language (tokens ++ token ∷ []) → ⊥)

@@ -1,6 +1,6 @@
 -- The states of a reader of datasets, the events that it emits, and how it rejects octets.
 use Rattle.std.specs.Prelude.{ℕ, List, [], ◌∷◌, ◌++◌, map, flat_map, Option, Some, None, ◌≡◌, ◌+◌, ◌<◌, ◌≤◌, length, get_or, ◌⊎◌, take, slice_index, Bool, true, false}
-use Rattle.iim_dataset.specs.Format.Datasets.{Dataset, head_of, Head, Begun, InTag, InData, SpellsTag, count_octets, Reads, BeginsTag, BeginsNoTag, Concerns}
+use Rattle.iim_dataset.specs.Format.Datasets.{Dataset, head_of, Head, PartialDataset, InTag, InData, EncodesTag, count_octets, ReadsAsDatasets, BeginsTag, BeginsNoTag, CauseOccursAt}
 use Rattle.iim_dataset.specs.declared.fault.FaultCause.TheVariants.{Marker, CountForm, Stopped}
 use Rattle.iim_dataset.specs.declared.{head.HeadCause.HeadCause, sink.Step.Step, sink.Step.TheVariants.More}
 use Rattle.iim_dataset.specs.declared.{sink.Step.TheVariants.Last, fault.Fault.Fault, fault.FaultCause.FaultCause}
@@ -14,31 +14,31 @@ pub data DatasetEvent : Type 0 where
   DatasetEnd : DatasetEvent
 
 -- The events of a complete dataset: its head, its data and its end.
-abbrev pub events_of : Dataset → List DatasetEvent
-events_of d = HeadRead (head_of d) ∷ (map DataOctet d.octets ++ DatasetEnd ∷ [])
+abbrev pub events_of_dataset : Dataset → List DatasetEvent
+events_of_dataset d = HeadRead (head_of d) ∷ (map DataOctet d.octets ++ DatasetEnd ∷ [])
 
 -- The events of a partial dataset: none while its tag is incomplete, then its head and the data so
 -- far.
-abbrev pub begun_events : Begun → List DatasetEvent
-begun_events (InTag held) = []
-begun_events (InData h taken) = HeadRead h ∷ map DataOctet taken
+abbrev pub partial_events : PartialDataset → List DatasetEvent
+partial_events (InTag held) = []
+partial_events (InData h taken) = HeadRead h ∷ map DataOctet taken
 
 -- the head of the partial dataset and its data so far, once its tag is complete
-abbrev pub begun_data : Begun → Option (Head × List ℕ)
-begun_data (InTag held) = None
-begun_data (InData h taken) = Some (h, taken)
+abbrev pub partial_data : PartialDataset → Option (Head × List ℕ)
+partial_data (InTag held) = None
+partial_data (InData h taken) = Some (h, taken)
 
 -- The events of complete datasets and a partial one.
-abbrev pub handed_on : List Dataset → Begun → List DatasetEvent
-handed_on whole begun = flat_map events_of whole ++ begun_events begun
+abbrev pub emitted_events : List Dataset → PartialDataset → List DatasetEvent
+emitted_events whole begun = flat_map events_of_dataset whole ++ partial_events begun
 
 -- ---- The state of a reader in a stream of datasets.
 
 -- The buffered octets are a proper prefix of a tag; or at least one octet of data remains and no
 -- more than the head counts, and some tag encodes that head.
-abbrev pub IsPlace : DatasetPlace → Type 0
-IsPlace (Tag held) = BeginsTag count_octets held.items
-IsPlace (Inside h left) = (0 < left) × (left ≤ h.count) × (tag : List ℕ) × SpellsTag count_octets h tag
+abbrev pub IsDatasetState : DatasetPlace → Type 0
+IsDatasetState (Tag held) = BeginsTag count_octets held.items
+IsDatasetState (Inside h left) = (0 < left) × (left ≤ h.count) × (tag : List ℕ) × EncodesTag count_octets h tag
 
 -- between datasets
 abbrev pub between : DatasetPlace
@@ -50,40 +50,40 @@ to_come (Tag held) = None
 to_come (Inside h left) = Some left
 
 -- the record and the number that the octets of a tag encode, each 0 until it has been read
-abbrev pub named_by : DatasetPlace → ℕ × ℕ
-named_by (Tag held) = (get_or held.items 1 0, get_or held.items 2 0)
-named_by (Inside h left) = (h.rec, h.set)
+abbrev pub current_name : DatasetPlace → ℕ × ℕ
+current_name (Tag held) = (get_or held.items 1 0, get_or held.items 2 0)
+current_name (Inside h left) = (h.rec, h.set)
 
 -- The state stores the partial dataset: the octets of its tag, or its head and the number of octets
 -- of data that remain.
-abbrev pub IsKeptAs : DatasetPlace → Begun → Type 0
-IsKeptAs (Tag held) (InTag octets) = held.items ≡ octets
-IsKeptAs (Tag held) (InData head taken) = ⊥
-IsKeptAs (Inside h left) (InTag octets) = ⊥
-IsKeptAs (Inside h left) (InData head taken) = (h ≡ head) × (length taken + left ≡ head.count)
+abbrev pub StoresPartial : DatasetPlace → PartialDataset → Type 0
+StoresPartial (Tag held) (InTag octets) = held.items ≡ octets
+StoresPartial (Tag held) (InData head taken) = ⊥
+StoresPartial (Inside h left) (InTag octets) = ⊥
+StoresPartial (Inside h left) (InData head taken) = (h ≡ head) × (length taken + left ≡ head.count)
 
 -- The octets so far are complete datasets and this partial one, and these are their events.
-pub record HandsOn (limit : ℕ) (octets : List ℕ) (events : List DatasetEvent) (begun : Begun) : Type 0 where
+pub record EmitsEvents (limit : ℕ) (octets : List ℕ) (events : List DatasetEvent) (begun : PartialDataset) : Type 0 where
   pub whole : List Dataset
-  pub reads : Reads limit octets whole begun
-  pub handed : events ≡ handed_on whole begun
+  pub reads : ReadsAsDatasets limit octets whole begun
+  pub handed : events ≡ emitted_events whole begun
 
 -- The octets so far reach this state, and these are their events.
-pub record LeadsTo (limit : ℕ) (octets : List ℕ) (events : List DatasetEvent) (place : DatasetPlace) : Type 0 where
-  pub begun : Begun
-  pub hands : HandsOn limit octets events begun
-  pub keeps : IsKeptAs place begun
+pub record ReachesDatasetState (limit : ℕ) (octets : List ℕ) (events : List DatasetEvent) (place : DatasetPlace) : Type 0 where
+  pub begun : PartialDataset
+  pub hands : EmitsEvents limit octets events begun
+  pub keeps : StoresPartial place begun
 
 -- From the old state the octets reach the new one, and add these events, whatever octets came
 -- before.
-abbrev pub Brings : DatasetPlace → List ℕ → List DatasetEvent → DatasetPlace → Type 0
-Brings old xs more new = (octets : List ℕ) (events : List DatasetEvent) → LeadsTo count_octets octets events old → LeadsTo count_octets (octets ++ xs) (events ++ more) new
+abbrev pub AddsEvents : DatasetPlace → List ℕ → List DatasetEvent → DatasetPlace → Type 0
+AddsEvents old xs more new = (octets : List ℕ) (events : List DatasetEvent) → ReachesDatasetState count_octets octets events old → ReachesDatasetState count_octets (octets ++ xs) (events ++ more) new
 
 -- From the old state the octets reach the new one, and the sink received the events that they add.
-pub record TellsSink {D : Type 0} (goes : D → List DatasetEvent → D → Type 0) (old : DatasetPlace) (xs : List ℕ) (new : DatasetPlace) (a b : D) : Type 0 where
+pub record PassesToSink {D : Type 0} (goes : D → List DatasetEvent → D → Type 0) (old : DatasetPlace) (xs : List ℕ) (new : DatasetPlace) (a b : D) : Type 0 where
   pub more : List DatasetEvent
   pub told : goes a more b
-  pub brings : Brings old xs more new
+  pub brings : AddsEvents old xs more new
 
 -- ---- Rejected octets.
 
@@ -94,57 +94,57 @@ tag_cause_of CountForm = Some tags.CountForm
 tag_cause_of Stopped = None
 
 -- The state is in a tag, and no tag begins with its octets and the next one.
-pub record TagDies (place : DatasetPlace) (next : ℕ) (cause : HeadCause) : Type 0 where
+pub record TagIsRejected (place : DatasetPlace) (next : ℕ) (cause : HeadCause) : Type 0 where
   pub held : List ℕ
   pub tag : place ≡ Tag (record { items = held })
   pub dead : BeginsNoTag count_octets (held ++ next ∷ [])
-  pub concerns : Concerns cause (length held)
+  pub concerns : CauseOccursAt cause (length held)
 
 -- The next octet completes this event, after these: those that the octets completed, and any that
 -- the next one completes before this one. It may complete others after it.
-pub record Completes (octets : List ℕ) (next : ℕ) (events : List DatasetEvent) (event : DatasetEvent) : Type 0 where
+pub record CompletesDatasetEvent (octets : List ℕ) (next : ℕ) (events : List DatasetEvent) (event : DatasetEvent) : Type 0 where
   pub before : List DatasetEvent
-  pub begun : Begun
-  pub after : HandsOn count_octets octets before begun
+  pub begun : PartialDataset
+  pub after : EmitsEvents count_octets octets before begun
   pub since : List DatasetEvent
   pub parts : events ≡ before ++ since
   pub later : List DatasetEvent
-  pub next_begun : Begun
-  pub with_next : HandsOn count_octets (octets ++ next ∷ []) (events ++ event ∷ later) next_begun
+  pub next_begun : PartialDataset
+  pub with_next : EmitsEvents count_octets (octets ++ next ∷ []) (events ++ event ∷ later) next_begun
 
 -- The sink rejected an event that octet k of the chunk completes.
-pub record Stops {D : Type 0} (stops : D → List DatasetEvent → DatasetEvent → D → Type 0) (place : DatasetPlace) (piece : List ℕ) (k : ℕ) (a b : D) : Type 0 where
+pub record DatasetSinkStopsAt {D : Type 0} (stops : D → List DatasetEvent → DatasetEvent → D → Type 0) (place : DatasetPlace) (piece : List ℕ) (k : ℕ) (a b : D) : Type 0 where
   pub more : List DatasetEvent
   pub event : DatasetEvent
   pub stopped : stops a more event b
-  pub completes : (octets : List ℕ) (events : List DatasetEvent) → LeadsTo count_octets octets events place
-      → Completes (octets ++ take k piece) (slice_index piece k) (events ++ more) event
+  pub completes : (octets : List ℕ) (events : List DatasetEvent) → ReachesDatasetState count_octets octets events place
+      → CompletesDatasetEvent (octets ++ take k piece) (slice_index piece k) (events ++ more) event
 
 -- Octet k of the chunk is rejected: the octets before it reach a state in which no tag can continue
 -- with it, or the sink stopped, and then the new state is between datasets.
-abbrev pub RefusesFor : {D : Type 0} → (D → List DatasetEvent → D → Type 0) → (D → List DatasetEvent → DatasetEvent → D → Type 0) → Option HeadCause → DatasetPlace → List ℕ → ℕ → DatasetPlace → D → D → Type 0
-RefusesFor goes stops None old piece k new a b = Stops stops old piece k a b × (new ≡ between)
-RefusesFor goes stops (Some cause) old piece k new a b = TellsSink goes old (take k piece) new a b × TagDies new (slice_index piece k) cause
+abbrev pub RejectsDatasetsFor : {D : Type 0} → (D → List DatasetEvent → D → Type 0) → (D → List DatasetEvent → DatasetEvent → D → Type 0) → Option HeadCause → DatasetPlace → List ℕ → ℕ → DatasetPlace → D → D → Type 0
+RejectsDatasetsFor goes stops None old piece k new a b = DatasetSinkStopsAt stops old piece k a b × (new ≡ between)
+RejectsDatasetsFor goes stops (Some cause) old piece k new a b = PassesToSink goes old (take k piece) new a b × TagIsRejected new (slice_index piece k) cause
 
-abbrev pub Refuses : {D : Type 0} → (D → List DatasetEvent → D → Type 0) → (D → List DatasetEvent → DatasetEvent → D → Type 0) → DatasetPlace → List ℕ → Fault → DatasetPlace → D → D → Type 0
-Refuses goes stops old piece fault new a b = RefusesFor goes stops (tag_cause_of fault.cause) old piece fault.used new a b
+abbrev pub RejectsDatasetOctet : {D : Type 0} → (D → List DatasetEvent → D → Type 0) → (D → List DatasetEvent → DatasetEvent → D → Type 0) → DatasetPlace → List ℕ → Fault → DatasetPlace → D → D → Type 0
+RejectsDatasetOctet goes stops old piece fault new a b = RejectsDatasetsFor goes stops (tag_cause_of fault.cause) old piece fault.used new a b
 
 -- If no tag can continue with the rejected octet, the sink accepts what comes next: it has not
 -- ended.
-abbrev pub StillStands : {D : Type 0} → (D → Option ℕ → Type 0) → Option HeadCause → DatasetPlace → D → Type 0
-StillStands stands None place sink = Unit {0}
-StillStands stands (Some cause) place sink = stands sink (to_come place)
+abbrev pub SinkStillAccepts : {D : Type 0} → (D → Option ℕ → Type 0) → Option HeadCause → DatasetPlace → D → Type 0
+SinkStillAccepts stands None place sink = Unit {0}
+SinkStillAccepts stands (Some cause) place sink = stands sink (to_come place)
 
 -- ---- sinks
 
 -- After this return value at the end of a dataset, the sink accepts a head, or it has ended.
-abbrev pub AfterStep : {D : Type 0} → (D → Option ℕ → Type 0) → (D → Type 0) → D → Step → Type 0
-AfterStep stands ends sink More = stands sink None
-AfterStep stands ends sink Last = ends sink
+abbrev pub SinkIsAfterStep : {D : Type 0} → (D → Option ℕ → Type 0) → (D → Type 0) → D → Step → Type 0
+SinkIsAfterStep stands ends sink More = stands sink None
+SinkIsAfterStep stands ends sink Last = ends sink
 
 -- All of the octets were consumed, or the sink has ended after a complete dataset.
-abbrev pub TookAll : {D : Type 0} → (D → Option ℕ → Type 0) → (D → Type 0) → DatasetPlace → D → ℕ → ℕ → Type 0
-TookAll stands ends place sink all used = ((used ≡ all) × stands sink (to_come place)) ⊎ (ends sink × (place ≡ between))
+abbrev pub ConsumedAllOrEnded : {D : Type 0} → (D → Option ℕ → Type 0) → (D → Type 0) → DatasetPlace → D → ℕ → ℕ → Type 0
+ConsumedAllOrEnded stands ends place sink all used = ((used ≡ all) × stands sink (to_come place)) ⊎ (ends sink × (place ≡ between))
 
 -- ---- the reader
 
@@ -154,28 +154,28 @@ pub record Reader : Type 0 where
   pub failed : Bool
 
 -- No call returned an error.
-abbrev pub TakesCalls : Reader → Type 0
-TakesCalls reader = reader.failed ≡ false
+abbrev pub DatasetReaderAccepts : Reader → Type 0
+DatasetReaderAccepts reader = reader.failed ≡ false
 
-abbrev pub IsFailed : Reader → Type 0
-IsFailed reader = reader.failed ≡ true
+abbrev pub DatasetReaderFailed : Reader → Type 0
+DatasetReaderFailed reader = reader.failed ≡ true
 
 -- The octets so far reach the state of the reader, and these are their events.
-abbrev pub StandsAt : Reader → List ℕ → List DatasetEvent → Type 0
-StandsAt reader octets events = LeadsTo count_octets octets events reader.place
+abbrev pub DatasetReaderHasRead : Reader → List ℕ → List DatasetEvent → Type 0
+DatasetReaderHasRead reader octets events = ReachesDatasetState count_octets octets events reader.place
 
 -- All of the octets were consumed, or those up to the end of the last dataset. (State and sink,
 -- before and after.)
-pub record TakesPiece {D : Type 0} (goes : D → List DatasetEvent → D → Type 0) (stands : D → Option ℕ → Type 0) (ends : D → Type 0) (old : DatasetPlace × D) (octets : List ℕ) (new : DatasetPlace × D) (used : ℕ) : Type 0 where
-  pub is_place : IsPlace new.0
+pub record DatasetReaderConsumes {D : Type 0} (goes : D → List DatasetEvent → D → Type 0) (stands : D → Option ℕ → Type 0) (ends : D → Type 0) (old : DatasetPlace × D) (octets : List ℕ) (new : DatasetPlace × D) (used : ℕ) : Type 0 where
+  pub is_place : IsDatasetState new.0
   pub within : used ≤ length octets
-  pub told : TellsSink goes old.0 (take used octets) new.0 old.1 new.1
-  pub onward : TookAll stands ends new.0 new.1 (length octets) used
+  pub told : PassesToSink goes old.0 (take used octets) new.0 old.1 new.1
+  pub onward : ConsumedAllOrEnded stands ends new.0 new.1 (length octets) used
 
 -- One of the octets was rejected: no tag can continue with it, or the sink stopped at what it
 -- completes. (State and sink, before and after.)
-pub record RefusesOne {D : Type 0} (goes : D → List DatasetEvent → D → Type 0) (stops : D → List DatasetEvent → DatasetEvent → D → Type 0) (stands : D → Option ℕ → Type 0) (old : DatasetPlace × D) (octets : List ℕ) (fault : Fault) (new : DatasetPlace × D) : Type 0 where
-  pub is_place : IsPlace new.0
+pub record DatasetReaderRejects {D : Type 0} (goes : D → List DatasetEvent → D → Type 0) (stops : D → List DatasetEvent → DatasetEvent → D → Type 0) (stands : D → Option ℕ → Type 0) (old : DatasetPlace × D) (octets : List ℕ) (fault : Fault) (new : DatasetPlace × D) : Type 0 where
+  pub is_place : IsDatasetState new.0
   pub before : fault.used < length octets
-  pub refused : Refuses goes stops old.0 octets fault new.0 old.1 new.1
-  pub onward : StillStands stands (tag_cause_of fault.cause) new.0 new.1
+  pub refused : RejectsDatasetOctet goes stops old.0 octets fault new.0 old.1 new.1
+  pub onward : SinkStillAccepts stands (tag_cause_of fault.cause) new.0 new.1

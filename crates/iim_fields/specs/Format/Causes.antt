@@ -4,7 +4,7 @@ use Rattle.std.specs.Prelude.{ℕ, Bool, false, not, ◌&&◌, ◌||◌, ◌==�
 use Rattle.std.specs.{List.find, List.filter, List.list_any, Option.option_or, Option.option_map}
 use Rattle.iim_dataset.specs.Format.Datasets.{Dataset, head_of, of_record, dataset_name}
 use Rattle.iim_dataset.specs.{Format.Octets.within, Format.Octets.number, declared.head.Head.Head}
-use Rattle.iim_tables.specs.{Format.Rows.row_of, Format.Rows.is_admitted, Format.Rows.Meets, declared.shape.Row.Row}
+use Rattle.iim_tables.specs.{Format.Rows.row_of, Format.Rows.is_admitted, Format.Rows.OctetsMeetRow, declared.shape.Row.Row}
 use Rattle.iim_tables.specs.Format.Records.{mandatory, occurs, has_file_format, repeats}
 use Rattle.iim_fields.specs.{Format.Records.after, declared.fault.FieldCause.FieldCause}
 use Rattle.iim_fields.specs.{declared.fault.CopyFault.CopyFault}
@@ -24,8 +24,8 @@ abbrev pub section_after : List Dataset → ℕ
 section_after ds = last_record 0 ds
 
 -- the datasets of the current record
-abbrev pub section_run : List Dataset → List Dataset
-section_run ds = of_record (section_after ds) ds
+abbrev pub current_datasets : List Dataset → List Dataset
+current_datasets ds = of_record (section_after ds) ds
 
 -- the record is the first of those that remain
 abbrev pub is_first : ℕ → List ℕ → Bool
@@ -68,7 +68,7 @@ head_fault present has h =
 
 -- the first fault of a head after datasets
 abbrev pub record_fault : List Dataset → Head → Option FieldFault
-record_fault ds h = head_fault (section_after ds) (λ n. occurs n (section_run ds)) h
+record_fault ds h = head_fault (section_after ds) (λ n. occurs n (current_datasets ds)) h
 
 -- The first that holds: the octets do not meet the row; a file format is not 2.
 abbrev pub fault_by_row : Option Row → Dataset → Option FieldFault
@@ -101,8 +101,8 @@ abbrev pub kept_octets : List Dataset → ℕ
 kept_octets ds = length (joined (kept ds))
 
 -- The first limit that `octets` stored octets and `fields` stored datasets exceed.
-abbrev pub limit_passed : Limits → ℕ → ℕ → Option FieldCause
-limit_passed limits octets fields =
+abbrev pub limit_exceeded : Limits → ℕ → ℕ → Option FieldCause
+limit_exceeded limits octets fields =
     if not (nat_le octets limits.octets) then Some HeaderFull
     else if not (nat_le fields limits.fields) then Some TooManyFields
     else None
@@ -147,36 +147,36 @@ HasNoRow h = row_of h.rec h.set ≡ None
 
 -- The dataset does not repeat, and has occurred in the current record.
 abbrev pub IsRepeated : List Dataset → Head → Type 0
-IsRepeated ds h = (repeats h.rec h.set ≡ false) × (h.rec ≡ section_after ds) × (occurs h.set (section_run ds) ≡ true)
+IsRepeated ds h = (repeats h.rec h.set ≡ false) × (h.rec ≡ section_after ds) × (occurs h.set (current_datasets ds) ≡ true)
 
 -- The count is below the least number of octets of the row, or above the greatest.
 abbrev pub IsOutOfRange : Head → Type 0
 IsOutOfRange h = IsSomeAnd (row_of h.rec h.set) (λ row. (h.count < row.min) ⊎ (row.max < h.count))
 
 -- the current record must have a dataset of this number, and has none so far
-pub record IsAbsent (ds : List Dataset) (n : ℕ) : Type 0 where
+pub record IsMissing (ds : List Dataset) (n : ℕ) : Type 0 where
   pub mandatory : list_any (λ m. m == n) (mandatory (section_after ds)) ≡ true
-  pub absent : occurs n (section_run ds) ≡ false
+  pub absent : occurs n (current_datasets ds) ≡ false
 
 -- The head begins the next record, and a mandatory dataset of the current one is missing.
 abbrev pub EndsTooEarly : List Dataset → Head → Type 0
-EndsTooEarly ds h = BeginsNext ds h × ((n : ℕ) × IsAbsent ds n)
+EndsTooEarly ds h = BeginsNext ds h × ((n : ℕ) × IsMissing ds n)
 
 -- The octets do not meet the row of the dataset.
-abbrev pub IsBad : Dataset → Type 0
-IsBad d = Meets d.rec d.set d.octets → ⊥
+abbrev pub HasBadValue : Dataset → Type 0
+HasBadValue d = OctetsMeetRow d.rec d.set d.octets → ⊥
 
 -- It is 1:20 File Format, and its value is not 2.
 abbrev pub IsOtherFormat : Dataset → Type 0
 IsOtherFormat d = (d.rec ≡ 1) × (d.set ≡ 20) × (number d.octets ≢ 2)
 
 -- The head is of record 1 or 2, and the stored data with its count exceed the limit.
-abbrev pub PassesOctets : Limits → List Dataset → Head → Type 0
-PassesOctets limits ds h = IsTrue (is_kept h.rec) × (limits.octets < kept_octets ds + h.count)
+abbrev pub ExceedsOctets : Limits → List Dataset → Head → Type 0
+ExceedsOctets limits ds h = IsTrue (is_kept h.rec) × (limits.octets < kept_octets ds + h.count)
 
 -- The head is of record 1 or 2, and the stored datasets with its own exceed the limit.
-abbrev pub PassesFields : Limits → List Dataset → Head → Type 0
-PassesFields limits ds h = IsTrue (is_kept h.rec) × (limits.fields < length (kept ds) + 1)
+abbrev pub ExceedsFields : Limits → List Dataset → Head → Type 0
+ExceedsFields limits ds h = IsTrue (is_kept h.rec) × (limits.fields < length (kept ds) + 1)
 
 -- a condition on heads
 abbrev pub OfHead : (Head → Type 0) → Token → Type 0
@@ -202,18 +202,18 @@ rule_of UnknownDataset = record { number = 11; name = codes "UnknownDataset"; ho
 rule_of Repeated = record { number = 12; name = codes "Repeated"; holds = λ limits ds. OfHead (IsRepeated ds) }
 rule_of CountRange = record { number = 13; name = codes "CountRange"; holds = λ limits ds. OfHead IsOutOfRange }
 rule_of Missing = record { number = 14; name = codes "Missing"; holds = λ limits ds. OfHead (EndsTooEarly ds) }
-rule_of BadValue = record { number = 15; name = codes "BadValue"; holds = λ limits ds. OfValue IsBad }
+rule_of BadValue = record { number = 15; name = codes "BadValue"; holds = λ limits ds. OfValue HasBadValue }
 rule_of FileFormat = record { number = 16; name = codes "FileFormat"; holds = λ limits ds. OfValue IsOtherFormat }
-rule_of HeaderFull = record { number = 50; name = codes "HeaderFull"; holds = λ limits ds. OfHead (PassesOctets limits ds) }
-rule_of TooManyFields = record { number = 51; name = codes "TooManyFields"; holds = λ limits ds. OfHead (PassesFields limits ds) }
+rule_of HeaderFull = record { number = 50; name = codes "HeaderFull"; holds = λ limits ds. OfHead (ExceedsOctets limits ds) }
+rule_of TooManyFields = record { number = 51; name = codes "TooManyFields"; holds = λ limits ds. OfHead (ExceedsFields limits ds) }
 
 -- the number of a cause
 abbrev pub number_of_cause : FieldCause → ℕ
 number_of_cause cause = (rule_of cause).number
 
 -- The condition of the cause holds.
-abbrev pub HasCause : FieldCause → Limits → List Dataset → Token → Type 0
-HasCause cause = (rule_of cause).holds
+abbrev pub HasFieldCause : FieldCause → Limits → List Dataset → Token → Type 0
+HasFieldCause cause = (rule_of cause).holds
 
 -- the head of a token
 abbrev pub head_at : Token → Head
@@ -222,19 +222,19 @@ head_at (AtValue d) = head_of d
 
 -- The dataset that the fault names: for Missing, the missing dataset with the lowest number;
 -- otherwise that of the token.
-abbrev pub Names : FieldCause → List Dataset → Token → ℕ → ℕ → Type 0
-Names Missing ds t rec set = (rec ≡ section_after ds) × IsAbsent ds set × ((n : ℕ) → IsAbsent ds n → set ≤ n)
-Names _ ds t rec set = (rec ≡ (head_at t).rec) × (set ≡ (head_at t).set)
+abbrev pub FaultNamesDataset : FieldCause → List Dataset → Token → ℕ → ℕ → Type 0
+FaultNamesDataset Missing ds t rec set = (rec ≡ section_after ds) × IsMissing ds set × ((n : ℕ) → IsMissing ds n → set ≤ n)
+FaultNamesDataset _ ds t rec set = (rec ≡ (head_at t).rec) × (set ≡ (head_at t).set)
 
 -- The fault of a token: the condition of its cause holds, and that of no cause with a lower number.
 pub record IsFault (limits : Limits) (ds : List Dataset) (t : Token) (fault : FieldFault) : Type 0 where
-  pub holds : HasCause fault.cause limits ds t
-  pub lowest : (cause : FieldCause) → number_of_cause cause < number_of_cause fault.cause → HasCause cause limits ds t → ⊥
-  pub names : Names fault.cause ds t fault.rec fault.set
+  pub holds : HasFieldCause fault.cause limits ds t
+  pub lowest : (cause : FieldCause) → number_of_cause cause < number_of_cause fault.cause → HasFieldCause cause limits ds t → ⊥
+  pub names : FaultNamesDataset fault.cause ds t fault.rec fault.set
 
 -- The token has no fault: the condition of no cause holds.
 abbrev pub HasNoFault : Limits → List Dataset → Token → Type 0
-HasNoFault limits ds t = (cause : FieldCause) → HasCause cause limits ds t → ⊥
+HasNoFault limits ds t = (cause : FieldCause) → HasFieldCause cause limits ds t → ⊥
 
 abbrev pub name_of_cause : FieldCause → List ℕ
 name_of_cause cause = (rule_of cause).name

@@ -3,7 +3,7 @@ use Rattle.std.specs.Prelude.{◌≡◌, ℕ, ◌==◌, if◌then◌else◌, Lis
 use Rattle.std.specs.{List.after_first, List.filter, declared.cmp.Ordering.Ordering, Cmp.Lexicographic.pointwise}
 use Rattle.std.specs.{Cmp.Lexicographic.slice_cmp, Option.option_and_then, Option.option_or}
 use Rattle.std.specs.Ordering.{nat_cmp, on, then_cmp, eq_of_both}
-use Rattle.iim_dataset.specs.Format.{Datasets.Dataset, Datasets.head_of, Octets.IsAlive, Octets.number}
+use Rattle.iim_dataset.specs.Format.{Datasets.Dataset, Datasets.head_of, Octets.IsViablePrefix, Octets.number}
 use Rattle.iim_dataset.specs.declared.head.Head.{Head}
 use Rattle.iim_tables.specs.Format.{Records.IsGoodRecord, Dates.instant_in}
 use Rattle.iim_fields.specs.declared.limits.Limits.{Limits}
@@ -34,24 +34,24 @@ pub record IsEnvelope (ds : List Dataset) : Type 0 where
   pub application : IsGoodRecord 2 r2
 
 -- The datasets are a viable prefix: some datasets after them complete the datasets of an envelope.
-abbrev pub SectionsLive : List Dataset → Type 0
-SectionsLive ds = IsAlive AreSections ds
+abbrev pub AreViableSections : List Dataset → Type 0
+AreViableSections ds = IsViablePrefix AreSections ds
 
 -- The datasets and the head are a viable prefix: with some data of the head they are one.
-abbrev pub SectionsLiveAt : List Dataset → Head → Type 0
-SectionsLiveAt ds h = (d : Dataset) × (head_of d ≡ h) × SectionsLive (ds ++ d ∷ [])
+abbrev pub AreViableSectionsWithHead : List Dataset → Head → Type 0
+AreViableSectionsWithHead ds h = (d : Dataset) × (head_of d ≡ h) × AreViableSections (ds ++ d ∷ [])
 
 -- the dataset with the record and number of the head and these data
 abbrev pub data_of : Head → List ℕ → Dataset
 data_of h xs = record { rec = h.rec; set = h.set; octets = xs }
 
 -- the values of the record are numbers: those of 7 and 9 are
-abbrev pub tells_number : ℕ → Bool
-tells_number rec = rec == 7 || rec == 9
+abbrev pub has_number_value : ℕ → Bool
+has_number_value rec = rec == 7 || rec == 9
 
 -- the number that a value encodes
-abbrev pub number_told : Dataset → Option ℕ
-number_told d = if tells_number d.rec then Some (number d.octets) else None
+abbrev pub encoded_number : Dataset → Option ℕ
+encoded_number d = if has_number_value d.rec then Some (number d.octets) else None
 
 -- The stored data, and the number of the stored datasets, are within the limits.
 pub record IsWithin (limits : Limits) (octets fields : ℕ) : Type 0 where

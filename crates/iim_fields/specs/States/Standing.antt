@@ -6,8 +6,8 @@ use Rattle.iim_dataset.specs.Format.Datasets.{Dataset, head_of, of_record}
 use Rattle.iim_dataset.specs.{Format.Octets.Octets, Format.Octets.number, declared.head.Head.Head}
 use Rattle.iim_tables.specs.Format.{Records.occurs, Rows.row_of, Kinds.size_octets}
 use Rattle.iim_tables.specs.declared.shape.Row.{Row}
-use Rattle.iim_fields.specs.Format.Causes.{section_after, section_run, record_fault, value_fault, Limits, FieldFault, IsFault, first_fault, kept, kept_octets, is_kept, joined, missing_fault, missing_of, fault_on, limit_passed}
-use Rattle.iim_fields.specs.Format.Records.{SectionsLive, SectionsLiveAt, number_told, data_of, IsWithin}
+use Rattle.iim_fields.specs.Format.Causes.{section_after, current_datasets, record_fault, value_fault, Limits, FieldFault, IsFault, first_fault, kept, kept_octets, is_kept, joined, missing_fault, missing_of, fault_on, limit_exceeded}
+use Rattle.iim_fields.specs.Format.Records.{AreViableSections, AreViableSectionsWithHead, encoded_number, data_of, IsWithin}
 use Rattle.iim_fields.specs.{Format.Causes.Token.AtHead, Format.Causes.Token.AtValue, States.Stores.Room}
 use Rattle.iim_fields.specs.declared.{order.Order.Order, check.Begun.Begun, fault.FieldCause.FieldCause}
 use Rattle.iim_fields.specs.declared.{fault.FieldCause.TheVariants.RecordOrder, fault.CopyFault.CopyFault}
@@ -23,46 +23,46 @@ has_seen o n = slice_index_or o.seen n false
 pub record IsOrderOf (o : Order) (ds : List Dataset) : Type 0 where
   pub places : length o.seen ≡ 256
   pub present : o.rec ≡ section_after ds
-  pub seen : (n : ℕ) → has_seen o n ≡ occurs n (section_run ds)
+  pub seen : (n : ℕ) → has_seen o n ≡ occurs n (current_datasets ds)
 
 -- ---- A check, as contracts see it: its state, or `None` after an error.
 
 -- No value is expected: no dataset is in progress, or a subfile, whose data do not concern the
 -- records.
-abbrev pub AwaitsNone : Option Begun → Type 0
-AwaitsNone None = ⊤
-AwaitsNone (Some begun) = begun.head.rec ≡ 8
+abbrev pub ExpectsNoValue : Option Begun → Type 0
+ExpectsNoValue None = ⊤
+ExpectsNoValue (Some begun) = begun.head.rec ≡ 8
 
 -- The check accepts a head.
-pub record TakesHead (check : Option RecordPlace) : Type 0 where
+pub record AcceptsHead (check : Option RecordPlace) : Type 0 where
   pub order : Order
   pub begun : Option Begun
   pub at : check ≡ Some (record { order = order; begun = begun })
-  pub none : AwaitsNone begun
+  pub none : ExpectsNoValue begun
 
 -- No dataset is in progress.
-pub record AwaitsHead (check : Option RecordPlace) : Type 0 where
+pub record IsBetweenHeads (check : Option RecordPlace) : Type 0 where
   pub order : Order
   pub between : check ≡ Some (record { order = order; begun = None })
 
 -- A dataset with this head is in progress.
-pub record IsIn (check : Option RecordPlace) (h : Head) : Type 0 where
+pub record IsInDataset (check : Option RecordPlace) (h : Head) : Type 0 where
   pub order : Order
   pub row : Row
   pub inside : check ≡ Some (record { order = order; begun = Some (record { head = h; row = row }) })
   pub known : row_of h.rec h.set ≡ Some row
 
 -- The check accepts a value of n octets.
-abbrev pub TakesValue : Option RecordPlace → ℕ → Type 0
-TakesValue check n = (h : Head) × IsIn check h × (h.rec ≢ 8) × (h.count ≡ n)
+abbrev pub AcceptsValue : Option RecordPlace → ℕ → Type 0
+AcceptsValue check n = (h : Head) × IsInDataset check h × (h.rec ≢ 8) × (h.count ≡ n)
 
 -- The check is in the state after these datasets.
 pub record HasChecked (check : Option RecordPlace) (ds : List Dataset) : Type 0 where
   pub order : Order
   pub begun : Option Begun
   pub at : check ≡ Some (record { order = order; begun = begun })
-  pub none : AwaitsNone begun
-  pub alive : SectionsLive ds
+  pub none : ExpectsNoValue begun
+  pub alive : AreViableSections ds
   pub tells : IsOrderOf order ds
 
 -- The check is in the state after these datasets and this head, and expects its value.
@@ -72,12 +72,12 @@ pub record IsChecking (check : Option RecordPlace) (ds : List Dataset) (h : Head
   pub inside : check ≡ Some (record { order = order; begun = Some (record { head = h; row = row }) })
   pub known : row_of h.rec h.set ≡ Some row
   pub value : h.rec ≢ 8
-  pub alive : SectionsLiveAt ds h
+  pub alive : AreViableSectionsWithHead ds h
   pub tells : (d : Dataset) → head_of d ≡ h → IsOrderOf order (ds ++ d ∷ [])
 
 -- The check has accepted this head after these datasets. It expects its value, or the head is that
 -- of a subfile, and any data of it make one dataset more.
-pub record HasTaken (check : Option RecordPlace) (ds : List Dataset) (h : Head) : Type 0 where
+pub record HasAcceptedHead (check : Option RecordPlace) (ds : List Dataset) (h : Head) : Type 0 where
   pub checking : h.rec ≢ 8 → IsChecking check ds h
   pub subfile : h.rec ≡ 8 → (d : Dataset) → head_of d ≡ h → Octets d.octets → HasChecked check (ds ++ d ∷ [])
 
@@ -88,7 +88,7 @@ pub record HasTaken (check : Option RecordPlace) (ds : List Dataset) (h : Head) 
 pub record IsRecordFault (ds : List Dataset) (h : Head) (fault : FieldFault) : Type 0 where
   pub first : record_fault ds h ≡ Some fault
   pub lowest : (limits : Limits) → IsFault limits ds (AtHead h) fault
-  pub dead : SectionsLiveAt ds h → ⊥
+  pub dead : AreViableSectionsWithHead ds h → ⊥
 
 -- The fault is that of the value, which is not a subfile's: the first, and with the lowest number,
 -- under any limits. With the value the datasets are no longer a viable prefix.
@@ -96,13 +96,13 @@ pub record IsValueFault (ds : List Dataset) (d : Dataset) (fault : FieldFault) :
   pub value : d.rec ≢ 8
   pub first : value_fault d ≡ Some fault
   pub lowest : (limits : Limits) → IsFault limits ds (AtValue d) fault
-  pub dead : SectionsLive (ds ++ d ∷ []) → ⊥
+  pub dead : AreViableSections (ds ++ d ∷ []) → ⊥
 
 -- ---- What a check returns.
 
 -- the head of the dataset in progress
-abbrev pub begun_head : Option RecordPlace → Option Head
-begun_head check = option_and_then (λ place. option_and_then (λ begun. Some begun.head) place.begun) check
+abbrev pub current_head : Option RecordPlace → Option Head
+current_head check = option_and_then (λ place. option_and_then (λ begun. Some begun.head) place.begun) check
 
 -- the record of the last head, 0 at the beginning
 abbrev pub section_at : Option RecordPlace → ℕ
@@ -110,7 +110,7 @@ section_at None = 0
 section_at (Some place) = place.order.rec
 
 -- The last record has ended.
-pub record HasEnded (check : Option RecordPlace) : Type 0 where
+pub record LastRecordHasEnded (check : Option RecordPlace) : Type 0 where
   pub order : Order
   pub between : check ≡ Some (record { order = order; begun = None })
   pub last : order.rec ≡ 9
@@ -131,67 +131,67 @@ abbrev pub limits_of : FieldsPlace → Limits
 limits_of fields = fields.limits
 
 -- the capacity of the reader
-abbrev pub room_of : FieldsPlace → Room
-room_of fields = fields.room
+abbrev pub reader_capacity : FieldsPlace → Room
+reader_capacity fields = fields.room
 
 -- the capacity for limits: for their octets, and for their fields
 abbrev pub room_for : Limits → Room
 room_for limits = record { octets = limits.octets; entries = limits.fields }
 
 -- The limits and the capacity of the reader are unchanged.
-pub record SameBounds (old new : FieldsPlace) : Type 0 where
+pub record HasSameBounds (old new : FieldsPlace) : Type 0 where
   pub limits : limits_of new ≡ limits_of old
-  pub room : room_of new ≡ room_of old
+  pub room : reader_capacity new ≡ reader_capacity old
 
 -- the record of the last head, 0 at the beginning
 abbrev pub section_of : FieldsPlace → ℕ
 section_of fields = section_at fields.check
 
 -- the head of the dataset in progress
-abbrev pub begun_head_of : FieldsPlace → Option Head
-begun_head_of fields = begun_head fields.check
+abbrev pub current_head_of : FieldsPlace → Option Head
+current_head_of fields = current_head fields.check
 
 -- A call returned an error.
-abbrev pub IsFailed : FieldsPlace → Type 0
-IsFailed fields = fields.check ≡ None
+abbrev pub RecordReaderFailed : FieldsPlace → Type 0
+RecordReaderFailed fields = fields.check ≡ None
 
 -- The reader accepts a head.
-abbrev pub IsBetween : FieldsPlace → Type 0
-IsBetween fields = AwaitsHead fields.check
+abbrev pub IsBetweenDatasets : FieldsPlace → Type 0
+IsBetweenDatasets fields = IsBetweenHeads fields.check
 
 -- The reader has accepted this head, and n octets of its data remain. The data of a subfile do not
 -- pass through it.
-pub record IsInside (fields : FieldsPlace) (h : Head) (n : ℕ) : Type 0 where
-  pub head : IsIn fields.check h
+pub record IsInsideDataset (fields : FieldsPlace) (h : Head) (n : ℕ) : Type 0 where
+  pub head : IsInDataset fields.check h
   pub to_come : h.rec ≢ 8 → length fields.taken + n ≡ h.count
 
 -- The reader accepts k octets of data. The data of a subfile do not pass through it.
-abbrev pub CanTake : FieldsPlace → ℕ → Type 0
-CanTake fields k = (h : Head) × (n : ℕ) × IsInside fields h n × (h.rec ≢ 8) × (k ≤ n)
+abbrev pub AcceptsData : FieldsPlace → ℕ → Type 0
+AcceptsData fields k = (h : Head) × (n : ℕ) × IsInsideDataset fields h n × (h.rec ≢ 8) × (k ≤ n)
 
 -- The reader accepts the end of a dataset: all of its octets were received, or it is a subfile.
-abbrev pub CanClose : FieldsPlace → Type 0
-CanClose fields = (h : Head) × (n : ℕ) × IsInside fields h n × ((h.rec ≡ 8) ⊎ (n ≡ 0))
+abbrev pub AcceptsEnd : FieldsPlace → Type 0
+AcceptsEnd fields = (h : Head) × (n : ℕ) × IsInsideDataset fields h n × ((h.rec ≡ 8) ⊎ (n ≡ 0))
 
 -- The last record has ended.
-abbrev pub IsEnded : FieldsPlace → Type 0
-IsEnded fields = HasEnded fields.check
+abbrev pub RecordReaderHasEnded : FieldsPlace → Type 0
+RecordReaderHasEnded fields = LastRecordHasEnded fields.check
 
 -- The reader is in the state after these datasets, and has stored those of records 1 and 2.
-pub record StandsAfter (fields : FieldsPlace) (ds : List Dataset) : Type 0 where
-  pub between : IsBetween fields
+pub record HasReadDatasets (fields : FieldsPlace) (ds : List Dataset) : Type 0 where
+  pub between : IsBetweenDatasets fields
   pub checked : HasChecked fields.check ds
-  pub alive : SectionsLive ds
+  pub alive : AreViableSections ds
   pub within : IsWithin fields.limits (kept_octets ds) (length (kept ds))
   pub kept_are : fields.kept ≡ kept ds
   pub taken_are : fields.taken ≡ []
 
 -- The reader is in the state after these datasets, in one with this head whose data so far are
 -- these.
-pub record StandsIn (fields : FieldsPlace) (ds : List Dataset) (h : Head) (taken : List ℕ) : Type 0 where
-  pub inside : (n : ℕ) × IsInside fields h n
-  pub checked : HasTaken fields.check ds h
-  pub alive : SectionsLiveAt ds h
+pub record IsReadingDataset (fields : FieldsPlace) (ds : List Dataset) (h : Head) (taken : List ℕ) : Type 0 where
+  pub inside : (n : ℕ) × IsInsideDataset fields h n
+  pub checked : HasAcceptedHead fields.check ds h
+  pub alive : AreViableSectionsWithHead ds h
   pub within : IsTrue (is_kept h.rec) → IsWithin fields.limits (kept_octets ds + h.count) (length (kept ds) + 1)
   pub others : IsWithin fields.limits (kept_octets ds) (length (kept ds))
   pub kept_are : fields.kept ≡ kept ds
@@ -204,31 +204,31 @@ pub record StandsIn (fields : FieldsPlace) (ds : List Dataset) (h : Head) (taken
 pub record IsHeadFault (limits : Limits) (ds : List Dataset) (h : Head) (fault : FieldFault) : Type 0 where
   pub first : first_fault limits ds h ≡ Some fault
   pub lowest : IsFault limits ds (AtHead h) fault
-  pub dead : SectionsLiveAt ds h → (IsTrue (is_kept h.rec) → IsWithin limits (kept_octets ds + h.count) (length (kept ds) + 1)) → ⊥
+  pub dead : AreViableSectionsWithHead ds h → (IsTrue (is_kept h.rec) → IsWithin limits (kept_octets ds + h.count) (length (kept ds) + 1)) → ⊥
 
 -- The dataset has this head, and these data unless its record is 8.
-pub record IsOf (h : Head) (taken : List ℕ) (d : Dataset) : Type 0 where
+pub record IsDatasetOf (h : Head) (taken : List ℕ) (d : Dataset) : Type 0 where
   pub head : head_of d ≡ h
   pub octets : Octets d.octets
   pub given : h.rec ≢ 8 → d.octets ≡ taken
 
 -- The reader accepted a complete dataset with this head and these data.
-pub record TookDataset (old : FieldsPlace) (h : Head) (octets : List ℕ) (new : FieldsPlace) : Type 0 where
+pub record AcceptedDataset (old : FieldsPlace) (h : Head) (octets : List ℕ) (new : FieldsPlace) : Type 0 where
   pub section : section_of new ≡ h.rec
-  pub stands : (ds : List Dataset) → StandsAfter old ds → StandsAfter new (ds ++ data_of h octets ∷ [])
+  pub stands : (ds : List Dataset) → HasReadDatasets old ds → HasReadDatasets new (ds ++ data_of h octets ∷ [])
 
 -- The reader accepted a complete subfile with this head: through a state within the subfile,
 -- whatever data the subfile has.
-pub record PassesSubfile (old : FieldsPlace) (h : Head) (new : FieldsPlace) : Type 0 where
+pub record AcceptedSubfile (old : FieldsPlace) (h : Head) (new : FieldsPlace) : Type 0 where
   pub inside : FieldsPlace
-  pub head : begun_head_of inside ≡ Some h
+  pub head : current_head_of inside ≡ Some h
   pub limits : limits_of inside ≡ limits_of old
-  pub begins : (ds : List Dataset) → StandsAfter old ds → StandsIn inside ds h []
-  pub closes : (ds : List Dataset) (g : Head) (taken : List ℕ) → StandsIn inside ds g taken → (d : Dataset) → IsOf g taken d
-      → StandsAfter new (ds ++ d ∷ []) × (None ≡ number_told d)
+  pub begins : (ds : List Dataset) → HasReadDatasets old ds → IsReadingDataset inside ds h []
+  pub closes : (ds : List Dataset) (g : Head) (taken : List ℕ) → IsReadingDataset inside ds g taken → (d : Dataset) → IsDatasetOf g taken d
+      → HasReadDatasets new (ds ++ d ∷ []) × (None ≡ encoded_number d)
 
 -- The octets are as many as the head counts and as a size may have, and encode the number.
-pub record Spells (octets : List ℕ) (h : Head) (n : ℕ) : Type 0 where
+pub record DatasetEncodesNumber (octets : List ℕ) (h : Head) (n : ℕ) : Type 0 where
   pub count : h.count ≡ length octets
   pub few : IsInRange 1 size_octets (length octets)
   pub fit : Octets octets
@@ -236,21 +236,21 @@ pub record Spells (octets : List ℕ) (h : Head) (n : ℕ) : Type 0 where
 
 -- A complete dataset with this head and these data may come next: neither the head nor the value
 -- has a fault.
-pub record Admits (fields : FieldsPlace) (h : Head) (xs : List ℕ) : Type 0 where
+pub record AdmitsDataset (fields : FieldsPlace) (h : Head) (xs : List ℕ) : Type 0 where
   pub count : h.count ≡ length xs
   pub octets : Octets xs
-  pub no_fault : (ds : List Dataset) → StandsAfter fields ds → option_or (first_fault (limits_of fields) ds h) (value_fault (data_of h xs)) ≡ None
+  pub no_fault : (ds : List Dataset) → HasReadDatasets fields ds → option_or (first_fault (limits_of fields) ds h) (value_fault (data_of h xs)) ≡ None
 
 -- A builder is seen as its limits, the datasets so far, and its capacity.
-pub record Building : Type 0 where
+pub record BuilderView : Type 0 where
   pub limits : Limits
   pub fields : List Dataset
   pub room : Room
 
 -- The first fault of a dataset that is added: its record is neither 1 nor 2, or else the fault of
 -- its head, or else of its value.
-abbrev pub add_fault : Limits → List Dataset → Dataset → Option FieldFault
-add_fault limits ds d =
+abbrev pub added_field_fault : Limits → List Dataset → Dataset → Option FieldFault
+added_field_fault limits ds d =
     if not (is_kept d.rec) then Some (fault_on (head_of d) RecordOrder)
     else option_or (first_fault limits ds (head_of d)) (value_fault d)
 
@@ -259,20 +259,20 @@ abbrev pub absent : ℕ → List Dataset → Option FieldFault
 absent r ds = missing_fault r (missing_of r (λ n. occurs n (of_record r ds)))
 
 -- the first missing dataset of an envelope: of record 1, or else of record 2
-abbrev pub finish_fault : List Dataset → Option FieldFault
-finish_fault ds = option_or (absent 1 ds) (absent 2 ds)
+abbrev pub missing_field_fault : List Dataset → Option FieldFault
+missing_field_fault ds = option_or (absent 1 ds) (absent 2 ds)
 
 -- The datasets are no more than limits can allow, and neither are their octets.
-pub record AreFew (ds : List Dataset) : Type 0 where
+pub record FitAnyLimits (ds : List Dataset) : Type 0 where
   pub datasets : length ds < 2 ^ 32
   pub octets : length (joined ds) < 2 ^ 32
 
 -- the first limit that all these datasets exceed: that on octets, or else that on their number
-abbrev pub passed_by : Limits → List Dataset → Option FieldCause
-passed_by limits ds = limit_passed limits (length (joined ds)) (length ds)
+abbrev pub limit_exceeded_by : Limits → List Dataset → Option FieldCause
+limit_exceeded_by limits ds = limit_exceeded limits (length (joined ds)) (length ds)
 
 -- Why an envelope of these datasets is not copied: it exceeds a limit; or else the allocation
 -- failed.
 abbrev pub IsCopyFault : Limits → List Dataset → CopyFault → Type 0
-IsCopyFault limits ds (Passed cause) = passed_by limits ds ≡ Some cause
-IsCopyFault limits ds OutOfMemory = passed_by limits ds ≡ None
+IsCopyFault limits ds (Passed cause) = limit_exceeded_by limits ds ≡ Some cause
+IsCopyFault limits ds OutOfMemory = limit_exceeded_by limits ds ≡ None

@@ -34,15 +34,15 @@ seen_octets prefix count octets = started prefix (before count octets) ++ text_o
 -- The last `count` octets are a text with this prefix in each line, and then the first `cut`
 -- octets of the prefix; `fresh` is whether a line begins after the text. `cut` is not 0 only after
 -- a failed write.
-abbrev pub is_laid : List ℕ → ℕ → ℕ → Bool → Bool → List ℕ → Bool
-is_laid prefix count cut fresh broken octets =
+abbrev pub is_prefixed_text : List ℕ → ℕ → ℕ → Bool → Bool → List ℕ → Bool
+is_prefixed_text prefix count cut fresh broken octets =
     bytes_eq (own count octets) (prefixed prefix true (text_of (length prefix) count octets) ++ take cut prefix)
     && (beq fresh (begins_line true (text_of (length prefix) count octets)) && (broken || cut == 0))
 
 -- what contracts see of the octets: nothing if they are not such lines
-abbrev pub seen_of : List ℕ → ℕ → ℕ → Bool → Bool → List ℕ → Option (List ℕ)
-seen_of prefix count cut fresh broken octets =
-    if is_laid prefix count cut fresh broken octets then Some (seen_octets prefix count octets) else None
+abbrev pub text_seen_of : List ℕ → ℕ → ℕ → Bool → Bool → List ℕ → Option (List ℕ)
+text_seen_of prefix count cut fresh broken octets =
+    if is_prefixed_text prefix count cut fresh broken octets then Some (seen_octets prefix count octets) else None
 
 -- the text, with an LF after its last line if that is not ended
 abbrev pub ended : List ℕ → List ℕ

@@ -2,28 +2,28 @@
 -- are printed.
 use Rattle.std.specs.Prelude.{◌≡◌, ◌⊎◌, ℕ, ◌+◌, ◌<◌, List, [], ◌∷◌, ◌++◌, sum, Some, None, ◌==◌, Bool, false, ◌&&◌, not, nat_lt, min, if◌then◌else◌, is_some, Option, unwrap_or, codes, decimal}
 use Rattle.iim_dataset.specs.Format.Octets.{greatest_size}
-use Rattle.iim_object.specs.Format.Objects.{Stated, number_at, ObjectToken, NumberRead, SubfileBegun, ObjectEnded, Confirmed, Place}
+use Rattle.iim_object.specs.Format.Objects.{StatedNumber, number_at, ObjectToken, NumberRead, SubfileBegun, ObjectEnded, Confirmed, Place}
 use Rattle.iim_object.specs.declared.reading.fault.SizeCause.TheVariants.{ModeClash, SizeClash, SubfileTooLong, PastSize, Short, ConfirmedWrong}
 use Rattle.iim_object.specs.declared.reading.fault.ObjectFault.TheVariants.{Size, Stopped}
 use Rattle.iim_object.specs.declared.writing.cause.PackCause.TheVariants.{OutOfMemory, PastAnnounced, ShortOfAnnounced, BadTextOctet, BadTrailer, Write, Failed}
 use Rattle.iim_object.specs.declared.{reading.fault.SizeCause.SizeCause, reading.fault.ObjectFault.ObjectFault}
 use Rattle.iim_object.specs.declared.{writing.cause.PackCause.PackCause}
 
-abbrev pub number_of : SizeCause → ℕ
-number_of ModeClash = 20
-number_of SizeClash = 21
-number_of SubfileTooLong = 22
-number_of PastSize = 23
-number_of Short = 24
-number_of ConfirmedWrong = 25
+abbrev pub number_of_size_cause : SizeCause → ℕ
+number_of_size_cause ModeClash = 20
+number_of_size_cause SizeClash = 21
+number_of_size_cause SubfileTooLong = 22
+number_of_size_cause PastSize = 23
+number_of_size_cause Short = 24
+number_of_size_cause ConfirmedWrong = 25
 
 -- the numbers of record 7, with that of the token
-abbrev pub stated_with : Place → ℕ → ℕ → List Stated
+abbrev pub stated_with : Place → ℕ → ℕ → List StatedNumber
 stated_with p set n = p.stated ++ record { set = set; number = n } ∷ []
 
 -- The total exceeds the greatest size, the announced size, or the maximum.
-abbrev pub PassesBound : List Stated → ℕ → Type 0
-PassesBound ps total = (greatest_size < total)
+abbrev pub ExceedsBound : List StatedNumber → ℕ → Type 0
+ExceedsBound ps total = (greatest_size < total)
     ⊎ (((announced : ℕ) × (number_at 90 ps ≡ Some announced) × (announced < total))
     ⊎ ((most : ℕ) × (number_at 95 ps ≡ Some most) × (most < total)))
 
@@ -34,17 +34,17 @@ PassesBound ps total = (greatest_size < total)
 -- 23: with the subfile the total exceeds the bound.
 -- 24: at the end the total is below the announced size.
 -- 25: the confirmed size is not the total.
-abbrev pub HasCause : SizeCause → Place → ObjectToken → Type 0
-HasCause ModeClash p token =
+abbrev pub HasSizeCause : SizeCause → Place → ObjectToken → Type 0
+HasSizeCause ModeClash p token =
     ((set : ℕ) × (n : ℕ) × (token ≡ NumberRead set n) × (number_at 10 (stated_with p set n) ≡ Some 0)
     × ((announced : ℕ) × (number_at 90 (stated_with p set n) ≡ Some announced)))
     ⊎ ((count : ℕ) × (token ≡ SubfileBegun count) × (number_at 10 p.stated ≡ Some 1) × (number_at 90 p.stated ≡ None))
-HasCause SizeClash p token = (set : ℕ) × (n : ℕ) × (token ≡ NumberRead set n)
+HasSizeCause SizeClash p token = (set : ℕ) × (n : ℕ) × (token ≡ NumberRead set n)
     × ((announced : ℕ) × (most : ℕ) × (number_at 90 (stated_with p set n) ≡ Some announced) × (number_at 95 (stated_with p set n) ≡ Some most) × (most < announced))
-HasCause SubfileTooLong p token = (count : ℕ) × (token ≡ SubfileBegun count) × ((largest : ℕ) × (number_at 20 p.stated ≡ Some largest) × (largest < count))
-HasCause PastSize p token = (count : ℕ) × (token ≡ SubfileBegun count) × PassesBound p.stated (sum p.lengths + count)
-HasCause Short p token = (announced : ℕ) × (token ≡ ObjectEnded) × (number_at 90 p.stated ≡ Some announced) × (sum p.lengths < announced)
-HasCause ConfirmedWrong p token = (n : ℕ) × (token ≡ Confirmed n) × (n ≡ sum p.lengths → ⊥)
+HasSizeCause SubfileTooLong p token = (count : ℕ) × (token ≡ SubfileBegun count) × ((largest : ℕ) × (number_at 20 p.stated ≡ Some largest) × (largest < count))
+HasSizeCause PastSize p token = (count : ℕ) × (token ≡ SubfileBegun count) × ExceedsBound p.stated (sum p.lengths + count)
+HasSizeCause Short p token = (announced : ℕ) × (token ≡ ObjectEnded) × (number_at 90 p.stated ≡ Some announced) × (sum p.lengths < announced)
+HasSizeCause ConfirmedWrong p token = (n : ℕ) × (token ≡ Confirmed n) × (n ≡ sum p.lengths → ⊥)
 
 -- ---- The first cause for which a token is rejected, by the numbers so far.
 
@@ -71,8 +71,8 @@ abbrev pub bound : Option ℕ → Option ℕ → ℕ
 bound announced maximum = min (unwrap_or announced greatest_size) (unwrap_or maximum greatest_size)
 
 -- with `count` more octets the total is above `most`
-abbrev pub is_past : ℕ → ℕ → ℕ → Bool
-is_past most total count = nat_lt most (total + count)
+abbrev pub exceeds_bound : ℕ → ℕ → ℕ → Bool
+exceeds_bound most total count = nat_lt most (total + count)
 
 -- the cause against a subfile: mode 1 without an announced size; longer than the largest; a total
 -- above the bound
@@ -80,7 +80,7 @@ abbrev pub subfile_cause : Option ℕ → Option ℕ → Option ℕ → Option �
 subfile_cause mode largest announced maximum total count =
     if is_given mode 1 && not (is_some announced) then Some ModeClash
     else if nat_lt (unwrap_or largest 0) count then Some SubfileTooLong
-    else if is_past (bound announced maximum) total count then Some PastSize
+    else if exceeds_bound (bound announced maximum) total count then Some PastSize
     else None
 
 -- the cause against the end: a total below the announced size
@@ -99,29 +99,29 @@ cause_at p (SubfileBegun count) = subfile_cause (number_at 10 p.stated) (number_
 cause_at p ObjectEnded = end_cause (number_at 90 p.stated) (sum p.lengths)
 cause_at p (Confirmed n) = confirmed_cause (sum p.lengths) n
 
-abbrev pub name_of : SizeCause → List ℕ
-name_of ModeClash = codes "ModeClash"
-name_of SizeClash = codes "SizeClash"
-name_of SubfileTooLong = codes "SubfileTooLong"
-name_of PastSize = codes "PastSize"
-name_of Short = codes "Short"
-name_of ConfirmedWrong = codes "ConfirmedWrong"
+abbrev pub name_of_size_cause : SizeCause → List ℕ
+name_of_size_cause ModeClash = codes "ModeClash"
+name_of_size_cause SizeClash = codes "SizeClash"
+name_of_size_cause SubfileTooLong = codes "SubfileTooLong"
+name_of_size_cause PastSize = codes "PastSize"
+name_of_size_cause Short = codes "Short"
+name_of_size_cause ConfirmedWrong = codes "ConfirmedWrong"
 
 -- a cause's number and name, as they are printed
-abbrev pub text_of : SizeCause → List ℕ
-text_of cause = decimal (number_of cause) ++ (codes " " ++ name_of cause)
+abbrev pub text_of_size_cause : SizeCause → List ℕ
+text_of_size_cause cause = decimal (number_of_size_cause cause) ++ (codes " " ++ name_of_size_cause cause)
 
 -- the number of a fault: a stop of the sink is 60
-abbrev pub fault_number : ObjectFault → ℕ
-fault_number (Size cause) = number_of cause
-fault_number (Stopped stop) = 60
+abbrev pub number_of_object_fault : ObjectFault → ℕ
+number_of_object_fault (Size cause) = number_of_size_cause cause
+number_of_object_fault (Stopped stop) = 60
 
-abbrev pub fault_name : ObjectFault → List ℕ
-fault_name (Size cause) = name_of cause
-fault_name (Stopped stop) = codes "Sink"
+abbrev pub name_of_object_fault : ObjectFault → List ℕ
+name_of_object_fault (Size cause) = name_of_size_cause cause
+name_of_object_fault (Stopped stop) = codes "Sink"
 
-abbrev pub fault_text : ObjectFault → List ℕ
-fault_text fault = decimal (fault_number fault) ++ (codes " " ++ fault_name fault)
+abbrev pub text_of_object_fault : ObjectFault → List ℕ
+text_of_object_fault fault = decimal (number_of_object_fault fault) ++ (codes " " ++ name_of_object_fault fault)
 
 abbrev pub pack_number : PackCause → ℕ
 pack_number OutOfMemory = 70

@@ -7,42 +7,42 @@ use Rattle.iim_tables.specs.Format.Records.{IsGoodRecord}
 pub use Rattle.iim_object.specs.declared.size.{Sizes.Sizes, Size.Size, Size.TheVariants.Known, Size.TheVariants.Unknown}
 
 -- a number that a dataset of record 7 states, with the number of the dataset
-pub record Stated : Type 0 where
+pub record StatedNumber : Type 0 where
   pub set : ℕ
   pub number : ℕ
 
 -- the number that is stated for a dataset of record 7, if one is
-abbrev pub number_at : ℕ → List Stated → Option ℕ
+abbrev pub number_at : ℕ → List StatedNumber → Option ℕ
 number_at set [] = None
 number_at set (p ∷ ps) = cond (p.set == set) (Some p.number) (number_at set ps)
 
 -- The row of the dataset allows the number: 7:10 Size Mode 0 or 1, 7:20 at least 1, and 7:20, 7:90
 -- and 7:95 at most the greatest size of an object.
-abbrev pub InRow : Stated → Type 0
-InRow p = ((p.set ≡ 10) × (p.number ≤ 1)) ⊎ (((p.set ≡ 20) × (1 ≤ p.number) × (p.number ≤ greatest_size)) ⊎ (((p.set ≡ 90) ⊎ (p.set ≡ 95)) × (p.number ≤ greatest_size)))
+abbrev pub IsAllowedByRow : StatedNumber → Type 0
+IsAllowedByRow p = ((p.set ≡ 10) × (p.number ≤ 1)) ⊎ (((p.set ≡ 20) × (1 ≤ p.number) × (p.number ≤ greatest_size)) ⊎ (((p.set ≡ 90) ⊎ (p.set ≡ 95)) × (p.number ≤ greatest_size)))
 
 -- No dataset repeats.
-abbrev pub AreOnce : List Stated → Type 0
-AreOnce [] = Unit {0}
-AreOnce (p ∷ ps) = (number_at p.set ps ≡ None) × AreOnce ps
+abbrev pub HaveNoRepeats : List StatedNumber → Type 0
+HaveNoRepeats [] = Unit {0}
+HaveNoRepeats (p ∷ ps) = (number_at p.set ps ≡ None) × HaveNoRepeats ps
 
 -- The numbers are those of datasets of record 7 that meet their rows, none of them twice.
-pub record AreStated (ps : List Stated) : Type 0 where
-  pub each : AllByRecursion InRow ps
-  pub once : AreOnce ps
+pub record AreStatedNumbers (ps : List StatedNumber) : Type 0 where
+  pub each : AllByRecursion IsAllowedByRow ps
+  pub once : HaveNoRepeats ps
 
 abbrev pub mode_number : Bool → ℕ
 mode_number true = 1
 mode_number false = 0
 
 -- the sizes of an object with these numbers of record 7 and subfiles of these lengths
-abbrev pub sizes_at : Bool → ℕ → List Stated → List ℕ → Sizes
+abbrev pub sizes_at : Bool → ℕ → List StatedNumber → List ℕ → Sizes
 sizes_at known subfile ps lengths = record { known = known; subfile = subfile; announced = number_at 90 ps; maximum = number_at 95 ps; subfiles = length lengths; total = sum lengths }
 
 -- The sizes agree: 7:90 occurs exactly if the size is known; it is at most 7:95; no subfile is
 -- longer than 7:20; the total is at most the greatest size and 7:95, equals 7:90, and is the size
 -- that 9:10 confirms.
-pub record Agree (s : Sizes) (lengths : List ℕ) (confirmed : ℕ) : Type 0 where
+pub record SizesAgree (s : Sizes) (lengths : List ℕ) (confirmed : ℕ) : Type 0 where
   pub by_mode : is_some s.announced ≡ s.known
   pub announced_fits : IfSome s.announced (λ a. IfSome s.maximum (λ m. a ≤ m))
   pub each_subfile : AllByRecursion (λ n. n ≤ s.subfile) lengths
@@ -111,23 +111,23 @@ pub data ObjectToken : Type 0 where
   ObjectEnded : ObjectToken
   Confirmed : (number : ℕ) → ObjectToken
 
-abbrev pub number_tokens : List Stated → List ObjectToken
+abbrev pub number_tokens : List StatedNumber → List ObjectToken
 number_tokens ps = map (λ p. NumberRead p.set p.number) ps
 
 -- The language of the object layer, by numbers and lengths: the numbers of record 7, among them
 -- mode and largest subfile, at least one subfile, and the confirmed size, such that the sizes
 -- agree.
 pub record ObjectLanguage (tokens : List ObjectToken) : Type 0 where
-  pub stated : List Stated
+  pub stated : List StatedNumber
   pub lengths : List ℕ
   pub confirmed : ℕ
   pub known : Bool
   pub subfile : ℕ
-  pub are_stated : AreStated stated
+  pub are_stated : AreStatedNumbers stated
   pub mode : number_at 10 stated ≡ Some (mode_number known)
   pub largest : number_at 20 stated ≡ Some subfile
   pub some : 0 < length lengths
-  pub agree : Agree (sizes_at known subfile stated lengths) lengths confirmed
+  pub agree : SizesAgree (sizes_at known subfile stated lengths) lengths confirmed
   pub tokens_are : tokens ≡ number_tokens stated ++ (map SubfileBegun lengths ++ (ObjectEnded ∷ Confirmed confirmed ∷ []))
 
 -- Records 7, 8 and 9 in this order, each good, after datasets of the records before them.
@@ -143,7 +143,7 @@ pub record AreObjectRecords (ds : List Dataset) : Type 0 where
   pub parts : ds ≡ before ++ (r7 ++ (r8 ++ r9))
 
 -- the number of each dataset, with the number of the dataset in its record
-abbrev pub numbers_of : List Dataset → List Stated
+abbrev pub numbers_of : List Dataset → List StatedNumber
 numbers_of ds = map (λ d. record { set = d.set; number = number d.octets }) ds
 
 abbrev pub lengths_of : List Dataset → List ℕ
@@ -161,7 +161,7 @@ pub record HaveSizes (r7 r8 r9 : List Dataset) (s : Sizes) : Type 0 where
   pub total : sum (lengths_of r8) ≡ s.total
   pub confirmed : ℕ
   pub is_confirmed : number_at 10 (numbers_of r9) ≡ Some confirmed
-  pub agree : Agree s (lengths_of r8) confirmed
+  pub agree : SizesAgree s (lengths_of r8) confirmed
 
 -- ---- How far an object has been read: the numbers, the lengths of the subfiles, and whether it
 -- has ended.
@@ -173,7 +173,7 @@ pub data Ending : Type 0 where
   ConfirmedAs : ℕ → Ending
 
 pub record Place : Type 0 where
-  pub stated : List Stated
+  pub stated : List StatedNumber
   pub lengths : List ℕ
   pub ending : Ending
 
@@ -194,15 +194,15 @@ place_after p ObjectEnded = record p { ending = Ended }
 place_after p (Confirmed n) = record p { ending = ConfirmedAs n }
 
 -- Mode and largest subfile are stated.
-abbrev pub HasBoth : List Stated → Type 0
-HasBoth ps = (is_some (number_at 10 ps) ≡ true) × (is_some (number_at 20 ps) ≡ true)
+abbrev pub HasModeAndLargest : List StatedNumber → Type 0
+HasModeAndLargest ps = (is_some (number_at 10 ps) ≡ true) × (is_some (number_at 20 ps) ≡ true)
 
 -- The record layer and the limits accept the token: numbers of record 7 that meet their rows, none
 -- twice, come before the subfiles; these come after mode and largest subfile, and are not too many;
 -- the end comes after at least one subfile; and the confirmed size after the end.
 abbrev pub MayFollow : Place → ObjectToken → Type 0
-MayFollow p (NumberRead set n) = (p.ending ≡ NotEnded) × (p.lengths ≡ []) × AreStated (p.stated ++ record { set = set; number = n } ∷ [])
-MayFollow p (SubfileBegun count) = (p.ending ≡ NotEnded) × HasBoth p.stated × (length p.lengths < max_subfiles)
+MayFollow p (NumberRead set n) = (p.ending ≡ NotEnded) × (p.lengths ≡ []) × AreStatedNumbers (p.stated ++ record { set = set; number = n } ∷ [])
+MayFollow p (SubfileBegun count) = (p.ending ≡ NotEnded) × HasModeAndLargest p.stated × (length p.lengths < max_subfiles)
 MayFollow p ObjectEnded = (p.ending ≡ NotEnded) × (0 < length p.lengths)
 MayFollow p (Confirmed n) = p.ending ≡ Ended
 
@@ -233,17 +233,17 @@ abbrev pub place_ended : List Dataset → Place
 place_ended ds = record (place_after_datasets ds) { ending = Ended }
 
 -- The numbers of record 7, and the one that is confirmed, are at most `most`.
-abbrev pub TokensWithin : ℕ → List ObjectToken → Type 0
-TokensWithin most [] = Unit {0}
-TokensWithin most (NumberRead set n ∷ tokens) = (n ≤ most) × TokensWithin most tokens
-TokensWithin most (SubfileBegun n ∷ tokens) = TokensWithin most tokens
-TokensWithin most (ObjectEnded ∷ tokens) = TokensWithin most tokens
-TokensWithin most (Confirmed n ∷ tokens) = (n ≤ most) × TokensWithin most tokens
+abbrev pub TokensAreWithin : ℕ → List ObjectToken → Type 0
+TokensAreWithin most [] = Unit {0}
+TokensAreWithin most (NumberRead set n ∷ tokens) = (n ≤ most) × TokensAreWithin most tokens
+TokensAreWithin most (SubfileBegun n ∷ tokens) = TokensAreWithin most tokens
+TokensAreWithin most (ObjectEnded ∷ tokens) = TokensAreWithin most tokens
+TokensAreWithin most (Confirmed n ∷ tokens) = (n ≤ most) × TokensAreWithin most tokens
 
 -- The language of the object layer, if the greatest size is `most`: the numbers of record 7 are at
 -- most that, and so is the total, which is the number that is confirmed.
 abbrev pub LanguageWithin : ℕ → List ObjectToken → Type 0
-LanguageWithin most tokens = ObjectLanguage tokens × TokensWithin most tokens
+LanguageWithin most tokens = ObjectLanguage tokens × TokensAreWithin most tokens
 
 -- an octet of the object, or its end
 pub data ObjectEvent : Type 0 where

@@ -14,7 +14,7 @@ AreFull size parts = AllByRecursion (λ part. length part ≡ size) parts
 
 -- The object is divided into full parts of `size` octets, and a last one of 1 to `size` octets. An
 -- empty object is one empty part.
-pub record IsCut (size : ℕ) (object : List ℕ) (parts : List (List ℕ)) : Type 0 where
+pub record SplitsIntoSubfiles (size : ℕ) (object : List ℕ) (parts : List (List ℕ)) : Type 0 where
   pub full : List (List ℕ)
   pub last : List ℕ
   pub are_full : AreFull size full
@@ -59,19 +59,19 @@ abbrev pub object_datasets : ℕ → Size → List ℕ → List (List ℕ) → L
 object_datasets subfile size object parts = plan_datasets subfile size ++ (subfile_datasets parts ++ confirmed_datasets object)
 
 -- The octets are what is written of the object, with subfiles of this length and this size.
-pub record IsWritten (subfile : ℕ) (size : Size) (object octets : List ℕ) : Type 0 where
+pub record IsWrittenObject (subfile : ℕ) (size : Size) (object octets : List ℕ) : Type 0 where
   pub parts : List (List ℕ)
-  pub cut : IsCut subfile object parts
+  pub cut : SplitsIntoSubfiles subfile object parts
   pub octets_are : octets ≡ canonical_stream (object_datasets subfile size object parts)
 
 -- The object has as many octets as a known size states.
-abbrev pub IsAsKnown : Size → List ℕ → Type 0
-IsAsKnown size object = IfSome (announced_of size) (λ n. length object ≡ n)
+abbrev pub HasKnownLength : Size → List ℕ → Type 0
+HasKnownLength size object = IfSome (announced_of size) (λ n. length object ≡ n)
 
 -- The object is within the bound of the plan, and has as many octets as a known size states.
-pub record Suits (subfile : ℕ) (size : Size) (object : List ℕ) : Type 0 where
+pub record ObjectSuitsPlan (subfile : ℕ) (size : Size) (object : List ℕ) : Type 0 where
   pub fits : length object ≤ bound_of subfile size
-  pub exact : IsAsKnown size object
+  pub exact : HasKnownLength size object
 
 -- the sizes of the plan, and of the object and its parts
 abbrev pub packed_sizes : ℕ → Size → List ℕ → List (List ℕ) → Sizes

@@ -1,10 +1,10 @@
 -- The states of a reader of objects, how they change, and how a state is restored from what was
 -- saved.
 use Rattle.std.specs.Prelude.{◌≡◌, ℕ, ◌<◌, ◌==◌, true, if◌then◌else◌, is_some, Option, Some, None, ◌*◌, ◌≤◌, List, [], ◌∷◌, IfSome, ◌⊎◌, Bool, ◌++◌, length, map, sum, take, slice_index, ◌+◌}
-use Rattle.iim_object.specs.Format.Objects.{max_subfiles, InRow, mode_number, AreStated, number_at, sizes_at, Sizes, ObjectToken, ObjectEnded, Confirmed, ObjectLanguage, Place, NotEnded, MayFollow, HasBoth, place_after, tokens_of, ObjectEvent, ObjectOctet, ObjectEnd, Stated}
+use Rattle.iim_object.specs.Format.Objects.{max_subfiles, IsAllowedByRow, mode_number, AreStatedNumbers, number_at, sizes_at, Sizes, ObjectToken, ObjectEnded, Confirmed, ObjectLanguage, Place, NotEnded, MayFollow, HasModeAndLargest, place_after, tokens_of, ObjectEvent, ObjectOctet, ObjectEnd, StatedNumber}
 use Rattle.iim_object.specs.Format.Causes.{number_cause, subfile_cause, bound, cause_at}
 use Rattle.iim_object.specs.declared.reading.fault.ObjectFault.{ObjectFault, TheVariants.Size, TheVariants.Stopped}
-use Rattle.iim_dataset.specs.Format.Octets.{greatest_size, IsAlive, DiesAt}
+use Rattle.iim_dataset.specs.Format.Octets.{greatest_size, IsViablePrefix, EndsViablePrefix}
 pub use Rattle.iim_object.specs.declared.reading.{state.State.State, fault.SizeCause.SizeCause}
 
 abbrev pub state_start : State
@@ -24,29 +24,29 @@ state_with s set number = record s {
 }
 
 -- A number of record 7 may come next: no subfile has come, and its row allows the number.
-abbrev pub TakesNumber : State → ℕ → ℕ → Type 0
-TakesNumber s set number = (s.subfiles ≡ 0) × InRow (record { set = set; number = number })
+abbrev pub NumberMayCome : State → ℕ → ℕ → Type 0
+NumberMayCome s set number = (s.subfiles ≡ 0) × IsAllowedByRow (record { set = set; number = number })
 
 -- A subfile may come next: mode and largest subfile are given, and one more is not too many.
-abbrev pub TakesSubfile : State → Type 0
-TakesSubfile s = (is_some s.mode ≡ true) × (is_some s.subfile ≡ true) × (s.subfiles < max_subfiles)
+abbrev pub SubfileMayCome : State → Type 0
+SubfileMayCome s = (is_some s.mode ≡ true) × (is_some s.subfile ≡ true) × (s.subfiles < max_subfiles)
 
 -- A number of record 7 may come next, and no number clashes with it.
-abbrev pub FitsNumber : State → ℕ → ℕ → Type 0
-FitsNumber s set number = TakesNumber s set number
+abbrev pub NumberFits : State → ℕ → ℕ → Type 0
+NumberFits s set number = NumberMayCome s set number
     × (number_cause (state_with s set number).mode (state_with s set number).announced (state_with s set number).maximum ≡ None)
 
 -- A subfile of `count` octets may come next, and nothing is wrong with it.
-abbrev pub FitsSubfile : State → ℕ → Type 0
-FitsSubfile s count = TakesSubfile s × (subfile_cause s.mode s.subfile s.announced s.maximum s.total count ≡ None)
+abbrev pub SubfileFits : State → ℕ → Type 0
+SubfileFits s count = SubfileMayCome s × (subfile_cause s.mode s.subfile s.announced s.maximum s.total count ≡ None)
 
 -- A reader that has not failed, seen as its state, accepts a number of dataset 7:`set`.
 abbrev pub AcceptsNumber : Option State → ℕ → ℕ → Type 0
-AcceptsNumber reader set number = (s : State) → reader ≡ Some s → FitsNumber s set number
+AcceptsNumber reader set number = (s : State) → reader ≡ Some s → NumberFits s set number
 
 -- A reader that has not failed, seen as its state, accepts the head of a subfile of `count` octets.
 abbrev pub AcceptsSubfile : Option State → ℕ → Type 0
-AcceptsSubfile reader count = (s : State) → reader ≡ Some s → FitsSubfile s count
+AcceptsSubfile reader count = (s : State) → reader ≡ Some s → SubfileFits s count
 
 -- the numbers of 7:10, 7:20, 7:90 and 7:95
 abbrev pub state_numbers : State → List (Option ℕ)
@@ -91,45 +91,45 @@ pub record IsStateAt (s : State) (p : Place) : Type 0 where
 
 -- The reader, seen as its state, is in the state after the tokens of the place, which the record
 -- layer accepts: they are a viable prefix.
-pub record StandsAt (reader : Option State) (p : Place) : Type 0 where
+pub record ObjectReaderStandsAt (reader : Option State) (p : Place) : Type 0 where
   pub state : State
   pub is_state : reader ≡ Some state
   pub tells : IsStateAt state p
-  pub stated : AreStated p.stated
+  pub stated : AreStatedNumbers p.stated
   pub subfiles : p.lengths ≡ [] → p.ending ≡ NotEnded
-  pub duties : 0 < length p.lengths → HasBoth p.stated
-  pub alive : IsAlive ObjectLanguage (tokens_of p)
+  pub duties : 0 < length p.lengths → HasModeAndLargest p.stated
+  pub alive : IsViablePrefix ObjectLanguage (tokens_of p)
 
 -- A token that the record layer accepts takes the reader from each place to the place after it.
-abbrev pub LeadsOn : Option State → ObjectToken → Option State → Type 0
-LeadsOn old token new = (p : Place) → StandsAt old p → MayFollow p token → StandsAt new (place_after p token)
+abbrev pub TokenAdvancesObject : Option State → ObjectToken → Option State → Type 0
+TokenAdvancesObject old token new = (p : Place) → ObjectReaderStandsAt old p → MayFollow p token → ObjectReaderStandsAt new (place_after p token)
 
 -- At each place of the reader where the record layer accepts the token, the tokens with it are no
 -- longer a viable prefix, and this is the first cause.
-abbrev pub Refuses : Option State → ObjectToken → SizeCause → Type 0
-Refuses old token cause = (p : Place) → StandsAt old p → MayFollow p token
-    → DiesAt ObjectLanguage (tokens_of p) token × (cause_at p token ≡ Some cause)
+abbrev pub RejectsObjectToken : Option State → ObjectToken → SizeCause → Type 0
+RejectsObjectToken old token cause = (p : Place) → ObjectReaderStandsAt old p → MayFollow p token
+    → EndsViablePrefix ObjectLanguage (tokens_of p) token × (cause_at p token ≡ Some cause)
 
 -- At each place of the reader, the tokens with the token are a viable prefix.
-abbrev pub LivesWith : Option State → ObjectToken → Type 0
-LivesWith old token = (p : Place) → StandsAt old p → MayFollow p token → IsAlive ObjectLanguage (tokens_of p ++ token ∷ [])
+abbrev pub IsViableWithToken : Option State → ObjectToken → Type 0
+IsViableWithToken old token = (p : Place) → ObjectReaderStandsAt old p → MayFollow p token → IsViablePrefix ObjectLanguage (tokens_of p ++ token ∷ [])
 
 -- At each place of the reader, the end of the object may come, and then this number of 9:10.
-pub record EndsAs (old : Option State) (number : ℕ) (new : Option State) : Type 0 where
+pub record ObjectMayEndAs (old : Option State) (number : ℕ) (new : Option State) : Type 0 where
   pub ended : Option State
-  pub at_end : LeadsOn old ObjectEnded ended
-  pub at_number : LeadsOn ended (Confirmed number) new
+  pub at_end : TokenAdvancesObject old ObjectEnded ended
+  pub at_number : TokenAdvancesObject ended (Confirmed number) new
 
 -- With the end the tokens are no longer a viable prefix; or with the end they are, and with the
 -- number they are not.
-abbrev pub RefusesToEnd : Option State → ℕ → Type 0
-RefusesToEnd old number = ((cause : SizeCause) × Refuses old ObjectEnded cause)
-    ⊎ ((ended : Option State) × LeadsOn old ObjectEnded ended × ((cause : SizeCause) × Refuses ended (Confirmed number) cause))
+abbrev pub RejectsObjectEnd : Option State → ℕ → Type 0
+RejectsObjectEnd old number = ((cause : SizeCause) × RejectsObjectToken old ObjectEnded cause)
+    ⊎ ((ended : Option State) × TokenAdvancesObject old ObjectEnded ended × ((cause : SizeCause) × RejectsObjectToken ended (Confirmed number) cause))
 
 -- A value is rejected for its cause; no sink is called.
-abbrev pub RefusesValue : Option State → ObjectToken → ObjectFault → Type 0
-RefusesValue old token (Size cause) = Refuses old token cause
-RefusesValue old token (Stopped stop) = ⊥
+abbrev pub RejectsObjectValue : Option State → ObjectToken → ObjectFault → Type 0
+RejectsObjectValue old token (Size cause) = RejectsObjectToken old token cause
+RejectsObjectValue old token (Stopped stop) = ⊥
 
 -- what the sink receives at a head: the end of the object at record 9
 abbrev pub events_at : ℕ → List ObjectEvent
@@ -137,14 +137,14 @@ events_at rec = if rec == 9 then ObjectEnd ∷ [] else []
 
 -- A head is rejected for its cause, and the sink receives nothing; or the sink rejected the end of
 -- the object, and the `taken` of its stop is 0.
-abbrev pub RefusesHead : {S : Type 0} → (S → List ObjectEvent → S → Type 0) → (S → List ObjectEvent → ObjectEvent → S → Type 0) → Option State → ObjectToken → S → S → ObjectFault → Type 0
-RefusesHead goes stops old token sink now (Size cause) = Refuses old token cause × goes sink [] now
-RefusesHead goes stops old token sink now (Stopped stop) = (token ≡ ObjectEnded) × (stop.taken ≡ 0) × LivesWith old token × stops sink [] ObjectEnd now
+abbrev pub RejectsObjectHead : {S : Type 0} → (S → List ObjectEvent → S → Type 0) → (S → List ObjectEvent → ObjectEvent → S → Type 0) → Option State → ObjectToken → S → S → ObjectFault → Type 0
+RejectsObjectHead goes stops old token sink now (Size cause) = RejectsObjectToken old token cause × goes sink [] now
+RejectsObjectHead goes stops old token sink now (Stopped stop) = (token ≡ ObjectEnded) × (stop.taken ≡ 0) × IsViableWithToken old token × stops sink [] ObjectEnd now
 
 -- The sink rejected an octet of the slice.
-abbrev pub RefusesRun : {S : Type 0} → (S → List ObjectEvent → ObjectEvent → S → Type 0) → List ℕ → S → S → ObjectFault → Type 0
-RefusesRun stops run sink now (Size cause) = ⊥
-RefusesRun stops run sink now (Stopped stop) =
+abbrev pub RejectsObjectOctet : {S : Type 0} → (S → List ObjectEvent → ObjectEvent → S → Type 0) → List ℕ → S → S → ObjectFault → Type 0
+RejectsObjectOctet stops run sink now (Size cause) = ⊥
+RejectsObjectOctet stops run sink now (Stopped stop) =
     (stop.taken < length run) × stops sink (map ObjectOctet (take stop.taken run)) (ObjectOctet (slice_index run stop.taken)) now
 
 -- The sizes are those of the place.
@@ -153,12 +153,12 @@ IsSizes p s = (known : Bool) × (subfile : ℕ) × (number_at 10 p.stated ≡ So
     × (s ≡ sizes_at known subfile p.stated p.lengths)
 
 -- the numbers of 7:10, 7:20, 7:90 and 7:95, each if it is stated
-abbrev pub stated_numbers : List Stated → List (Option ℕ)
+abbrev pub stated_numbers : List StatedNumber → List (Option ℕ)
 stated_numbers ps = number_at 10 ps ∷ number_at 20 ps ∷ number_at 90 ps ∷ number_at 95 ps ∷ []
 
 -- Of the last subfile, which counts `count` octets, `left` octets remain, at least one. All others
 -- were received.
-pub record LastIsBegun (lengths : List ℕ) (taken count left : ℕ) : Type 0 where
+pub record LastIsPartial (lengths : List ℕ) (taken count left : ℕ) : Type 0 where
   pub finished : List ℕ
   pub lengths_are : lengths ≡ finished ++ count ∷ []
   pub some : 1 ≤ left
@@ -167,22 +167,22 @@ pub record LastIsBegun (lengths : List ℕ) (taken count left : ℕ) : Type 0 wh
 
 -- Of the subfiles `taken` octets were received: all of them, or all but those that remain of the
 -- one in progress.
-abbrev pub OctetsAre : List ℕ → ℕ → Option (ℕ × ℕ) → Type 0
-OctetsAre lengths taken None = sum lengths ≡ taken
-OctetsAre lengths taken (Some begun) = LastIsBegun lengths taken begun.0 begun.1
+abbrev pub TakenOctetsAre : List ℕ → ℕ → Option (ℕ × ℕ) → Type 0
+TakenOctetsAre lengths taken None = sum lengths ≡ taken
+TakenOctetsAre lengths taken (Some begun) = LastIsPartial lengths taken begun.0 begun.1
 
 -- The place has these numbers of record 7, `heads` heads of subfiles, and `taken` octets that were
 -- received. The object has not ended.
-pub record IsAt (numbers : List (Option ℕ)) (taken : ℕ) (begun : Option (ℕ × ℕ)) (heads : ℕ) (p : Place) : Type 0 where
+pub record PlaceHasNumbers (numbers : List (Option ℕ)) (taken : ℕ) (begun : Option (ℕ × ℕ)) (heads : ℕ) (p : Place) : Type 0 where
   pub numbers_are : numbers ≡ stated_numbers p.stated
-  pub octets : OctetsAre p.lengths taken begun
+  pub octets : TakenOctetsAre p.lengths taken begun
   pub subfiles : heads ≡ length p.lengths
   pub not_ended : p.ending ≡ NotEnded
 
 -- Tokens that the record layer and the limits accept reach the place, and are a viable prefix.
 pub record IsPossible (p : Place) : Type 0 where
-  pub stated : AreStated p.stated
+  pub stated : AreStatedNumbers p.stated
   pub subfiles : p.lengths ≡ [] → p.ending ≡ NotEnded
-  pub duties : 0 < length p.lengths → HasBoth p.stated
+  pub duties : 0 < length p.lengths → HasModeAndLargest p.stated
   pub few : length p.lengths ≤ max_subfiles
-  pub alive : IsAlive ObjectLanguage (tokens_of p)
+  pub alive : IsViablePrefix ObjectLanguage (tokens_of p)

@@ -1,10 +1,10 @@
 -- A writer of subfiles: what it has received, what it has written, and how a call ends.
 use Rattle.std.specs.Prelude.{◌≡◌, ℕ, ◌+◌, ◌<◌, ◌≤◌, ◌⊎◌, min, nat_le, not, Bool, true, false, if◌then◌else◌, List, [], ◌++◌, length, Option, Some, None}
-use Rattle.iim_dataset.specs.States.Devices.{Device, Wrote, Broke, WithinInterruptionLimit}
+use Rattle.iim_dataset.specs.States.Devices.{Device, WroteAllOf, FailedOrInterrupted, WithinInterruptionLimit}
 use Rattle.std.specs.Io.KnownBytes.{Appends}
 use Rattle.iim_dataset.specs.Format.Datasets.{canonical_stream}
 use Rattle.iim_object.specs.Format.Objects.{bound_of, is_short, Known}
-use Rattle.iim_object.specs.Format.Packing.{AreFull, joined_parts, plan_datasets, subfile_datasets, IsWritten}
+use Rattle.iim_object.specs.Format.Packing.{AreFull, joined_parts, plan_datasets, subfile_datasets, IsWrittenObject}
 use Rattle.iim_object.specs.declared.{plan.Plan.Plan, writing.cause.PackCause.PackCause}
 use Rattle.iim_object.specs.declared.writing.cause.PackCause.TheVariants as causes
 
@@ -21,12 +21,12 @@ pub record Writing (W : Type 0) : Type 0 where
   pub writer : W
 
 -- the greatest number of octets of the plan's object
-abbrev pub most_of : Plan → ℕ
-most_of plan = bound_of plan.subfile plan.size
+abbrev pub plan_bound : Plan → ℕ
+plan_bound plan = bound_of plan.subfile plan.size
 
 -- the capacity of the plan's writer: a subfile or the bound, whichever is less
-abbrev pub room_of : Plan → ℕ
-room_of plan = min plan.subfile (most_of plan)
+abbrev pub plan_capacity : Plan → ℕ
+plan_capacity plan = min plan.subfile (plan_bound plan)
 
 -- the number of octets of the object that were received
 abbrev pub total_of : {W : Type 0} → Writing W → ℕ
@@ -37,8 +37,8 @@ abbrev pub plan_octets : Plan → List ℕ
 plan_octets plan = canonical_stream (plan_datasets plan.subfile plan.size)
 
 -- what was written after record 7 and these subfiles
-abbrev pub octets_out : Plan → List (List ℕ) → List ℕ
-octets_out plan parts = canonical_stream (plan_datasets plan.subfile plan.size ++ subfile_datasets parts)
+abbrev pub octets_written : Plan → List (List ℕ) → List ℕ
+octets_written plan parts = canonical_stream (plan_datasets plan.subfile plan.size ++ subfile_datasets parts)
 
 -- The writer has received this object, and has written `out`: record 7 and full subfiles. Their
 -- data and the buffered octets are the object. Nothing is buffered only of an empty object.
@@ -49,16 +49,16 @@ pub record HasWritten {W : Type 0} (w : Writing W) (object out : List ℕ) : Typ
   pub object_is : object ≡ joined_parts parts ++ w.held
   pub some : w.held ≡ [] → object ≡ []
   pub sent : w.sent ≡ length (joined_parts parts)
-  pub within : length w.held ≤ room_of w.plan
-  pub out_is : out ≡ octets_out w.plan parts
+  pub within : length w.held ≤ plan_capacity w.plan
+  pub out_is : out ≡ octets_written w.plan parts
   pub written : w.written ≡ length out
 
 -- The writer received these octets, whatever it had received before: some more octets were written,
 -- with at most a million interruptions in a row for each.
-pub record Lengthens {W : Type 0} (state : W → Device) (old new : Writing W) (octets : List ℕ) : Type 0 where
+pub record WriterAccepts {W : Type 0} (state : W → Device) (old new : Writing W) (octets : List ℕ) : Type 0 where
   pub more : List ℕ
-  pub wrote : Wrote (state old.writer) (state new.writer) more
-  pub patience : WithinInterruptionLimit (length more) (state old.writer) (state new.writer)
+  pub wrote : WroteAllOf (state old.writer) (state new.writer) more
+  pub retry_limit : WithinInterruptionLimit (length more) (state old.writer) (state new.writer)
   pub plan : new.plan ≡ old.plan
   pub unfailed : new.failed ≡ false
   pub counted : new.written ≡ old.written + length more
@@ -66,51 +66,51 @@ pub record Lengthens {W : Type 0} (state : W → Device) (old new : Writing W) (
   pub stands : (object out : List ℕ) → HasWritten old object out → HasWritten new (object ++ octets) (out ++ more)
 
 -- xs is a prefix of ys
-abbrev pub Begins : List ℕ → List ℕ → Type 0
-Begins xs ys = (rest : List ℕ) × (xs ++ rest ≡ ys)
+abbrev pub IsPrefix : List ℕ → List ℕ → Type 0
+IsPrefix xs ys = (rest : List ℕ) × (xs ++ rest ≡ ys)
 
 -- A write failed: some more octets were written and counted, with at most a million interruptions
 -- in a row for each and for the next. Whatever the writer had received, what was written is a
 -- prefix of all that may be written: `May object whole` states what.
-pub record BreaksOff {W : Type 0} (state : W → Device) (May : List ℕ → List ℕ → Type 0) (old new : Writing W) : Type 0 where
+pub record WriterFails {W : Type 0} (state : W → Device) (May : List ℕ → List ℕ → Type 0) (old new : Writing W) : Type 0 where
   pub more : List ℕ
   pub appends : Appends (state old.writer).octets (state new.writer).octets more
-  pub broke : Broke (state old.writer) (state new.writer)
-  pub patience : WithinInterruptionLimit (length more + 1) (state old.writer) (state new.writer)
+  pub broke : FailedOrInterrupted (state old.writer) (state new.writer)
+  pub retry_limit : WithinInterruptionLimit (length more + 1) (state old.writer) (state new.writer)
   pub plan : new.plan ≡ old.plan
   pub failed : new.failed ≡ true
   pub counted : new.written ≡ old.written + length more
-  pub begins : (object out whole : List ℕ) → HasWritten old object out → May object whole → Begins (out ++ more) whole
+  pub begins : (object out whole : List ℕ) → HasWritten old object out → May object whole → IsPrefix (out ++ more) whole
 
 -- the octets are written of an object that begins with `front`
 abbrev pub IsWrittenFrom : Plan → List ℕ → List ℕ → Type 0
-IsWrittenFrom plan front whole = (rest : List ℕ) × IsWritten plan.subfile plan.size (front ++ rest) whole
+IsWrittenFrom plan front whole = (rest : List ℕ) × IsWrittenObject plan.subfile plan.size (front ++ rest) whole
 
 -- the octets are written of an object that begins with `object ++ octets`
-abbrev pub ContinuesWith : Plan → List ℕ → List ℕ → List ℕ → Type 0
-ContinuesWith plan octets object whole = IsWrittenFrom plan (object ++ octets) whole
+abbrev pub IsWrittenOfMore : Plan → List ℕ → List ℕ → List ℕ → Type 0
+IsWrittenOfMore plan octets object whole = IsWrittenFrom plan (object ++ octets) whole
 
 -- the octets are written of the object
-abbrev pub IsTheWhole : Plan → List ℕ → List ℕ → Type 0
-IsTheWhole plan object whole = IsWritten plan.subfile plan.size object whole
+abbrev pub IsWrittenOf : Plan → List ℕ → List ℕ → Type 0
+IsWrittenOf plan object whole = IsWrittenObject plan.subfile plan.size object whole
 
 -- The object is written, as the plan requires, with at most a million interruptions in a row for
 -- each octet that was not written before.
-pub record Finishes {W : Type 0} (state : W → Device) (old : Writing W) (writer : W) : Type 0 where
+pub record WriterFinishes {W : Type 0} (state : W → Device) (old : Writing W) (writer : W) : Type 0 where
   pub more : List ℕ
-  pub wrote : Wrote (state old.writer) (state writer) more
-  pub patience : WithinInterruptionLimit (length more) (state old.writer) (state writer)
-  pub whole : (object out : List ℕ) → HasWritten old object out → IsWritten old.plan.subfile old.plan.size object (out ++ more)
+  pub wrote : WroteAllOf (state old.writer) (state writer) more
+  pub retry_limit : WithinInterruptionLimit (length more) (state old.writer) (state writer)
+  pub whole : (object out : List ℕ) → HasWritten old object out → IsWrittenObject old.plan.subfile old.plan.size object (out ++ more)
 
 -- ---- Causes.
 
 -- an object of this many octets exceeds the bound of the plan
-abbrev pub passes_plan : Plan → ℕ → Bool
-passes_plan plan octets = not (nat_le octets (most_of plan))
+abbrev pub exceeds_plan : Plan → ℕ → Bool
+exceeds_plan plan octets = not (nat_le octets (plan_bound plan))
 
 -- An object of this many octets exceeds the bound of the plan.
-abbrev pub PassesPlan : Plan → ℕ → Type 0
-PassesPlan plan octets = most_of plan < octets
+abbrev pub ExceedsPlan : Plan → ℕ → Type 0
+ExceedsPlan plan octets = plan_bound plan < octets
 
 -- An object of this many octets is below a known size.
 abbrev pub IsBelowKnown : Plan → ℕ → Type 0
@@ -121,7 +121,7 @@ IsBelowKnown plan octets = (n : ℕ) × (plan.size ≡ Known n) × (octets < n)
 abbrev pub write_cause : {W : Type 0} → Writing W → ℕ → Option PackCause
 write_cause w n =
     if w.failed then Some causes.Failed
-    else if passes_plan w.plan (total_of w + n) then Some causes.PastAnnounced
+    else if exceeds_plan w.plan (total_of w + n) then Some causes.PastAnnounced
     else None
 
 -- The first cause against the end: a write failed before, or the object is below the known size.
@@ -133,12 +133,12 @@ finish_cause w =
 
 -- Why n more octets are rejected, in this order: a write failed before; the object would exceed the
 -- bound of the plan, of which the end needs nothing.
-abbrev pub RefusesOctets : {W : Type 0} → Writing W → ℕ → PackCause → Type 0
-RefusesOctets w n cause = ((w.failed ≡ true) × (cause ≡ causes.Failed))
-    ⊎ ((w.failed ≡ false) × PassesPlan w.plan (total_of w + n) × (cause ≡ causes.PastAnnounced))
+abbrev pub RejectsOctets : {W : Type 0} → Writing W → ℕ → PackCause → Type 0
+RejectsOctets w n cause = ((w.failed ≡ true) × (cause ≡ causes.Failed))
+    ⊎ ((w.failed ≡ false) × ExceedsPlan w.plan (total_of w + n) × (cause ≡ causes.PastAnnounced))
 
 -- Why the end is rejected, in this order: a write failed before; the object is below the known
 -- size.
-abbrev pub RefusesEnd : {W : Type 0} → Writing W → PackCause → Type 0
-RefusesEnd w cause = ((w.failed ≡ true) × (cause ≡ causes.Failed))
+abbrev pub RejectsEnd : {W : Type 0} → Writing W → PackCause → Type 0
+RejectsEnd w cause = ((w.failed ≡ true) × (cause ≡ causes.Failed))
     ⊎ ((w.failed ≡ false) × IsBelowKnown w.plan (total_of w) × (cause ≡ causes.ShortOfAnnounced))

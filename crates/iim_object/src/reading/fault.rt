@@ -1,7 +1,7 @@
 //! Why an object is rejected.
 
 ghost use Rattle.std.specs.Prelude.{◌≡◌, Some};
-ghost use Rattle.iim_object.specs.Format.Causes.{number_of, name_of, text_of, fault_number, fault_name, fault_text};
+ghost use Rattle.iim_object.specs.Format.Causes.{number_of_size_cause, name_of_size_cause, text_of_size_cause, number_of_object_fault, name_of_object_fault, text_of_object_fault};
 ghost use Rattle.iim_object.specs.declared.reading.fault.ObjectFault.TheVariants.{Size, Stopped};
 
 use iim_dataset::Stop;
@@ -31,14 +31,14 @@ pub enum SizeCause {
 impl SizeCause {
     /// Returns the number of the cause, as it is printed.
     pub fn number(self) -> u8
-        ensures { result ≡ number_of self }
+        ensures { result ≡ number_of_size_cause self }
     {
         self as u8
     }
 
     /// Returns the name of the cause, as it is printed.
     pub fn name(self) -> &'static str
-        ensures { result.now ≡ name_of self }
+        ensures { result.now ≡ name_of_size_cause self }
     {
         match self {
             SizeCause::ModeClash => "ModeClash",
@@ -53,7 +53,7 @@ impl SizeCause {
 
 /// Writes the number and the name, as `20 ModeClash`.
 impl Display for SizeCause {
-    ghost output = { λ cause. Some (text_of cause) };
+    ghost output = { λ cause. Some (text_of_size_cause cause) };
 
     fn fmt<W: fmt::Write>(&self, f: &mut Formatter<W>) -> fmt::Result {
         let number = self.number();
@@ -80,7 +80,7 @@ pub enum ObjectFault {
 impl ObjectFault {
     /// Returns the number, as it is printed. A stop of the sink is 60.
     pub fn number(self) -> u8
-        ensures { result ≡ fault_number self }
+        ensures { result ≡ number_of_object_fault self }
     {
         match self {
             ObjectFault::Size { cause } => cause.number(),
@@ -90,7 +90,7 @@ impl ObjectFault {
 
     /// Returns the name, as it is printed. A stop of the sink is `Sink`.
     pub fn name(self) -> &'static str
-        ensures { result.now ≡ fault_name self }
+        ensures { result.now ≡ name_of_object_fault self }
     {
         match self {
             ObjectFault::Size { cause } => cause.name(),
@@ -101,7 +101,7 @@ impl ObjectFault {
 
 /// Writes the number and the name, as `20 ModeClash` or `60 Sink`.
 impl Display for ObjectFault {
-    ghost output = { λ fault. Some (fault_text fault) };
+    ghost output = { λ fault. Some (text_of_object_fault fault) };
 
     fn fmt<W: fmt::Write>(&self, f: &mut Formatter<W>) -> fmt::Result {
         let number = self.number();

@@ -1,11 +1,11 @@
 //! States that are restored from numbers.
 
 ghost use Rattle.std.specs.Prelude.{◌≡◌, ◌↔◌, ◌≤◌, ◌+◌, IsTrue, IsSome, IfSome, Some, None};
-ghost use Rattle.iim_object.specs.States.Reading.{IsState, state_numbers, StandsAt, IsAt, IsPossible};
+ghost use Rattle.iim_object.specs.States.Reading.{IsState, state_numbers, ObjectReaderStandsAt, PlaceHasNumbers, IsPossible};
 ghost use Rattle.iim_object.specs.Format.Objects.{Place};
 
 use crate::reading::state::State;
-use crate::reading::step::take_subfile;
+use crate::reading::step::accept_subfile;
 
 /// Returns the state after these numbers of record 7 and `subfiles` complete subfiles, which have
 /// `total` octets together. Returns `None` if no tokens reach it.
@@ -23,7 +23,7 @@ fn between(numbers: State, subfiles: u64, total: u64) -> Option<State>
 
 /// Checks whether a subfile may be in progress: `left` of its `count` octets remain, `taken` octets
 /// of all subfiles were received, and `heads` heads.
-fn may_have_begun(taken: u64, count: u64, left: u64, heads: u64) -> bool
+fn may_be_in_progress(taken: u64, count: u64, left: u64, heads: u64) -> bool
     ensures { IsTrue result ↔ ((1 ≤ left) × (left ≤ count) × (1 ≤ heads) × (count ≤ taken + left)) }
 {
     0 < left && left <= count && 0 < heads && count - left <= taken
@@ -34,18 +34,19 @@ fn may_have_begun(taken: u64, count: u64, left: u64, heads: u64) -> bool
 fn within(numbers: State, taken: u64, count: u64, left: u64, heads: u64) -> Option<State>
     ensures is_state { IfSome result IsState }
     ensures exactly { IsSome result ↔
-        ((p : Place) × IsAt (state_numbers numbers) taken (Some (count, left)) heads p × IsPossible p) }
+        ((p : Place) × PlaceHasNumbers (state_numbers numbers) taken (Some (count, left)) heads p × IsPossible p) }
     ensures stands { IfSome result (λ state. (p : Place)
-        → IsAt (state_numbers numbers) taken (Some (count, left)) heads p → IsPossible p → StandsAt (Some state) p) }
+        → PlaceHasNumbers (state_numbers numbers) taken (Some (count, left)) heads p → IsPossible p
+        → ObjectReaderStandsAt (Some state) p) }
 {
-    if !may_have_begun(taken, count, left, heads) {
+    if !may_be_in_progress(taken, count, left, heads) {
         return None;
     }
     let before = between(numbers, heads - 1, taken - (count - left))?;
-    if !before.takes_subfile() {
+    if !before.subfile_may_follow() {
         return None;
     }
-    take_subfile(before, count).ok()
+    accept_subfile(before, count).ok()
 }
 
 /// Returns the state after these numbers of 7:10, 7:20, 7:90 and 7:95, then `heads` heads of
@@ -57,9 +58,9 @@ pub(crate) fn state_at(
     heads: u64,
 ) -> Option<State>
     ensures is_state { IfSome result IsState }
-    ensures exactly { IsSome result ↔ ((p : Place) × IsAt numbers taken begun heads p × IsPossible p) }
-    ensures stands { IfSome result (λ state. (p : Place) → IsAt numbers taken begun heads p → IsPossible p
-        → StandsAt (Some state) p) }
+    ensures exactly { IsSome result ↔ ((p : Place) × PlaceHasNumbers numbers taken begun heads p × IsPossible p) }
+    ensures stands { IfSome result (λ state. (p : Place) → PlaceHasNumbers numbers taken begun heads p → IsPossible p
+        → ObjectReaderStandsAt (Some state) p) }
 {
     let numbers = State::of_numbers(numbers);
     match begun {

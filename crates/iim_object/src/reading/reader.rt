@@ -4,14 +4,16 @@ ghost use Rattle.std.specs.Prelude.{◌≡◌, ◌↔◌, ◌<◌, false, IsTrue
 ghost use Rattle.std.specs.Option.{ForSome};
 ghost use Rattle.iim_dataset.specs.Format.Datasets.{Dataset};
 ghost use Rattle.iim_object.specs.declared.reading.state.State.{State};
-ghost use Rattle.iim_object.specs.States.Reading.{IsState, state_numbers, AcceptsNumber, AcceptsSubfile, IsAt, IsPossible, stated_numbers, StandsAt, LeadsOn, Refuses, EndsAs, RefusesToEnd, RefusesValue, RefusesHead, RefusesRun, IsSizes, events_at};
+ghost use Rattle.iim_object.specs.States.Reading.{IsState, state_numbers, AcceptsNumber, AcceptsSubfile, PlaceHasNumbers, IsPossible, stated_numbers, ObjectReaderStandsAt, TokenAdvancesObject, RejectsObjectToken, ObjectMayEndAs, RejectsObjectEnd, RejectsObjectValue, RejectsObjectHead, RejectsObjectOctet, IsSizes, events_at};
 ghost use Rattle.iim_object.specs.Format.Objects.{max_subfiles, ObjectOctet, ObjectEnd, NumberRead, SubfileBegun, ObjectEnded, Place, ConfirmedAs, place_start, value_token, head_token, AreObjectRecords, HaveSizes, place_after_datasets};
 ghost use Rattle.iim_object.specs.declared.reading.fault.SizeCause.{SizeCause};
 
 use crate::reading::fault::ObjectFault;
 use crate::reading::place::state_at;
 use crate::reading::state::{KNOWN, State, is_given};
-use crate::reading::step::{take_confirmed, take_end, take_number, take_subfile};
+use crate::reading::step::{
+    accept_confirmed_size, accept_number, accept_object_end, accept_subfile,
+};
 use crate::sink::ObjectSink;
 use crate::size::Sizes;
 use iim_tables::records::POST_OBJECT;
@@ -22,9 +24,9 @@ use std::marker::Model;
 ///
 /// Its contracts hold for tokens that the record layer and the limits accept. From each state that
 /// the reader may be in, a token reaches the next state; or with it the tokens are no longer a
-/// viable prefix, and the fault is the first cause. The lemma `tokens_follow` relates these states
+/// viable prefix, and the fault is the first cause. The lemma `tokens_extend_the_place` relates these states
 /// to datasets. Contracts see the reader as the numbers that it stores, and as `None` after an
-/// error. Some tokens reach each state that it may have (`places_are_reached`).
+/// error. Some tokens reach each state that it may have (`object_states_are_reached`).
 #[derive(Debug, Drop)]
 pub struct ObjectReader {
     /// The state; `None` after an error.
@@ -43,7 +45,7 @@ impl ObjectReader {
     /// Creates a reader at the start of an object.
     pub fn new() -> ObjectReader
         ensures takes_calls { IsSome result }
-        ensures stands { StandsAt result place_start }
+        ensures stands { ObjectReaderStandsAt result place_start }
     {
         let state = Some(State::new());
         ObjectReader { state }
@@ -59,9 +61,10 @@ impl ObjectReader {
         begun: Option<(u64, u64)>,
         heads: u64,
     ) -> Option<ObjectReader>
-        ensures exactly { IsSome result ↔ ((p : Place) × IsAt numbers taken begun heads p × IsPossible p) }
-        ensures stands { IfSome result (λ reader. (p : Place) → IsAt numbers taken begun heads p → IsPossible p
-            → StandsAt reader p) }
+        ensures exactly { IsSome result ↔ ((p : Place) × PlaceHasNumbers numbers taken begun heads p × IsPossible p) }
+        ensures stands { IfSome result (λ reader. (p : Place) → PlaceHasNumbers numbers taken begun heads p
+            → IsPossible p
+            → ObjectReaderStandsAt reader p) }
         ensures takes_calls { IfSome result IsSome }
     {
         let state = Some(state_at(numbers, taken, begun, heads)?);
@@ -94,15 +97,15 @@ impl ObjectReader {
     pub fn value(&mut self, rec: u8, set: u8, number: u64) -> Result<(), ObjectFault>
         requires { IsSome self.old }
         ensures takes_calls { OnOk result (IsSome self.new) }
-        ensures leads_on { OnOk result (LeadsOn self.old (value_token rec set number) self.new) }
+        ensures leads_on { OnOk result (TokenAdvancesObject self.old (value_token rec set number) self.new) }
         ensures failed { OnErr result (self.new ≡ None) }
-        ensures refused { IfErr result (RefusesValue self.old (value_token rec set number)) }
+        ensures refused { IfErr result (RejectsObjectValue self.old (value_token rec set number)) }
     {
         let state = self.take_state();
         let next = if rec == POST_OBJECT {
-            take_confirmed(state, number)?
+            accept_confirmed_size(state, number)?
         } else {
-            take_number(state, set, number)?
+            accept_number(state, set, number)?
         };
         self.state = Some(next);
         Ok(())
@@ -114,7 +117,8 @@ impl ObjectReader {
     pub fn accepts_number(&self, set: u8, number: u64) -> bool
         requires { IsSome self.now }
         ensures exactly { IsTrue result ↔ AcceptsNumber self.now set number }
-        ensures refused { result ≡ false → (cause : SizeCause) × Refuses self.now (NumberRead set number) cause }
+        ensures refused { result ≡ false → (cause : SizeCause) × RejectsObjectToken self.now
+            (NumberRead set number) cause }
     {
         match &self.state {
             Some(state) => state.accepts_number(set, number),
@@ -128,7 +132,7 @@ impl ObjectReader {
         requires takes_calls { IsSome self.old }
         requires accepts { AcceptsNumber self.old set number }
         ensures takes_calls { IsSome self.new }
-        ensures leads_on { LeadsOn self.old (NumberRead set number) self.new }
+        ensures leads_on { TokenAdvancesObject self.old (NumberRead set number) self.new }
     {
         match &mut self.state {
             Some(state) => state.set_number(set, number),
@@ -142,8 +146,9 @@ impl ObjectReader {
     pub fn accepts_subfile(&self, count: u64) -> bool
         requires { IsSome self.now }
         ensures exactly { IsTrue result ↔ AcceptsSubfile self.now count }
-        ensures few { IsTrue result → (p : Place) → StandsAt self.now p → length p.lengths < max_subfiles }
-        ensures refused { result ≡ false → (cause : SizeCause) × Refuses self.now (SubfileBegun count) cause }
+        ensures few { IsTrue result → (p : Place) → ObjectReaderStandsAt self.now p → length p.lengths < max_subfiles }
+        ensures refused { result ≡ false → (cause : SizeCause) × RejectsObjectToken self.now
+            (SubfileBegun count) cause }
     {
         match &self.state {
             Some(state) => state.accepts_subfile(count),
@@ -157,7 +162,7 @@ impl ObjectReader {
         requires takes_calls { IsSome self.old }
         requires accepts { AcceptsSubfile self.old count }
         ensures takes_calls { IsSome self.new }
-        ensures leads_on { LeadsOn self.old (SubfileBegun count) self.new }
+        ensures leads_on { TokenAdvancesObject self.old (SubfileBegun count) self.new }
     {
         match &mut self.state {
             Some(state) => state.add_subfile(count),
@@ -171,8 +176,8 @@ impl ObjectReader {
     #[inline(always)]
     pub fn may_end(&self, number: u64) -> bool
         requires { IsSome self.now }
-        ensures ends { IsTrue result → EndsAs self.now number self.now }
-        ensures refused { result ≡ false → RefusesToEnd self.now number }
+        ensures ends { IsTrue result → ObjectMayEndAs self.now number self.now }
+        ensures refused { result ≡ false → RejectsObjectEnd self.now number }
     {
         match &self.state {
             Some(state) => state.end_cause().is_none() && state.confirmed_cause(number).is_none(),
@@ -197,17 +202,18 @@ impl ObjectReader {
         requires takes_calls { IsSome self.old }
         requires stands { S.stands sink.old }
         ensures takes_calls { OnOk result (IsSome self.new) }
-        ensures leads_on { OnOk result (LeadsOn self.old (head_token rec count) self.new) }
+        ensures leads_on { OnOk result (TokenAdvancesObject self.old (head_token rec count) self.new) }
         ensures told { OnOk result (S.goes sink.old (events_at rec) sink.new) }
         ensures untold { (rec ≡ 9 → ⊥) → sink.new ≡ sink.old }
         ensures failed { OnErr result (self.new ≡ None) }
-        ensures refused { IfErr result (RefusesHead S.goes S.stops self.old (head_token rec count) sink.old sink.new) }
+        ensures refused { IfErr result (RejectsObjectHead S.goes S.stops self.old
+            (head_token rec count) sink.old sink.new) }
     {
         if rec == POST_OBJECT {
             return self.end(sink);
         }
         match &mut self.state {
-            Some(state) => match take_subfile(*state, count) {
+            Some(state) => match accept_subfile(*state, count) {
                 Ok(next) => {
                     *state = next;
                     Ok(())
@@ -227,13 +233,13 @@ impl ObjectReader {
         requires takes_calls { IsSome self.old }
         requires stands { S.stands sink.old }
         ensures takes_calls { OnOk result (IsSome self.new) }
-        ensures leads_on { OnOk result (LeadsOn self.old ObjectEnded self.new) }
+        ensures leads_on { OnOk result (TokenAdvancesObject self.old ObjectEnded self.new) }
         ensures told { OnOk result (S.goes sink.old (ObjectEnd ∷ []) sink.new) }
         ensures failed { OnErr result (self.new ≡ None) }
-        ensures refused { IfErr result (RefusesHead S.goes S.stops self.old ObjectEnded sink.old sink.new) }
+        ensures refused { IfErr result (RejectsObjectHead S.goes S.stops self.old ObjectEnded sink.old sink.new) }
     {
         let state = self.take_state();
-        let ended = take_end(state)?;
+        let ended = accept_object_end(state)?;
         sink.close()?;
         self.state = Some(ended);
         Ok(())
@@ -252,7 +258,7 @@ impl ObjectReader {
         ensures told { OnOk result (S.goes sink.old (map ObjectOctet run.now) sink.new) }
         ensures stands { OnOk result (S.stands sink.new) }
         ensures failed { OnErr result (self.new ≡ None) }
-        ensures refused { IfErr result (RefusesRun S.stops run.now sink.old sink.new) }
+        ensures refused { IfErr result (RejectsObjectOctet S.stops run.now sink.old sink.new) }
     {
         match sink.run(run) {
             Ok(()) => Ok(()),
@@ -266,7 +272,7 @@ impl ObjectReader {
     /// Returns the total of the counts of the subfiles so far. The reader must not have failed.
     pub fn total(&self) -> u64
         requires { IsSome self.now }
-        ensures { (p : Place) → StandsAt self.now p → result ≡ sum p.lengths }
+        ensures { (p : Place) → ObjectReaderStandsAt self.now p → result ≡ sum p.lengths }
     {
         self.state.unwrap().total
     }
@@ -274,7 +280,7 @@ impl ObjectReader {
     /// Returns the number of subfiles so far. The reader must not have failed.
     pub fn subfiles(&self) -> u64
         requires { IsSome self.now }
-        ensures place { (p : Place) → StandsAt self.now p → result ≡ length p.lengths }
+        ensures place { (p : Place) → ObjectReaderStandsAt self.now p → result ≡ length p.lengths }
         ensures seen { (state : State) → self.now ≡ Some state → result ≡ state.subfiles }
     {
         self.state.unwrap().subfiles
@@ -284,7 +290,7 @@ impl ObjectReader {
     /// not have failed.
     pub fn numbers(&self) -> [Option<u64>; 4]
         requires { IsSome self.now }
-        ensures place { (p : Place) → StandsAt self.now p → result ≡ stated_numbers p.stated }
+        ensures place { (p : Place) → ObjectReaderStandsAt self.now p → result ≡ stated_numbers p.stated }
         ensures seen { (state : State) → self.now ≡ Some state → result ≡ state_numbers state }
     {
         self.state.unwrap().numbers()
@@ -294,8 +300,10 @@ impl ObjectReader {
     /// must not have failed.
     pub fn sizes(&self) -> Sizes
         requires { IsSome self.now }
-        ensures place { (p : Place) (n : ℕ) → StandsAt self.now p → p.ending ≡ ConfirmedAs n → IsSizes p result }
-        ensures records { (ds : List Dataset) (r : AreObjectRecords ds) → StandsAt self.now (place_after_datasets ds)
+        ensures place { (p : Place) (n : ℕ) → ObjectReaderStandsAt self.now p → p.ending ≡ ConfirmedAs n
+            → IsSizes p result }
+        ensures records { (ds : List Dataset) (r : AreObjectRecords ds) → ObjectReaderStandsAt self.now
+            (place_after_datasets ds)
             → HaveSizes r.r7 r.r8 r.r9 result }
     {
         let state = self.state.unwrap();

@@ -3,8 +3,8 @@
 ghost use Rattle.std.specs.Prelude.{◌≡◌, ◌↔◌, ◌+◌, ◌^◌, ◌<◌, ◌≤◌, IsTrue, IfSome, is_some};
 ghost use Rattle.iim_dataset.specs.Format.Octets.{greatest_u64};
 ghost use Rattle.iim_object.specs.Format.Objects.{mode_number};
-ghost use Rattle.iim_object.specs.States.Reading.{HasNumbers, HasSubfiles, IsState, state_numbers, FitsNumber, FitsSubfile, TakesNumber, TakesSubfile, state_start, state_with};
-ghost use Rattle.iim_object.specs.Format.Causes.{is_given, is_above, number_cause, bound, is_past, subfile_cause, end_cause, confirmed_cause};
+ghost use Rattle.iim_object.specs.States.Reading.{HasNumbers, HasSubfiles, IsState, state_numbers, NumberFits, SubfileFits, NumberMayCome, SubfileMayCome, state_start, state_with};
+ghost use Rattle.iim_object.specs.Format.Causes.{is_given, is_above, number_cause, bound, exceeds_bound, subfile_cause, end_cause, confirmed_cause};
 
 use crate::plan::MAX_SUBFILES;
 use crate::reading::fault::SizeCause;
@@ -210,8 +210,8 @@ impl State {
     /// Checks whether a number of record 7 may come next: no subfile has come, and its row allows
     /// the number.
     #[inline(always)]
-    pub(crate) fn takes_number(&self, set: u8, number: u64) -> bool
-        ensures { IsTrue result ↔ TakesNumber self.now set number }
+    pub(crate) fn number_may_follow(&self, set: u8, number: u64) -> bool
+        ensures { IsTrue result ↔ NumberMayCome self.now set number }
     {
         let in_row = match set {
             SIZE_MODE => number <= KNOWN,
@@ -225,8 +225,8 @@ impl State {
     /// Checks whether a subfile may come next: mode and largest subfile are given, and one more is
     /// not too many.
     #[inline(always)]
-    pub(crate) fn takes_subfile(&self) -> bool
-        ensures { IsTrue result ↔ TakesSubfile self.now }
+    pub(crate) fn subfile_may_follow(&self) -> bool
+        ensures { IsTrue result ↔ SubfileMayCome self.now }
     {
         self.mode.is_some() && self.subfile.is_some() && self.subfiles < MAX_SUBFILES
     }
@@ -247,8 +247,8 @@ impl State {
 
     /// Checks whether the object has more octets than it may, with `count` more.
     #[inline(always)]
-    fn is_past(&self, count: u64) -> bool
-        ensures { result ≡ is_past (bound self.now.announced self.now.maximum) self.now.total count }
+    fn exceeds_bound(&self, count: u64) -> bool
+        ensures { result ≡ exceeds_bound (bound self.now.announced self.now.maximum) self.now.total count }
     {
         let most = bound(self.announced, self.maximum);
         match self.total.checked_add(count) {
@@ -269,7 +269,7 @@ impl State {
         if count > self.subfile.unwrap_or(0) {
             return Some(SizeCause::SubfileTooLong);
         }
-        if self.is_past(count) {
+        if self.exceeds_bound(count) {
             return Some(SizeCause::PastSize);
         }
         None
@@ -301,9 +301,9 @@ impl State {
     #[inline(always)]
     pub(crate) fn accepts_number(&self, set: u8, number: u64) -> bool
         requires { HasNumbers self.now }
-        ensures { IsTrue result ↔ FitsNumber self.now set number }
+        ensures { IsTrue result ↔ NumberFits self.now set number }
     {
-        if !self.takes_number(set, number) {
+        if !self.number_may_follow(set, number) {
             return false;
         }
         match set {
@@ -319,8 +319,8 @@ impl State {
     /// Checks whether a subfile of `count` octets may come next, and nothing is wrong with it.
     #[inline(always)]
     pub(crate) fn accepts_subfile(&self, count: u64) -> bool
-        ensures { IsTrue result ↔ FitsSubfile self.now count }
+        ensures { IsTrue result ↔ SubfileFits self.now count }
     {
-        self.takes_subfile() && self.subfile_cause(count).is_none()
+        self.subfile_may_follow() && self.subfile_cause(count).is_none()
     }
 }

@@ -2,20 +2,20 @@
 
 ghost use Rattle.std.specs.Prelude.{Some, IfOk, IfErr, OnOk};
 ghost use Rattle.iim_object.specs.Format.Objects.{NumberRead, SubfileBegun, ObjectEnded, Confirmed};
-ghost use Rattle.iim_object.specs.States.Reading.{LeadsOn, LivesWith, Refuses, IsState};
+ghost use Rattle.iim_object.specs.States.Reading.{TokenAdvancesObject, IsViableWithToken, RejectsObjectToken, IsState};
 
 use crate::reading::fault::SizeCause;
 use crate::reading::state::State;
 
 /// Returns the state after a number of record 7. If none may come next, it is the same state.
 #[inline(always)]
-pub(crate) fn take_number(state: State, set: u8, number: u64) -> Result<State, SizeCause>
+pub(crate) fn accept_number(state: State, set: u8, number: u64) -> Result<State, SizeCause>
     requires { IsState state }
     ensures is_state { IfOk result IsState }
-    ensures leads_on { IfOk result (λ new. LeadsOn (Some state) (NumberRead set number) (Some new)) }
-    ensures refused { IfErr result (Refuses (Some state) (NumberRead set number)) }
+    ensures leads_on { IfOk result (λ new. TokenAdvancesObject (Some state) (NumberRead set number) (Some new)) }
+    ensures refused { IfErr result (RejectsObjectToken (Some state) (NumberRead set number)) }
 {
-    if !state.takes_number(set, number) {
+    if !state.number_may_follow(set, number) {
         return Ok(state);
     }
     let new = state.with_number(set, number);
@@ -28,13 +28,13 @@ pub(crate) fn take_number(state: State, set: u8, number: u64) -> Result<State, S
 /// Returns the state after the head of a subfile of `count` octets. If none may come next, it is
 /// the same state.
 #[inline(always)]
-pub(crate) fn take_subfile(state: State, count: u64) -> Result<State, SizeCause>
+pub(crate) fn accept_subfile(state: State, count: u64) -> Result<State, SizeCause>
     requires { IsState state }
     ensures is_state { IfOk result IsState }
-    ensures leads_on { IfOk result (λ new. LeadsOn (Some state) (SubfileBegun count) (Some new)) }
-    ensures refused { IfErr result (Refuses (Some state) (SubfileBegun count)) }
+    ensures leads_on { IfOk result (λ new. TokenAdvancesObject (Some state) (SubfileBegun count) (Some new)) }
+    ensures refused { IfErr result (RejectsObjectToken (Some state) (SubfileBegun count)) }
 {
-    if !state.takes_subfile() {
+    if !state.subfile_may_follow() {
         return Ok(state);
     }
     match state.subfile_cause(count) {
@@ -44,12 +44,12 @@ pub(crate) fn take_subfile(state: State, count: u64) -> Result<State, SizeCause>
 }
 
 /// Returns the state after the end of the object.
-pub(crate) fn take_end(state: State) -> Result<State, SizeCause>
+pub(crate) fn accept_object_end(state: State) -> Result<State, SizeCause>
     requires { IsState state }
     ensures is_state { IfOk result IsState }
-    ensures leads_on { IfOk result (λ new. LeadsOn (Some state) ObjectEnded (Some new)) }
-    ensures lives { OnOk result (LivesWith (Some state) ObjectEnded) }
-    ensures refused { IfErr result (Refuses (Some state) ObjectEnded) }
+    ensures leads_on { IfOk result (λ new. TokenAdvancesObject (Some state) ObjectEnded (Some new)) }
+    ensures lives { OnOk result (IsViableWithToken (Some state) ObjectEnded) }
+    ensures refused { IfErr result (RejectsObjectToken (Some state) ObjectEnded) }
 {
     match state.end_cause() {
         Some(cause) => Err(cause),
@@ -59,11 +59,11 @@ pub(crate) fn take_end(state: State) -> Result<State, SizeCause>
 
 /// Returns the state after the confirmed size.
 #[inline(always)]
-pub(crate) fn take_confirmed(state: State, number: u64) -> Result<State, SizeCause>
+pub(crate) fn accept_confirmed_size(state: State, number: u64) -> Result<State, SizeCause>
     requires { IsState state }
     ensures is_state { IfOk result IsState }
-    ensures leads_on { IfOk result (λ new. LeadsOn (Some state) (Confirmed number) (Some new)) }
-    ensures refused { IfErr result (Refuses (Some state) (Confirmed number)) }
+    ensures leads_on { IfOk result (λ new. TokenAdvancesObject (Some state) (Confirmed number) (Some new)) }
+    ensures refused { IfErr result (RejectsObjectToken (Some state) (Confirmed number)) }
 {
     match state.confirmed_cause(number) {
         Some(cause) => Err(cause),

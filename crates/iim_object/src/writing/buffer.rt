@@ -1,7 +1,7 @@
 //! A buffer for the octets of a subfile.
 
 ghost use Rattle.std.specs.Prelude.{◌≡◌, IfOk};
-ghost use Rattle.iim_object.specs.States.Writing.{room_of};
+ghost use Rattle.iim_object.specs.States.Writing.{plan_capacity};
 
 use crate::plan::Plan;
 use iim_dataset::internals::ReservedOctets;
@@ -18,14 +18,14 @@ pub struct SubfileBuffer {
 impl Model for SubfileBuffer {
     ghost use Rattle.iim_object.specs.declared.plan.Plan.{Plan};
     ghost use Rattle.std.specs.Prelude.{◌≡◌, []};
-    ghost use Rattle.iim_object.specs.States.Writing.{room_of};
+    ghost use Rattle.iim_object.specs.States.Writing.{plan_capacity};
 
     ghost Value = { Plan };
 
     ghost view = { λ b. b.plan };
 
     // The buffer is empty, and has exactly the capacity that the plan needs.
-    ghost invariant = { λ b. (b.octets.items ≡ []) × (b.octets.room ≡ room_of b.plan) };
+    ghost invariant = { λ b. (b.octets.items ≡ []) × (b.octets.room ≡ plan_capacity b.plan) };
 }
 
 impl SubfileBuffer {
@@ -43,7 +43,7 @@ impl SubfileBuffer {
 
     /// Returns the capacity in octets: a subfile or the bound of the plan, whichever is less.
     pub fn room(&self) -> usize
-        ensures { result ≡ room_of self.now }
+        ensures { result ≡ plan_capacity self.now }
     {
         self.octets.room()
     }

@@ -3,16 +3,16 @@
 ghost use Rattle.std.specs.Prelude.{◌≡◌, ◌+◌, ◌-◌, ◌^◌, ◌<◌, ◌≤◌, [], ◌++◌, length, take, true, false, IfOk, IfErr, OnOk, OnErr, IfSome, IfNone, Err};
 ghost use Rattle.iim_dataset.specs.Format.Datasets.{canonical_dataset};
 ghost use Rattle.iim_object.specs.Format.Packing.{subfile_dataset};
-ghost use Rattle.iim_object.specs.States.Writing.{most_of, total_of, Lengthens, BreaksOff, ContinuesWith, IsTheWhole, Finishes, write_cause, finish_cause};
-ghost use Rattle.iim_object.specs.Steps.{writing_of, HasRoom, MayTake, Becomes, Puts, Cuts};
+ghost use Rattle.iim_object.specs.States.Writing.{plan_bound, total_of, WriterAccepts, WriterFails, IsWrittenOfMore, IsWrittenOf, WriterFinishes, write_cause, finish_cause};
+ghost use Rattle.iim_object.specs.Steps.{writing_of, CutterHasCapacity, CutterMayAccept, CutterBecomes, OutputWrites, OutputFails};
 ghost use Rattle.iim_object.specs.declared.writing.cause.PackCause.TheVariants as causes;
 
-use crate::laws::objects_are_cut_one_way;
+use crate::laws::objects_split_uniquely;
 use crate::plan::Plan;
 use crate::writing::cause::PackCause;
 use crate::writing::output::Output;
 use iim_dataset::Target;
-use iim_dataset::device_laws::texts_join;
+use iim_dataset::device_laws::writes_join;
 use iim_dataset::internals::ReservedOctets;
 use iim_tables::records::{CONFIRMED_SIZE, OBJECT, POST_OBJECT, SUBFILE};
 
@@ -34,7 +34,7 @@ pub(crate) struct Cutter<W> {
 impl<W: Target> Cutter<W> {
     /// Returns the number of octets of the object that were received.
     pub(crate) fn total(&self) -> u64
-        requires { HasRoom self.now }
+        requires { CutterHasCapacity self.now }
         ensures { result ≡ total_of (writing_of self.now) }
     {
         self.sent + self.held.len() as u64
@@ -42,19 +42,20 @@ impl<W: Target> Cutter<W> {
 
     /// Writes the buffered octets as a subfile.
     fn flush(&mut self) -> Result<(), PackCause>
-        requires room { HasRoom self.old }
+        requires room { CutterHasCapacity self.old }
         requires unfailed { self.old.failed ≡ false }
         requires full { length self.old.held.items ≡ self.old.plan.subfile }
-        ensures ok { OnOk result (Puts W.state self.old.output self.new.output
+        ensures ok { OnOk result (OutputWrites W.state self.old.output self.new.output
             (canonical_dataset (subfile_dataset self.old.held.items))
-            × Becomes self.new (record self.old {
+            × CutterBecomes self.new (record self.old {
               held = record { items = []; room = self.old.held.room };
               sent = self.old.sent + length self.old.held.items;
               output = self.new.output;
             })) }
         ensures err { IfErr result (λ cause. (cause ≡ causes.Write)
-            × Cuts W.state self.old.output self.new.output (canonical_dataset (subfile_dataset self.old.held.items))
-            × Becomes self.new (record self.old { output = self.new.output; failed = true })) }
+            × OutputFails W.state self.old.output self.new.output (canonical_dataset
+            (subfile_dataset self.old.held.items))
+            × CutterBecomes self.new (record self.old { output = self.new.output; failed = true })) }
     {
         match self
             .output
@@ -75,11 +76,11 @@ impl<W: Target> Cutter<W> {
     /// Buffers octets from the start of the slice, as many as the subfile has capacity for, and
     /// returns their number.
     fn fill(&mut self, rest: &[u8]) -> usize
-        requires room { HasRoom self.old }
-        requires fits { total_of (writing_of self.old) + length rest.now ≤ most_of self.old.plan }
+        requires room { CutterHasCapacity self.old }
+        requires fits { total_of (writing_of self.old) + length rest.now ≤ plan_bound self.old.plan }
         requires short { length self.old.held.items < self.old.plan.subfile }
         ensures some { (result ≤ length rest.now) × (0 < length rest.now → 0 < result) }
-        ensures fills { Becomes self.new (record self.old {
+        ensures fills { CutterBecomes self.new (record self.old {
           held = record { items = self.old.held.items ++ take result rest.now; room = self.old.held.room };
         }) }
     {
@@ -90,16 +91,17 @@ impl<W: Target> Cutter<W> {
     }
 
     /// Consumes octets from the start of the slice, at least one, and returns their number.
-    fn take_front(&mut self, rest: &[u8]) -> Result<usize, PackCause>
-        requires { MayTake self.old rest.now }
-        ensures room { HasRoom self.new }
+    fn consume_prefix(&mut self, rest: &[u8]) -> Result<usize, PackCause>
+        requires { CutterMayAccept self.old rest.now }
+        ensures room { CutterHasCapacity self.new }
         ensures same_room { self.new.held.room ≡ self.old.held.room }
         ensures ok { IfOk result (λ taken. (0 < taken) × (taken ≤ length rest.now)
-            × Lengthens W.state (writing_of self.old) (writing_of self.new) (take taken rest.now)) }
+            × WriterAccepts W.state (writing_of self.old) (writing_of self.new) (take taken rest.now)) }
         ensures err { IfErr result (λ cause. (cause ≡ causes.Write)
-            × BreaksOff W.state (ContinuesWith self.old.plan rest.now) (writing_of self.old) (writing_of self.new)) }
+            × WriterFails W.state (IsWrittenOfMore self.old.plan rest.now) (writing_of self.old)
+            (writing_of self.new)) }
     {
-        texts_join();
+        writes_join();
         if self.held.len() as u64 == self.plan.subfile {
             return match self.flush() {
                 Ok(()) => Ok(self.fill(rest)),
@@ -111,7 +113,7 @@ impl<W: Target> Cutter<W> {
 
     /// Returns why `octets` more octets are rejected.
     pub(crate) fn write_cause(&self, octets: usize) -> Option<PackCause>
-        requires room { HasRoom self.now }
+        requires room { CutterHasCapacity self.now }
         requires small { octets < 2 ^ 63 }
         ensures { result ≡ write_cause (writing_of self.now) octets }
     {
@@ -126,7 +128,7 @@ impl<W: Target> Cutter<W> {
 
     /// Returns why the object may not end.
     pub(crate) fn finish_cause(&self) -> Option<PackCause>
-        requires { HasRoom self.now }
+        requires { CutterHasCapacity self.now }
         ensures { result ≡ finish_cause (writing_of self.now) }
     {
         if self.failed {
@@ -140,25 +142,25 @@ impl<W: Target> Cutter<W> {
 
     /// Implements [`crate::SubfileWriter::write`].
     pub(crate) fn write(&mut self, octets: &[u8]) -> Result<(), PackCause>
-        requires { HasRoom self.old }
-        ensures room { HasRoom self.new }
+        requires { CutterHasCapacity self.old }
+        ensures room { CutterHasCapacity self.new }
         ensures same_room { self.new.held.room ≡ self.old.held.room }
         ensures refused { IfSome (write_cause (writing_of self.old) (length octets.now))
             (λ cause. (result ≡ Err cause) × (self.new ≡ self.old)) }
-        ensures ok { OnOk result (Lengthens W.state (writing_of self.old) (writing_of self.new) octets.now) }
+        ensures ok { OnOk result (WriterAccepts W.state (writing_of self.old) (writing_of self.new) octets.now) }
         ensures broke { IfNone (write_cause (writing_of self.old) (length octets.now))
-            (OnErr result (BreaksOff W.state (ContinuesWith self.old.plan octets.now) (writing_of self.old)
+            (OnErr result (WriterFails W.state (IsWrittenOfMore self.old.plan octets.now) (writing_of self.old)
             (writing_of self.new))) }
         ensures cause { IfNone (write_cause (writing_of self.old) (length octets.now))
             (IfErr result (λ cause. cause ≡ causes.Write)) }
     {
-        texts_join();
+        writes_join();
         if let Some(cause) = self.write_cause(octets.len()) {
             return Err(cause);
         }
         let mut at = 0;
         while at < octets.len() {
-            match self.take_front(&octets[at..]) {
+            match self.consume_prefix(&octets[at..]) {
                 Ok(taken) => at += taken,
                 Err(cause) => return Err(cause),
             }
@@ -168,18 +170,19 @@ impl<W: Target> Cutter<W> {
 
     /// Implements [`crate::SubfileWriter::finish`].
     pub(crate) fn finish(&mut self) -> Result<(), PackCause>
-        requires { HasRoom self.old }
-        ensures room { OnErr result (HasRoom self.new) }
+        requires { CutterHasCapacity self.old }
+        ensures room { OnErr result (CutterHasCapacity self.new) }
         ensures same_room { self.new.held.room ≡ self.old.held.room }
         ensures refused { IfSome (finish_cause (writing_of self.old))
             (λ cause. (result ≡ Err cause) × (self.new ≡ self.old)) }
-        ensures ok { OnOk result (Finishes W.state (writing_of self.old) self.new.output.writer) }
+        ensures ok { OnOk result (WriterFinishes W.state (writing_of self.old) self.new.output.writer) }
         ensures broke { IfNone (finish_cause (writing_of self.old))
-            (OnErr result (BreaksOff W.state (IsTheWhole self.old.plan) (writing_of self.old) (writing_of self.new))) }
+            (OnErr result (WriterFails W.state (IsWrittenOf self.old.plan) (writing_of self.old)
+            (writing_of self.new))) }
         ensures cause { IfNone (finish_cause (writing_of self.old)) (IfErr result (λ cause. cause ≡ causes.Write)) }
     {
-        texts_join();
-        objects_are_cut_one_way();
+        writes_join();
+        objects_split_uniquely();
         if let Some(cause) = self.finish_cause() {
             return Err(cause);
         }

@@ -5,13 +5,13 @@ ghost use Rattle.iim_dataset.specs.Format.Datasets.{canonical_dataset, canonical
 ghost use Rattle.iim_dataset.specs.Format.Octets.{greatest_size};
 ghost use Rattle.iim_object.specs.Format.Packing.{number_dataset, size_datasets, plan_datasets, is_known};
 ghost use Rattle.iim_object.specs.Format.Objects.{limit_of, mode_number};
-ghost use Rattle.iim_object.specs.Steps.{Puts, Cuts};
+ghost use Rattle.iim_object.specs.Steps.{OutputWrites, OutputFails};
 ghost use Rattle.iim_object.specs.declared.writing.cause.PackCause.TheVariants as causes;
 
 use crate::plan::Plan;
 use crate::size::Size;
 use crate::writing::cause::PackCause;
-use iim_dataset::device_laws::texts_join;
+use iim_dataset::device_laws::writes_join;
 use iim_dataset::{Target, number_bytes, put_dataset};
 use iim_tables::records::{ANNOUNCED_SIZE, MAX_SUBFILE_SIZE, MAXIMUM_SIZE, PRE_OBJECT, SIZE_MODE};
 
@@ -28,9 +28,9 @@ impl<W: Target> Output<W> {
     /// Writes a dataset in its canonical encoding.
     pub(crate) fn put_dataset(&mut self, rec: u8, set: u8, octets: &[u8]) -> Result<(), PackCause>
         requires room { self.old.written + tag_octets + length octets.now < 2 ^ 64 }
-        ensures ok { OnOk result (Puts W.state self.old self.new
+        ensures ok { OnOk result (OutputWrites W.state self.old self.new
             (canonical_dataset record { rec = rec; set = set; octets = octets.now })) }
-        ensures err { OnErr result (Cuts W.state self.old self.new
+        ensures err { OnErr result (OutputFails W.state self.old self.new
             (canonical_dataset record { rec = rec; set = set; octets = octets.now })) }
         ensures cause { IfErr result (λ cause. cause ≡ causes.Write) }
     {
@@ -50,8 +50,10 @@ impl<W: Target> Output<W> {
     pub(crate) fn put_number(&mut self, rec: u8, set: u8, n: u64) -> Result<(), PackCause>
         requires fits { n ≤ greatest_size }
         requires room { self.old.written + tag_octets + count_octets < 2 ^ 64 }
-        ensures ok { OnOk result (Puts W.state self.old self.new (canonical_dataset (number_dataset rec set n))) }
-        ensures err { OnErr result (Cuts W.state self.old self.new (canonical_dataset (number_dataset rec set n))) }
+        ensures ok { OnOk result (OutputWrites W.state self.old self.new (canonical_dataset
+            (number_dataset rec set n))) }
+        ensures err { OnErr result (OutputFails W.state self.old self.new (canonical_dataset
+            (number_dataset rec set n))) }
         ensures cause { IfErr result (λ cause. cause ≡ causes.Write) }
     {
         let octets = number_bytes(n);
@@ -59,14 +61,14 @@ impl<W: Target> Output<W> {
     }
 
     /// Writes 7:90 for a known size, 7:95 for a maximum, and nothing otherwise.
-    fn put_size(&mut self, size: Size) -> Result<(), PackCause>
+    fn put_size_number(&mut self, size: Size) -> Result<(), PackCause>
         requires fits { limit_of size ≤ greatest_size }
         requires room { self.old.written + tag_octets + count_octets < 2 ^ 64 }
-        ensures ok { OnOk result (Puts W.state self.old self.new (canonical_stream (size_datasets size))) }
-        ensures err { OnErr result (Cuts W.state self.old self.new (canonical_stream (size_datasets size))) }
+        ensures ok { OnOk result (OutputWrites W.state self.old self.new (canonical_stream (size_datasets size))) }
+        ensures err { OnErr result (OutputFails W.state self.old self.new (canonical_stream (size_datasets size))) }
         ensures cause { IfErr result (λ cause. cause ≡ causes.Write) }
     {
-        texts_join();
+        writes_join();
         match size {
             Size::Known(octets) => self.put_number(PRE_OBJECT, ANNOUNCED_SIZE, octets),
             Size::Unknown(Some(maximum)) => self.put_number(PRE_OBJECT, MAXIMUM_SIZE, maximum),
@@ -77,13 +79,13 @@ impl<W: Target> Output<W> {
     /// Writes record 7 of a plan.
     pub(crate) fn put_plan(&mut self, plan: Plan) -> Result<(), PackCause>
         requires room { self.old.written + 256 < 2 ^ 64 }
-        ensures ok { OnOk result (Puts W.state self.old self.new
+        ensures ok { OnOk result (OutputWrites W.state self.old self.new
             (canonical_stream (plan_datasets plan.subfile plan.size))) }
-        ensures err { OnErr result (Cuts W.state self.old self.new
+        ensures err { OnErr result (OutputFails W.state self.old self.new
             (canonical_stream (plan_datasets plan.subfile plan.size))) }
         ensures cause { IfErr result (λ cause. cause ≡ causes.Write) }
     {
-        texts_join();
+        writes_join();
         match self.put_dataset(PRE_OBJECT, SIZE_MODE, &[mode_of(plan.size)]) {
             Ok(()) => {}
             Err(cause) => return Err(cause),
@@ -92,7 +94,7 @@ impl<W: Target> Output<W> {
             Ok(()) => {}
             Err(cause) => return Err(cause),
         }
-        self.put_size(plan.size)
+        self.put_size_number(plan.size)
     }
 }
 

@@ -1,9 +1,9 @@
 //! A writer of an object in subfiles.
 
 ghost use Rattle.std.specs.Prelude.{◌≡◌, ◌⊎◌, ◌+◌, ◌<◌, ◌≤◌, ◌^◌, [], length, IfOk, IfErr, OnOk, OnErr, IfSome, IfNone, Err};
-ghost use Rattle.iim_dataset.specs.States.Devices.{Wrote, Stopped, WithinInterruptionLimit};
+ghost use Rattle.iim_dataset.specs.States.Devices.{WroteAllOf, WroteOnlyPrefixOf, WithinInterruptionLimit};
 ghost use Rattle.iim_object.specs.Format.Objects.{most_out};
-ghost use Rattle.iim_object.specs.States.Writing.{HasWritten, Lengthens, BreaksOff, ContinuesWith, IsTheWhole, Finishes, write_cause, finish_cause, RefusesOctets, RefusesEnd, plan_octets, total_of, most_of, room_of};
+ghost use Rattle.iim_object.specs.States.Writing.{HasWritten, WriterAccepts, WriterFails, IsWrittenOfMore, IsWrittenOf, WriterFinishes, write_cause, finish_cause, RejectsOctets, RejectsEnd, plan_octets, total_of, plan_bound, plan_capacity};
 ghost use Rattle.iim_object.specs.declared.writing.cause.PackCause.{PackCause as PackCauseValue};
 ghost use Rattle.iim_object.specs.declared.writing.cause.PackCause.TheVariants as causes;
 
@@ -13,7 +13,7 @@ use crate::writing::cause::{PackCause, StartFault};
 use crate::writing::cutter::Cutter;
 use crate::writing::output::Output;
 use iim_dataset::Target;
-use iim_dataset::device_laws::texts_join;
+use iim_dataset::device_laws::writes_join;
 use std::marker::Model;
 
 /// Writes an object by a plan: record 7, subfiles and record 9. It stores nothing but its buffer,
@@ -30,13 +30,13 @@ pub struct SubfileWriter<W> {
 
 impl<W> Model for SubfileWriter<W> {
     ghost use Rattle.iim_object.specs.States.Writing.{Writing};
-    ghost use Rattle.iim_object.specs.Steps.{writing_of, HasRoom};
+    ghost use Rattle.iim_object.specs.Steps.{writing_of, CutterHasCapacity};
 
     ghost Value = { Writing W };
 
     ghost view = { λ w. writing_of w.cutter };
 
-    ghost invariant = { λ w. HasRoom w.cutter };
+    ghost invariant = { λ w. CutterHasCapacity w.cutter };
 }
 
 impl<W: Target> SubfileWriter<W> {
@@ -46,13 +46,13 @@ impl<W: Target> SubfileWriter<W> {
     /// record 7 that were written.
     pub fn start(buffer: SubfileBuffer, writer: W) -> Result<SubfileWriter<W>, StartFault<W>>
         ensures plan { IfOk result (λ w. w.plan ≡ buffer) }
-        ensures room { IfOk result (λ w. w.room ≡ room_of buffer) }
+        ensures room { IfOk result (λ w. w.room ≡ plan_capacity buffer) }
         ensures stands { IfOk result (λ w. HasWritten w [] (plan_octets buffer)) }
-        ensures wrote { IfOk result (λ w. Wrote (W.state writer) (W.state w.writer) (plan_octets buffer)) }
+        ensures wrote { IfOk result (λ w. WroteAllOf (W.state writer) (W.state w.writer) (plan_octets buffer)) }
         ensures cause { IfErr result (λ fault. fault.cause ≡ causes.Write) }
         ensures stopped { IfErr result (λ fault.
-            Stopped (W.state writer) (W.state fault.writer) (plan_octets buffer) fault.written) }
-        ensures patience { IfOk result (λ w.
+            WroteOnlyPrefixOf (W.state writer) (W.state fault.writer) (plan_octets buffer) fault.written) }
+        ensures retry_limit { IfOk result (λ w.
             WithinInterruptionLimit (length (plan_octets buffer)) (W.state writer) (W.state w.writer)) }
         ensures given_up { IfErr result (λ fault.
             WithinInterruptionLimit (fault.written + 1) (W.state writer) (W.state fault.writer)) }
@@ -88,19 +88,19 @@ impl<W: Target> SubfileWriter<W> {
     /// a prefix of what the plan may write of an object that begins with these octets.
     pub fn write(&mut self, octets: &[u8]) -> Result<(), PackCause>
         // An error is returned exactly if its condition holds, and then nothing changes.
-        ensures causes { (cause : PackCauseValue) → RefusesOctets self.old (length octets.now) cause
+        ensures causes { (cause : PackCauseValue) → RejectsOctets self.old (length octets.now) cause
             → (result ≡ Err cause) × (self.new ≡ self.old) }
         ensures only { IfErr result (λ cause. (cause ≡ causes.Write)
-            ⊎ RefusesOctets self.old (length octets.now) cause) }
+            ⊎ RejectsOctets self.old (length octets.now) cause) }
         ensures refused { IfSome (write_cause self.old (length octets.now))
             (λ cause. (result ≡ Err cause) × (self.new ≡ self.old)) }
 
         // Otherwise the octets are accepted, or a write failed.
-        ensures ok { OnOk result (Lengthens W.state self.old self.new octets.now) }
+        ensures ok { OnOk result (WriterAccepts W.state self.old self.new octets.now) }
         ensures cause { IfNone (write_cause self.old (length octets.now))
             (IfErr result (λ cause. cause ≡ causes.Write)) }
         ensures broke { IfNone (write_cause self.old (length octets.now))
-            (OnErr result (BreaksOff W.state (ContinuesWith self.old.plan octets.now) self.old self.new)) }
+            (OnErr result (WriterFails W.state (IsWrittenOfMore self.old.plan octets.now) self.old self.new)) }
 
         // It does not allocate.
         ensures room { self.new.room ≡ self.old.room }
@@ -115,15 +115,15 @@ impl<W: Target> SubfileWriter<W> {
     /// written is then a prefix of what the plan writes of the object.
     pub fn finish(self) -> Result<W, (SubfileWriter<W>, PackCause)>
         // An error is returned exactly if its condition holds, and then nothing changes.
-        ensures causes { (cause : PackCauseValue) → RefusesEnd self cause → result ≡ Err (self, cause) }
-        ensures only { IfErr result (λ refused. (refused.1 ≡ causes.Write) ⊎ RefusesEnd self refused.1) }
+        ensures causes { (cause : PackCauseValue) → RejectsEnd self cause → result ≡ Err (self, cause) }
+        ensures only { IfErr result (λ refused. (refused.1 ≡ causes.Write) ⊎ RejectsEnd self refused.1) }
         ensures refused { IfSome (finish_cause self) (λ cause. result ≡ Err (self, cause)) }
 
         // Otherwise the object is written, or a write failed.
-        ensures ok { IfOk result (λ writer. Finishes W.state self writer) }
+        ensures ok { IfOk result (λ writer. WriterFinishes W.state self writer) }
         ensures cause { IfNone (finish_cause self) (IfErr result (λ refused. refused.1 ≡ causes.Write)) }
         ensures broke { IfNone (finish_cause self)
-            (IfErr result (λ refused. BreaksOff W.state (IsTheWhole self.plan) self refused.0)) }
+            (IfErr result (λ refused. WriterFails W.state (IsWrittenOf self.plan) self refused.0)) }
 
         // It does not allocate.
         ensures room { IfErr result (λ refused. refused.0.room ≡ self.room) }
@@ -139,8 +139,8 @@ impl<W: Target> SubfileWriter<W> {
     /// the plan. At most a subfile or the bound, whichever is less, is buffered.
     pub fn total(&self) -> u64
         ensures total { result ≡ total_of self.now }
-        ensures fits { result ≤ most_of self.now.plan }
-        ensures holds { length self.now.held ≤ room_of self.now.plan }
+        ensures fits { result ≤ plan_bound self.now.plan }
+        ensures holds { length self.now.held ≤ plan_capacity self.now.plan }
     {
         self.cutter.total()
     }

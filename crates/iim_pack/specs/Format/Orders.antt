@@ -2,14 +2,14 @@
 -- checked.
 use Rattle.std.specs.Prelude.{◌≡◌, ℕ, Bool, IsTrue, List, ◌∷◌, ◌++◌, Option, Some, None}
 use Rattle.std.specs.List.{AllByRecursion}
-use Rattle.iim_object.specs.States.Writing.{PassesPlan, IsBelowKnown}
+use Rattle.iim_object.specs.States.Writing.{ExceedsPlan, IsBelowKnown}
 use Rattle.iim_object.specs.declared.writing.cause.PackCause.TheVariants.{PastAnnounced, ShortOfAnnounced, BadTextOctet, BadTrailer, Failed}
 use Rattle.iim_object.specs.declared.{plan.Plan.Plan, writing.cause.PackCause.PackCause}
 use Rattle.wire_story.specs.Format.Texts.{IsLine}
 use Rattle.wire_message.specs.Format.Messages.{IsTrailer}
 
 -- The cause is one of the order, its condition holds, and no condition of a cause before it holds.
-pub record IsFirst (Says : PackCause → Type 0) (order : List PackCause) (cause : PackCause) : Type 0 where
+pub record IsFirstIn (Says : PackCause → Type 0) (order : List PackCause) (cause : PackCause) : Type 0 where
   pub before : List PackCause
   pub after : List PackCause
   pub order_is : order ≡ before ++ cause ∷ after
@@ -17,17 +17,17 @@ pub record IsFirst (Says : PackCause → Type 0) (order : List PackCause) (cause
   pub holds : Says cause
 
 -- the first cause of the order whose condition holds, or none
-abbrev pub IsFirstOf : (PackCause → Type 0) → List PackCause → Option PackCause → Type 0
-IsFirstOf Says order (Some cause) = IsFirst Says order cause
-IsFirstOf Says order None = AllByRecursion (λ cause. Says cause → ⊥) order
+abbrev pub IsFirstInOrder : (PackCause → Type 0) → List PackCause → Option PackCause → Type 0
+IsFirstInOrder Says order (Some cause) = IsFirstIn Says order cause
+IsFirstInOrder Says order None = AllByRecursion (λ cause. Says cause → ⊥) order
 
 -- The conditions of the causes. They depend on whether a write failed before the call, the octets
 -- of a line and the trailer passed to it, if any, the plan, and the least size in octets that the
 -- object will have.
-abbrev pub Against : Bool → List ℕ → List ℕ → Plan → ℕ → PackCause → Type 0
-Against failed line trailer plan size Failed = IsTrue failed
-Against failed line trailer plan size BadTextOctet = IsLine line → ⊥
-Against failed line trailer plan size BadTrailer = IsTrailer trailer → ⊥
-Against failed line trailer plan size PastAnnounced = PassesPlan plan size
-Against failed line trailer plan size ShortOfAnnounced = IsBelowKnown plan size
-Against failed line trailer plan size _ = ⊥
+abbrev pub CauseHolds : Bool → List ℕ → List ℕ → Plan → ℕ → PackCause → Type 0
+CauseHolds failed line trailer plan size Failed = IsTrue failed
+CauseHolds failed line trailer plan size BadTextOctet = IsLine line → ⊥
+CauseHolds failed line trailer plan size BadTrailer = IsTrailer trailer → ⊥
+CauseHolds failed line trailer plan size PastAnnounced = ExceedsPlan plan size
+CauseHolds failed line trailer plan size ShortOfAnnounced = IsBelowKnown plan size
+CauseHolds failed line trailer plan size _ = ⊥

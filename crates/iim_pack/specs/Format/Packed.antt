@@ -2,23 +2,23 @@
 use Rattle.std.specs.Prelude.{◌≡◌, ℕ, List, ◌++◌}
 use Rattle.iim_dataset.specs.Format.Datasets.{Dataset, canonical_stream}
 use Rattle.iim_fields.specs.Format.Records.{IsEnvelope}
-use Rattle.iim_object.specs.{Format.Packing.IsWritten, Format.Packing.Suits, declared.plan.Plan.Plan}
+use Rattle.iim_object.specs.{Format.Packing.IsWrittenObject, Format.Packing.ObjectSuitsPlan, declared.plan.Plan.Plan}
 use Rattle.wire_message.specs.Format.Messages.{Header, IsMessage, canonical}
 use Rattle.wire_story.specs.Format.Texts.{IsText}
 
 -- The arguments can be packed by the plan: the fields are a valid record 1 and a valid record 2;
 -- the canonical object is a message whose text consists of the lines; and the plan allows its size.
-pub record MayBePacked (fields : List Dataset) (head : Header) (lines : List (List ℕ)) (trailer : List ℕ) (plan : Plan) : Type 0 where
+pub record CanBePacked (fields : List Dataset) (head : Header) (lines : List (List ℕ)) (trailer : List ℕ) (plan : Plan) : Type 0 where
   pub envelope : IsEnvelope fields
   pub text : List ℕ
   pub message : IsMessage (canonical head lines trailer) head text trailer
   pub lined : IsText text lines
-  pub suits : Suits plan.subfile plan.size (canonical head lines trailer)
+  pub suits : ObjectSuitsPlan plan.subfile plan.size (canonical head lines trailer)
 
 -- The octets are the packed form: the canonical encoding of the fields, and then what is written of
 -- the canonical object by the plan.
 pub record Packed (fields : List Dataset) (head : Header) (lines : List (List ℕ)) (trailer : List ℕ) (plan : Plan) (octets : List ℕ) : Type 0 where
-  pub may : MayBePacked fields head lines trailer plan
+  pub may : CanBePacked fields head lines trailer plan
   pub object : List ℕ
-  pub written : IsWritten plan.subfile plan.size (canonical head lines trailer) object
+  pub written : IsWrittenObject plan.subfile plan.size (canonical head lines trailer) object
   pub octets_are : octets ≡ canonical_stream fields ++ object

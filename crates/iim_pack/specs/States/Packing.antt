@@ -2,15 +2,15 @@
 -- in one call.
 use Rattle.std.specs.Prelude.{◌≡◌, ℕ, ◌+◌, ◌&&◌, not, nat_le, Bool, false, if◌then◌else◌, IsTrue, List, ◌++◌, length, Option, Some, None, ◌⊎◌, []}
 use Rattle.std.specs.{List.list_all, Io.KnownBytes.Appends}
-use Rattle.iim_dataset.specs.States.Devices.{Device, Wrote, Broke, WithinInterruptionLimit}
+use Rattle.iim_dataset.specs.States.Devices.{Device, WroteAllOf, FailedOrInterrupted, WithinInterruptionLimit}
 use Rattle.iim_dataset.specs.Format.Datasets.{Dataset, canonical_stream}
 use Rattle.iim_fields.specs.Format.Records.{IsEnvelope}
 use Rattle.iim_object.specs.{Format.Objects.is_short, declared.plan.Plan.Plan}
 use Rattle.iim_object.specs.{declared.writing.cause.PackCause.PackCause, declared.writing.cause.StartFault.StartFault}
-use Rattle.iim_object.specs.States.Writing.{Writing, total_of, passes_plan, Begins}
+use Rattle.iim_object.specs.States.Writing.{Writing, total_of, exceeds_plan, IsPrefix}
 use Rattle.iim_object.specs.States.Writing as object
 use Rattle.wire_story.specs.Format.Texts.{is_line_octet, StoryEvent, events_of_lines}
-use Rattle.wire_story.specs.Format.Packing.{packed_events, AreEvents, lines_of}
+use Rattle.wire_story.specs.Format.Packing.{packed_events, AreStoryEvents, lines_of}
 use Rattle.wire_message.specs.Format.Messages.{is_trailer_octet, max_trailer, Header, IsHeader, packed_head, packed_tail, canonical}
 use Rattle.iim_pack.specs.Format.Packed.{Packed}
 use Rattle.iim_object.specs.declared.writing.cause.PackCause.TheVariants as causes
@@ -34,7 +34,7 @@ written_of k = k.before + k.object.written
 pub record HasPacked {W : Type 0} (k : Packing W) (fields : List Dataset) (head : Header) (events : List StoryEvent) (plan : Plan) (out : List ℕ) : Type 0 where
   pub envelope : IsEnvelope fields
   pub header : IsHeader head
-  pub events_are : AreEvents events
+  pub events_are : AreStoryEvents events
   pub is_plan : k.object.plan ≡ plan
   pub before : k.before ≡ length (canonical_stream fields)
   pub object_out : List ℕ
@@ -45,8 +45,8 @@ pub record HasPacked {W : Type 0} (k : Packing W) (fields : List Dataset) (head 
 -- written. There were at most a million interruptions per octet.
 pub record Lengthens {W : Type 0} (state : W → Device) (old new : Packing W) (events : List StoryEvent) : Type 0 where
   pub more : List ℕ
-  pub wrote : Wrote (state old.object.writer) (state new.object.writer) more
-  pub patience : WithinInterruptionLimit (length more) (state old.object.writer) (state new.object.writer)
+  pub wrote : WroteAllOf (state old.object.writer) (state new.object.writer) more
+  pub retry_limit : WithinInterruptionLimit (length more) (state old.object.writer) (state new.object.writer)
   pub counted : written_of new ≡ written_of old + length more
   pub total : total_of new.object ≡ total_of old.object + length (packed_events events)
   pub unfailed : new.object.failed ≡ false
@@ -68,12 +68,12 @@ pub record FormWith (fields : List Dataset) (head : Header) (plan : Plan) (event
 pub record BreaksOff {W : Type 0} (state : W → Device) (Form : List Dataset → Header → List StoryEvent → Plan → List ℕ → Type 0) (old new : Packing W) : Type 0 where
   pub more : List ℕ
   pub appends : Appends (state old.object.writer).octets (state new.object.writer).octets more
-  pub broke : Broke (state old.object.writer) (state new.object.writer)
-  pub patience : WithinInterruptionLimit (length more + 1) (state old.object.writer) (state new.object.writer)
+  pub broke : FailedOrInterrupted (state old.object.writer) (state new.object.writer)
+  pub retry_limit : WithinInterruptionLimit (length more + 1) (state old.object.writer) (state new.object.writer)
   pub failed : IsTrue new.object.failed
   pub counted : written_of new ≡ written_of old + length more
   pub begins : (fields : List Dataset) (head : Header) (before : List StoryEvent) (plan : Plan) (out whole : List ℕ)
-      → HasPacked old fields head before plan out → Form fields head before plan whole → object.Begins (out ++ more) whole
+      → HasPacked old fields head before plan out → Form fields head before plan whole → object.IsPrefix (out ++ more) whole
 
 -- the forms whose text continues with these events
 abbrev pub ContinuesWith : List StoryEvent → List Dataset → Header → List StoryEvent → Plan → List ℕ → Type 0
@@ -83,27 +83,27 @@ ContinuesWith events fields head before plan whole = FormWith fields head plan (
 -- this call.
 pub record Finishes {W : Type 0} (state : W → Device) (old : Packing W) (trailer : List ℕ) (writer : W) : Type 0 where
   pub more : List ℕ
-  pub wrote : Wrote (state old.object.writer) (state writer) more
-  pub patience : WithinInterruptionLimit (length more) (state old.object.writer) (state writer)
+  pub wrote : WroteAllOf (state old.object.writer) (state writer) more
+  pub retry_limit : WithinInterruptionLimit (length more) (state old.object.writer) (state writer)
   pub whole : (fields : List Dataset) (head : Header) (before : List StoryEvent) (plan : Plan) (out : List ℕ)
       → HasPacked old fields head before plan out → Packed fields head (lines_of before) trailer plan (out ++ more)
 
 -- ---- causes
 
 abbrev pub start_cause : Header → Plan → Option PackCause
-start_cause head plan = if passes_plan plan (length (packed_head head) + least_ending) then Some causes.PastAnnounced else None
+start_cause head plan = if exceeds_plan plan (length (packed_head head) + least_ending) then Some causes.PastAnnounced else None
 
 abbrev pub text_cause : {W : Type 0} → Packing W → List ℕ → Option PackCause
 text_cause k octets =
     if k.object.failed then Some causes.Failed
     else if not (list_all is_line_octet octets) then Some causes.BadTextOctet
-    else if passes_plan k.object.plan (total_of k.object + (length octets + least_ending)) then Some causes.PastAnnounced
+    else if exceeds_plan k.object.plan (total_of k.object + (length octets + least_ending)) then Some causes.PastAnnounced
     else None
 
 abbrev pub line_end_cause : {W : Type 0} → Packing W → Option PackCause
 line_end_cause k =
     if k.object.failed then Some causes.Failed
-    else if passes_plan k.object.plan (total_of k.object + (2 + least_ending)) then Some causes.PastAnnounced
+    else if exceeds_plan k.object.plan (total_of k.object + (2 + least_ending)) then Some causes.PastAnnounced
     else None
 
 abbrev pub is_trailer : List ℕ → Bool
@@ -114,7 +114,7 @@ is_trailer trailer = list_all is_trailer_octet trailer && nat_le (length trailer
 abbrev pub ending_cause : Plan → ℕ → List ℕ → Option PackCause
 ending_cause plan size trailer =
     if not (is_trailer trailer) then Some causes.BadTrailer
-    else if passes_plan plan size then Some causes.PastAnnounced
+    else if exceeds_plan plan size then Some causes.PastAnnounced
     else if is_short plan.size size then Some causes.ShortOfAnnounced
     else None
 
@@ -130,26 +130,26 @@ pack_cause head lines trailer plan = ending_cause plan (length (canonical head l
 -- failed. Since its writer was in the state `first`, exactly `out` was written: the fields, record
 -- 7 of the plan and full subfiles. Their data and the buffered octets are the canonical object from
 -- SOH to the end of the text.
-pub record HasBegun {W : Type 0} (state : W → Device) (first : Device) (k : Packing W) (fields : List Dataset) (head : Header) (events : List StoryEvent) (plan : Plan) : Type 0 where
+pub record HasPackedSoFar {W : Type 0} (state : W → Device) (first : Device) (k : Packing W) (fields : List Dataset) (head : Header) (events : List StoryEvent) (plan : Plan) : Type 0 where
   pub out : List ℕ
-  pub wrote : Wrote first (state k.object.writer) out
+  pub wrote : WroteAllOf first (state k.object.writer) out
   pub counted : written_of k ≡ length out
   pub stands : HasPacked k fields head events plan out
 
 -- Whatever the packer had consumed, it has consumed these events too.
-abbrev pub ContinuesBegun : {W : Type 0} → (W → Device) → Packing W → Packing W → List StoryEvent → Type 0
-ContinuesBegun state old new events = (first : Device) (fields : List Dataset) (head : Header) (before : List StoryEvent) (plan : Plan)
-    → HasBegun state first old fields head before plan → HasBegun state first new fields head (before ++ events) plan
+abbrev pub KeepsPacking : {W : Type 0} → (W → Device) → Packing W → Packing W → List StoryEvent → Type 0
+KeepsPacking state old new events = (first : Device) (fields : List Dataset) (head : Header) (before : List StoryEvent) (plan : Plan)
+    → HasPackedSoFar state first old fields head before plan → HasPackedSoFar state first new fields head (before ++ events) plan
 
 -- Whatever the packer had consumed, exactly the packed form of its lines with this trailer was
 -- written.
-abbrev pub EndsBegun : {W : Type 0} → (W → Device) → Packing W → List ℕ → W → Type 0
-EndsBegun state old trailer writer = (first : Device) (fields : List Dataset) (head : Header) (events : List StoryEvent) (plan : Plan)
-    → HasBegun state first old fields head events plan
-    → (form : List ℕ) × Packed fields head (lines_of events) trailer plan form × Wrote first (state writer) form
+abbrev pub WritesPackedForm : {W : Type 0} → (W → Device) → Packing W → List ℕ → W → Type 0
+WritesPackedForm state old trailer writer = (first : Device) (fields : List Dataset) (head : Header) (events : List StoryEvent) (plan : Plan)
+    → HasPackedSoFar state first old fields head events plan
+    → (form : List ℕ) × Packed fields head (lines_of events) trailer plan form × WroteAllOf first (state writer) form
 
 -- Nothing was written, and the writer is returned unchanged.
-pub record StartIsRefused {W : Type 0} (cause : PackCause) (writer : W) (fault : StartFault W) : Type 0 where
+pub record RejectsStart {W : Type 0} (cause : PackCause) (writer : W) (fault : StartFault W) : Type 0 where
   pub cause_is : fault.cause ≡ cause
   pub writer_is : fault.writer ≡ writer
   pub nothing : fault.written ≡ 0
@@ -160,26 +160,26 @@ pub record StartBreaksOff {W : Type 0} (state : W → Device) (Form : List ℕ �
   pub cause_is : fault.cause ≡ causes.Write
   pub out : List ℕ
   pub appends : Appends (state writer).octets (state fault.writer).octets out
-  pub broke : Broke (state writer) (state fault.writer)
-  pub patience : WithinInterruptionLimit (length out + 1) (state writer) (state fault.writer)
+  pub broke : FailedOrInterrupted (state writer) (state fault.writer)
+  pub retry_limit : WithinInterruptionLimit (length out + 1) (state writer) (state fault.writer)
   pub counted : fault.written ≡ length out
-  pub begins : (whole : List ℕ) → Form whole → Begins out whole
+  pub begins : (whole : List ℕ) → Form whole → IsPrefix out whole
 
 -- The packer has an empty text, and what was written was written in this call. There were at most a
 -- million interruptions per octet.
-pub record Starts {W : Type 0} (state : W → Device) (writer : W) (fields : List Dataset) (head : Header) (plan : Plan) (k : Packing W) : Type 0 where
-  pub begun : HasBegun state (state writer) k fields head [] plan
-  pub patience : WithinInterruptionLimit (length begun.out) (state writer) (state k.object.writer)
+pub record StartsPacking {W : Type 0} (state : W → Device) (writer : W) (fields : List Dataset) (head : Header) (plan : Plan) (k : Packing W) : Type 0 where
+  pub begun : HasPackedSoFar state (state writer) k fields head [] plan
+  pub retry_limit : WithinInterruptionLimit (length begun.out) (state writer) (state k.object.writer)
   pub total : total_of k.object ≡ length (packed_head head)
 
 -- The allocation failed, and nothing was written; or a write failed, and what was written is a
 -- prefix of every such form.
 abbrev pub IsStartFault : {W : Type 0} → (W → Device) → (List ℕ → Type 0) → W → StartFault W → Type 0
-IsStartFault state Form writer fault = StartIsRefused causes.OutOfMemory writer fault ⊎ StartBreaksOff state Form writer fault
+IsStartFault state Form writer fault = RejectsStart causes.OutOfMemory writer fault ⊎ StartBreaksOff state Form writer fault
 
 -- The packed form was written. There were at most a million interruptions per octet.
 pub record Packs {W : Type 0} (state : W → Device) (writer : W) (fields : List Dataset) (head : Header) (lines : List (List ℕ)) (trailer : List ℕ) (plan : Plan) (last : W) : Type 0 where
   pub out : List ℕ
-  pub wrote : Wrote (state writer) (state last) out
-  pub patience : WithinInterruptionLimit (length out) (state writer) (state last)
+  pub wrote : WroteAllOf (state writer) (state last) out
+  pub retry_limit : WithinInterruptionLimit (length out) (state writer) (state last)
   pub packed : Packed fields head lines trailer plan out

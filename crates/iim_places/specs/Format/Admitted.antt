@@ -1,7 +1,7 @@
 -- Valid input: octets that are an envelope with a message and a story in it, the value that they
 -- have, and envelopes as far as datasets and sizes are concerned.
 use Rattle.std.specs.Prelude.{◌≡◌, ℕ, List, ◌≤◌, length}
-use Rattle.iim_dataset.specs.Format.Datasets.{Dataset, SpellsStream, count_octets, of_record}
+use Rattle.iim_dataset.specs.Format.Datasets.{Dataset, EncodesStream, count_octets, of_record}
 use Rattle.iim_fields.specs.{Format.Records.AreSections, Format.Records.IsWithin, declared.limits.Limits.Limits}
 use Rattle.iim_fields.specs.Format.Causes.{kept, joined, kept_octets}
 use Rattle.iim_object.specs.{Format.Objects.HaveSizes, Format.Objects.max_subfiles, declared.size.Sizes.Sizes}
@@ -26,7 +26,7 @@ object_of ds = joined (of_record 8 ds)
 -- and with the object.
 pub record Admits (octets : List ℕ) (v : Value) : Type 0 where
   pub datasets : List Dataset
-  pub spelled : SpellsStream count_octets datasets octets
+  pub spelled : EncodesStream count_octets datasets octets
   pub sections : AreSections datasets
   pub fields : kept datasets ≡ v.fields
   pub text : List ℕ
@@ -35,16 +35,16 @@ pub record Admits (octets : List ℕ) (v : Value) : Type 0 where
   pub sizes : HaveSizes (of_record 7 datasets) (of_record 8 datasets) (of_record 9 datasets) v.sizes
 
 -- Records 1 and 2 are within the limits, and there are at most `max_subfiles` subfiles.
-pub record AreWithin (limits : Limits) (ds : List Dataset) : Type 0 where
+pub record AreWithinLimits (limits : Limits) (ds : List Dataset) : Type 0 where
   pub kept : IsWithin limits (kept_octets ds) (length (kept ds))
   pub subfiles : length (of_record 8 ds) ≤ max_subfiles
 
 -- The octets encode the datasets of an envelope: records 1, 2, 7, 8 and 9, each valid. The sizes of
 -- its object agree, and it is within the limits. Nothing is required of the message in the object.
-pub record Framed (limits : Limits) (octets : List ℕ) : Type 0 where
+pub record IsFramedEnvelope (limits : Limits) (octets : List ℕ) : Type 0 where
   pub datasets : List Dataset
-  pub spelled : SpellsStream count_octets datasets octets
+  pub spelled : EncodesStream count_octets datasets octets
   pub sections : AreSections datasets
   pub sizes : Sizes
   pub agree : HaveSizes (of_record 7 datasets) (of_record 8 datasets) (of_record 9 datasets) sizes
-  pub within : AreWithin limits datasets
+  pub within : AreWithinLimits limits datasets

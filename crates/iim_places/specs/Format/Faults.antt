@@ -12,19 +12,19 @@ token_text fault =
     ++ (dataset_name fault.rec fault.set ++ (codes ", cause " ++ cause_text fault.cause))))
 
 -- The number of the cause for which a ticket is rejected.
-abbrev pub ticket_number : TicketFault → ℕ
-ticket_number TicketForm = 100
-ticket_number TicketVersion = 101
-ticket_number Impossible = 102
-ticket_number HeaderFull = 50
-ticket_number TooManyFields = 51
-ticket_number OutOfMemory = 70
+abbrev pub ticket_fault_number : TicketFault → ℕ
+ticket_fault_number TicketForm = 100
+ticket_fault_number TicketVersion = 101
+ticket_fault_number Impossible = 102
+ticket_fault_number HeaderFull = 50
+ticket_fault_number TooManyFields = 51
+ticket_fault_number OutOfMemory = 70
 
 -- The name of the cause for which a ticket is rejected.
-abbrev pub ticket_name : TicketFault → List ℕ
-ticket_name TicketForm = codes "TicketForm"
-ticket_name TicketVersion = codes "TicketVersion"
-ticket_name Impossible = codes "Impossible"
-ticket_name HeaderFull = codes "HeaderFull"
-ticket_name TooManyFields = codes "TooManyFields"
-ticket_name OutOfMemory = codes "OutOfMemory"
+abbrev pub ticket_fault_name : TicketFault → List ℕ
+ticket_fault_name TicketForm = codes "TicketForm"
+ticket_fault_name TicketVersion = codes "TicketVersion"
+ticket_fault_name Impossible = codes "Impossible"
+ticket_fault_name HeaderFull = codes "HeaderFull"
+ticket_fault_name TooManyFields = codes "TooManyFields"
+ticket_fault_name OutOfMemory = codes "OutOfMemory"

@@ -1,8 +1,8 @@
 -- The result of a whole stream, and the envelopes that an input begins with.
 use Rattle.std.specs.Prelude.{◌≡◌, ◌≢◌, ℕ, ◌<◌, ◌≤◌, List, length, take, slice_index, ◌+◌, min, true, false, [], ◌∷◌, Bool, ◌⊎◌, ◌++◌, map}
 use Rattle.std.specs.List.{AllByRecursion}
-use Rattle.iim_places.specs.Format.{Admitted.Value, Admitted.Admits, Admitted.AreWithin, Causes.refusal_at}
-use Rattle.iim_places.specs.Format.{Causes.TokenFault, Open.IsOpen, Open.RefusesNext, Open.IsTruncatedAt}
+use Rattle.iim_places.specs.Format.{Admitted.Value, Admitted.Admits, Admitted.AreWithinLimits, Causes.refusal_at}
+use Rattle.iim_places.specs.Format.{Causes.TokenFault, Open.IsIncomplete, Open.RefusesNext, Open.IsTruncatedAt}
 use Rattle.iim_places.specs.declared.refusal.{Refusal.Refusal, Cause.TheVariants.Message}
 use Rattle.iim_dataset.specs.Format.Octets.{greatest_u64}
 use Rattle.iim_fields.specs.declared.limits.Limits.{Limits}
@@ -11,10 +11,10 @@ use Rattle.wire_message.specs.declared.fault.MessageCause.TheVariants.{Sink}
 -- The octets are an envelope with this value, within the limits.
 pub record IsEnvelopeWithin (limits : Limits) (octets : List ℕ) (value : Value) : Type 0 where
   pub admits : Admits octets value
-  pub within : AreWithin limits admits.datasets
+  pub within : AreWithinLimits limits admits.datasets
 
 -- The octets are rejected, and not because the sink stopped.
-pub record Kills (limits : Limits) (octets : List ℕ) (next : ℕ) (fault : TokenFault) : Type 0 where
+pub record RefusesOctet (limits : Limits) (octets : List ℕ) (next : ℕ) (fault : TokenFault) : Type 0 where
   pub refuses : RefusesNext limits octets next fault
   pub by_octets : fault.cause ≢ Message Sink
 
@@ -41,7 +41,7 @@ pub record IsRefused (limits : Limits) (stream : List ℕ) (e : Refusal) : Type 
 -- The whole stream is incomplete: every layer can continue after it, and no envelope ends within
 -- it.
 pub record IsTruncated (limits : Limits) (stream : List ℕ) (e : Refusal) : Type 0 where
-  pub is_open : IsOpen limits stream
+  pub is_open : IsIncomplete limits stream
   pub refusal : IsTruncatedAt stream (length stream) e
 
 -- the result of the stream, if no sink stops
@@ -51,13 +51,13 @@ Answers limits stream (Refused e) = IsRefused limits stream e × (e.cause ≢ Me
 Answers limits stream (Truncated e) = IsTruncated limits stream e
 
 -- a count plus `n`, saturated at the greatest number of 64 bits
-abbrev pub raised : ℕ → ℕ → ℕ
-raised a n = min (a + n) greatest_u64
+abbrev pub sum_capped : ℕ → ℕ → ℕ
+sum_capped a n = min (a + n) greatest_u64
 
 -- whether the list is non-empty
-abbrev pub are_some : List ℕ → Bool
-are_some [] = false
-are_some (x ∷ xs) = true
+abbrev pub is_non_empty : List ℕ → Bool
+is_non_empty [] = false
+is_non_empty (x ∷ xs) = true
 
 -- ---- The envelopes that an input begins with, and what follows them.
 
@@ -85,7 +85,7 @@ joined (e ∷ es) = e.octets ++ joined es
 
 -- The input is the concatenation of these envelopes and a rest, and the envelopes are at most
 -- `max_envelopes`.
-pub record Divides (limits : Limits) (input : List ℕ) (envelopes : List Listed) (rest : List ℕ) : Type 0 where
+pub record SplitsInto (limits : Limits) (input : List ℕ) (envelopes : List Listed) (rest : List ℕ) : Type 0 where
   pub admitted : AllByRecursion (IsListed limits) envelopes
   pub parts : input ≡ joined envelopes ++ rest
   pub few : length envelopes ≤ max_envelopes
@@ -93,21 +93,21 @@ pub record Divides (limits : Limits) (input : List ℕ) (envelopes : List Listed
 -- Every layer can continue after the first `k` octets, and they are not an envelope. The next octet
 -- completes the first token after which a layer cannot continue. (Counts of octets saturate at the
 -- greatest number of 64 bits.)
-pub record IsDeadAfter (limits : Limits) (rest : List ℕ) (k : ℕ) (e : Refusal) : Type 0 where
+pub record RejectsNextAfter (limits : Limits) (rest : List ℕ) (k : ℕ) (e : Refusal) : Type 0 where
   pub within : k < length rest
   pub fault : TokenFault
-  pub refusal : e ≡ refusal_at (raised 0 k) fault
-  pub kills : Kills limits (take k rest) (slice_index rest k) fault
+  pub refusal : e ≡ refusal_at (sum_capped 0 k) fault
+  pub kills : RefusesOctet limits (take k rest) (slice_index rest k) fault
 
 -- The octets are non-empty and truncated: every layer can continue after them, and the input ends.
 pub record EndsTruncated (limits : Limits) (rest : List ℕ) (e : Refusal) : Type 0 where
   pub some : rest ≢ []
-  pub is_open : IsOpen limits rest
-  pub truncated : IsTruncatedAt rest (raised 0 (length rest)) e
+  pub is_open : IsIncomplete limits rest
+  pub truncated : IsTruncatedAt rest (sum_capped 0 (length rest)) e
 
 -- The rest is rejected after its first `k` octets: by the next octet, or because the input ends.
 abbrev pub IsRefusedAfter : Limits → List ℕ → ℕ → Refusal → Type 0
-IsRefusedAfter limits rest k e = (EndsTruncated limits rest e × (k ≡ length rest)) ⊎ IsDeadAfter limits rest k e
+IsRefusedAfter limits rest k e = (EndsTruncated limits rest e × (k ≡ length rest)) ⊎ RejectsNextAfter limits rest k e
 
 -- What follows the envelopes: nothing, rejected octets, or one envelope too many.
 pub data InputEnding : Type 0 where
@@ -116,13 +116,13 @@ pub data InputEnding : Type 0 where
   TooMany : InputEnding
 
 -- The octets after `count` envelopes have this ending.
-abbrev pub EndsBy : Limits → ℕ → List ℕ → InputEnding → Type 0
-EndsBy limits count rest Whole = rest ≡ []
-EndsBy limits count rest (RefusedBy refusal) = (k : ℕ) × IsRefusedAfter limits rest k refusal
-EndsBy limits count rest TooMany = (count ≡ max_envelopes) × (e : Listed) × IsListed limits e × (more : List ℕ) × (rest ≡ e.octets ++ more)
+abbrev pub HasEnd : Limits → ℕ → List ℕ → InputEnding → Type 0
+HasEnd limits count rest Whole = rest ≡ []
+HasEnd limits count rest (RefusedBy refusal) = (k : ℕ) × IsRefusedAfter limits rest k refusal
+HasEnd limits count rest TooMany = (count ≡ max_envelopes) × (e : Listed) × IsListed limits e × (more : List ℕ) × (rest ≡ e.octets ++ more)
 
 -- The listing of an input: the envelopes that it begins with, and what follows them.
 pub record IsListing (limits : Limits) (input : List ℕ) (envelopes : List Listed) (ending : InputEnding) : Type 0 where
   pub rest : List ℕ
-  pub divides : Divides limits input envelopes rest
-  pub ends : EndsBy limits (length envelopes) rest ending
+  pub divides : SplitsInto limits input envelopes rest
+  pub ends : HasEnd limits (length envelopes) rest ending

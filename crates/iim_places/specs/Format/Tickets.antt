@@ -1,10 +1,10 @@
 -- The position that octets reach, and its ticket.
 use Rattle.std.specs.Prelude.{◌≡◌, ℕ, ◌+◌, ◌-◌, ◌==◌, if◌then◌else◌, List, [], ◌∷◌, ◌++◌, length, codes, Option, Some, None}
 use Rattle.std.specs.{List.flat_map, Int.w32, Int.w64, Int.to_be_bytes}
-use Rattle.iim_dataset.specs.Format.Datasets.{Dataset, of_record, count_octets, Begun, InTag, InData, Reads}
+use Rattle.iim_dataset.specs.Format.Datasets.{Dataset, of_record, count_octets, PartialDataset, InTag, InData, ReadsAsDatasets}
 use Rattle.iim_fields.specs.Format.Causes.{kept, section_after}
 use Rattle.iim_object.specs.{Format.Objects.numbers_of, States.Reading.stated_numbers}
-use Rattle.wire_message.specs.States.Reading.{LeadsToSaved}
+use Rattle.wire_message.specs.States.Reading.{ReachesSavedState}
 use Rattle.wire_message.specs.declared.saved.{MessagePart.MessagePart, MessagePlace.MessagePlace}
 use Rattle.wire_message.specs.declared.saved.MessagePart.TheVariants as part
 use Rattle.iim_places.specs.Format.Open.{object_so_far, section}
@@ -15,8 +15,8 @@ use Rattle.iim_places.specs.Format.Open.{object_so_far, section}
 -- dataset's number, the count, the number of remaining octets, and the octets received (not stored
 -- for a subfile); or none, after the last dataset.
 pub data Phase : Type 0 where
-  TagBegun : List ℕ → Phase
-  DataBegun : (set count left : ℕ) → List ℕ → Phase
+  PartialTag : List ℕ → Phase
+  PartialData : (set count left : ℕ) → List ℕ → Phase
   AllEnded : Phase
 
 -- The position of an unpacker: the record of the last head; the partial dataset; the datasets of
@@ -31,18 +31,18 @@ pub record Place : Type 0 where
   pub heads : ℕ
   pub message : MessagePlace
 
-abbrev pub phase_of : List Dataset → Begun → Phase
-phase_of ds (InTag held) = if section_after ds == 9 then AllEnded else TagBegun held
-phase_of ds (InData h taken) = DataBegun h.set h.count (h.count - length taken) (if h.rec == 8 then [] else taken)
+abbrev pub phase_of : List Dataset → PartialDataset → Phase
+phase_of ds (InTag held) = if section_after ds == 9 then AllEnded else PartialTag held
+phase_of ds (InData h taken) = PartialData h.set h.count (h.count - length taken) (if h.rec == 8 then [] else taken)
 
 -- the number of heads of 8:10, that of a partial subfile included
-abbrev pub heads_of : List Dataset → Begun → ℕ
+abbrev pub heads_of : List Dataset → PartialDataset → ℕ
 heads_of ds (InTag held) = length (of_record 8 ds)
 heads_of ds (InData h taken) = length (of_record 8 ds) + (if h.rec == 8 then 1 else 0)
 
 -- the position after complete datasets and a partial one, whose object reaches this position in the
 -- message
-abbrev pub place_of : List Dataset → Begun → MessagePlace → Place
+abbrev pub place_of : List Dataset → PartialDataset → MessagePlace → Place
 place_of whole begun message = record {
   section = section whole begun;
   phase = phase_of whole begun;
@@ -54,13 +54,13 @@ place_of whole begun message = record {
 }
 
 -- The octets reach this position.
-pub record IsPlaceOf (octets : List ℕ) (place : Place) : Type 0 where
+pub record ReachesPlace (octets : List ℕ) (place : Place) : Type 0 where
   pub whole : List Dataset
-  pub begun : Begun
-  pub reads : Reads count_octets octets whole begun
+  pub begun : PartialDataset
+  pub reads : ReadsAsDatasets count_octets octets whole begun
   pub text : List ℕ
   pub message : MessagePlace
-  pub leads : LeadsToSaved (object_so_far whole begun) text message
+  pub leads : ReachesSavedState (object_so_far whole begun) text message
   pub is_place : place ≡ place_of whole begun message
 
 -- ---- the encoding of a position
@@ -94,8 +94,8 @@ abbrev pub wide : ℕ → ℕ → List ℕ
 wide version n = if version == first_version.number then four n else to_be_bytes w64 n
 
 abbrev pub phase_octets : ℕ → Phase → List ℕ
-phase_octets version (TagBegun held) = 0 ∷ length held ∷ held
-phase_octets version (DataBegun set count left taken) = 1 ∷ set ∷ (wide version count ++ (wide version left ++ taken))
+phase_octets version (PartialTag held) = 0 ∷ length held ∷ held
+phase_octets version (PartialData set count left taken) = 1 ∷ set ∷ (wide version count ++ (wide version left ++ taken))
 phase_octets version AllEnded = 2 ∷ []
 
 abbrev pub field_octets : Dataset → List ℕ
@@ -136,25 +136,25 @@ abbrev pub message_octets : MessagePlace → List ℕ
 message_octets m = (part_number m.part ∷ m.counter ∷ m.flag ∷ []) ++ texts_octets m
 
 -- what each ticket begins with: the name and the version
-abbrev pub ticket_name : ℕ → List ℕ
-ticket_name version = codes "IIMT" ++ version ∷ []
+abbrev pub ticket_header : ℕ → List ℕ
+ticket_header version = codes "IIMT" ++ version ∷ []
 
 -- the order of what follows: the section, the partial dataset, the datasets, the numbers of record
 -- 7, the octets and heads of the object, and the encoding of the position in the message
 abbrev pub layout : ℕ → ℕ → Phase → List Dataset → List (Option ℕ) → ℕ → ℕ → List ℕ → List ℕ
 layout version section phase fields numbers taken heads message =
-    ticket_name version ++ (section ∷ []) ++ phase_octets version phase ++ fields_octets fields ++ flat_map (number_octets version) numbers
+    ticket_header version ++ (section ∷ []) ++ phase_octets version phase ++ fields_octets fields ++ flat_map (number_octets version) numbers
     ++ wide version taken ++ four heads ++ message
 
 -- the ticket of the position, in a version
-abbrev pub ticket_in : ℕ → Place → List ℕ
-ticket_in version p = layout version p.section p.phase p.fields p.numbers p.taken p.heads (message_octets p.message)
+abbrev pub ticket_in_version : ℕ → Place → List ℕ
+ticket_in_version version p = layout version p.section p.phase p.fields p.numbers p.taken p.heads (message_octets p.message)
 
 abbrev pub ticket_of : Place → List ℕ
-ticket_of p = ticket_in present_version p
+ticket_of p = ticket_in_version present_version p
 
 -- The ticket is that of the position that the octets reach.
 pub record IsTicketOf (octets ticket : List ℕ) : Type 0 where
   pub place : Place
-  pub is_place : IsPlaceOf octets place
+  pub is_place : ReachesPlace octets place
   pub spelled : ticket ≡ ticket_of place

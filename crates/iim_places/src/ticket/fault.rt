@@ -1,7 +1,7 @@
 //! Why a ticket is rejected.
 
 ghost use Rattle.std.specs.Prelude.{◌≡◌};
-ghost use Rattle.iim_places.specs.Format.Faults.{ticket_number, ticket_name};
+ghost use Rattle.iim_places.specs.Format.Faults.{ticket_fault_number, ticket_fault_name};
 
 use thiserror::Error;
 
@@ -33,7 +33,7 @@ pub enum TicketFault {
 impl TicketFault {
     /// Returns the number of the cause, as it is printed.
     pub fn number(self) -> u8
-        ensures { result ≡ ticket_number self }
+        ensures { result ≡ ticket_fault_number self }
     {
         match self {
             TicketFault::TicketForm => 100,
@@ -47,7 +47,7 @@ impl TicketFault {
 
     /// Returns the name of the cause, as it is printed.
     pub fn name(self) -> &'static str
-        ensures { result.now ≡ ticket_name self }
+        ensures { result.now ≡ ticket_fault_name self }
     {
         match self {
             TicketFault::TicketForm => "TicketForm",

@@ -3,8 +3,8 @@
 ghost use Rattle.std.specs.Prelude.{◌≡◌};
 ghost use Rattle.std.specs.List.{AllByRecursion, flat_map};
 ghost use Rattle.iim_places.specs.Format.Tickets.{field_octets};
-ghost use Rattle.iim_places.specs.Format.TicketForm.{IsLongField};
-ghost use Rattle.iim_places.specs.TicketParts.{HoldsFields, held_once};
+ghost use Rattle.iim_places.specs.Format.TicketForm.{FitsInField};
+ghost use Rattle.iim_places.specs.TicketParts.{EncodesFields, encoded_fields_unique};
 
 use crate::ticket::front::take_field;
 use std::marker::Model;
@@ -16,7 +16,7 @@ use std::marker::Model;
 pub struct TicketFields<'a> {
     /// The encoding of the remaining datasets.
     pub(crate) octets: &'a [u8],
-    ghost holds: { HoldsFields octets.now } by { held_once octets.now },
+    ghost holds: { EncodesFields octets.now } by { encoded_fields_unique octets.now },
 }
 
 impl<'a> Model for TicketFields<'a> {
@@ -29,9 +29,9 @@ impl<'a> Model for TicketFields<'a> {
 }
 
 /// Returns an iterator over all datasets that are encoded in `octets`.
-pub(crate) fn walk_over(octets: &[u8]) -> TicketFields<'_>
-    requires { HoldsFields octets.now }
-    ensures each { AllByRecursion IsLongField result }
+pub(crate) fn iterate(octets: &[u8]) -> TicketFields<'_>
+    requires { EncodesFields octets.now }
+    ensures each { AllByRecursion FitsInField result }
     ensures spelled { octets.now ≡ flat_map field_octets result }
 {
     TicketFields { octets }
@@ -42,23 +42,23 @@ impl<'a> TicketFields<'a> {
     pub fn again(&self) -> TicketFields<'a>
         ensures { result ≡ self.now }
     {
-        walk_over(self.octets)
+        iterate(self.octets)
     }
 }
 
 impl<'a> Iterator for TicketFields<'a> {
     ghost use Rattle.std.specs.Iterator.{YieldsFirstBy, item_count};
-    ghost use Rattle.iim_places.specs.Format.TicketForm.{those_left};
+    ghost use Rattle.iim_places.specs.Format.TicketForm.{remaining_datasets};
 
     type Item = (u8, u8, &'a [u8]);
 
-    ghost next_gives = { YieldsFirstBy (λ t. record { rec = t.0; set = t.1; octets = t.2.now }) those_left };
+    ghost next_gives = { YieldsFirstBy (λ t. record { rec = t.0; set = t.1; octets = t.2.now }) remaining_datasets };
 
-    ghost remaining = { item_count those_left };
+    ghost remaining = { item_count remaining_datasets };
 
     fn next(&mut self) -> Option<(u8, u8, &'a [u8])> {
         let (field, octets) = take_field(self.octets)?;
-        *self = walk_over(octets);
+        *self = iterate(octets);
         Some(field)
     }
 }

@@ -2,10 +2,10 @@
 
 ghost use Rattle.std.specs.Prelude.{◌≡◌, ◌^◌, ◌<◌, ◌++◌, ◌∷◌, [], length, IfSome, IfNone};
 ghost use Rattle.iim_places.specs.Format.Tickets.{four, wide, field_octets, number_octets, text_octets};
-ghost use Rattle.iim_places.specs.Format.TicketForm.{IsLongField, IsSizeIn, IsShort, IsWide};
+ghost use Rattle.iim_places.specs.Format.TicketForm.{FitsInField, IsOptionalIn, IsShortText, FitsWidth};
 ghost use Rattle.iim_places.specs.TicketParts.{dataset};
 ghost use Rattle.std.specs.Int.{w64, to_be_bytes};
-ghost use Rattle.iim_places.specs.Restoring.{BeginsWithNone, IsFour};
+ghost use Rattle.iim_places.specs.Restoring.{LacksItem, FitsInFourOctets};
 
 use crate::form::FIRST_VERSION;
 
@@ -44,14 +44,14 @@ fn number_of(octets: &[u8]) -> u64
 pub(crate) fn take_number(octets: &[u8]) -> Option<(u64, &[u8])>
     ensures parts { IfSome result (λ r. octets.now ≡ four r.0 ++ r.1.now) }
     ensures fits { IfSome result (λ r. r.0 < 2 ^ 32) }
-    ensures none { IfNone result (BeginsWithNone IsFour four octets.now) }
+    ensures none { IfNone result (LacksItem FitsInFourOctets four octets.now) }
 {
     let (number, rest) = take_front(octets, 4)?;
     Some((number_of(number), rest))
 }
 
 /// Returns the number that eight octets encode, high octet first.
-fn wide_number_of(octets: &[u8]) -> u64
+fn eight_octet_number(octets: &[u8]) -> u64
     requires { length octets.now ≡ 8 }
     ensures is { to_be_bytes w64 result ≡ octets.now }
 {
@@ -66,14 +66,14 @@ fn take_eight(octets: &[u8]) -> Option<(u64, &[u8])>
     ensures none { IfNone result (length octets.now < 8) }
 {
     let (number, rest) = take_front(octets, 8)?;
-    Some((wide_number_of(number), rest))
+    Some((eight_octet_number(number), rest))
 }
 
 /// Parses a number of the version's width, high octet first. Returns it and the rest.
 pub(crate) fn take_wide(version: u8, octets: &[u8]) -> Option<(u64, &[u8])>
     ensures parts { IfSome result (λ r. octets.now ≡ wide version r.0 ++ r.1.now) }
-    ensures fits { IfSome result (λ r. IsWide version r.0) }
-    ensures none { IfNone result (BeginsWithNone (IsWide version) (wide version) octets.now) }
+    ensures fits { IfSome result (λ r. FitsWidth version r.0) }
+    ensures none { IfNone result (LacksItem (FitsWidth version) (wide version) octets.now) }
 {
     if version == FIRST_VERSION {
         return take_number(octets);
@@ -84,8 +84,8 @@ pub(crate) fn take_wide(version: u8, octets: &[u8]) -> Option<(u64, &[u8])>
 /// Parses a text after its length in one octet. Returns it and the rest.
 pub(crate) fn take_text(octets: &[u8]) -> Option<(&[u8], &[u8])>
     ensures parts { IfSome result (λ r. octets.now ≡ text_octets r.0.now ++ r.1.now) }
-    ensures fits { IfSome result (λ r. IsShort r.0.now) }
-    ensures none { IfNone result (BeginsWithNone IsShort text_octets octets.now) }
+    ensures fits { IfSome result (λ r. IsShortText r.0.now) }
+    ensures none { IfNone result (LacksItem IsShortText text_octets octets.now) }
 {
     let (length, rest) = take_octet(octets)?;
     take_front(rest, u64::from(length))
@@ -94,8 +94,8 @@ pub(crate) fn take_text(octets: &[u8]) -> Option<(&[u8], &[u8])>
 /// Parses an optional number: a mark, 0 or 1, then after 1 the number. Returns it and the rest.
 pub(crate) fn take_option(version: u8, octets: &[u8]) -> Option<(Option<u64>, &[u8])>
     ensures parts { IfSome result (λ r. octets.now ≡ number_octets version r.0 ++ r.1.now) }
-    ensures fits { IfSome result (λ r. IsSizeIn version r.0) }
-    ensures none { IfNone result (BeginsWithNone (IsSizeIn version) (number_octets version) octets.now) }
+    ensures fits { IfSome result (λ r. IsOptionalIn version r.0) }
+    ensures none { IfNone result (LacksItem (IsOptionalIn version) (number_octets version) octets.now) }
 {
     let (mark, rest) = take_octet(octets)?;
     match mark {
@@ -112,7 +112,7 @@ pub(crate) fn take_option(version: u8, octets: &[u8]) -> Option<(Option<u64>, &[
 pub(crate) fn take_field(octets: &[u8]) -> Option<((u8, u8, &[u8]), &[u8])>
     ensures parts { IfSome result (λ r. octets.now ≡ field_octets (dataset r.0.0 r.0.1 r.0.2.now) ++ r.1.now) }
     ensures fits { IfSome result (λ r. length r.0.2.now < 2 ^ 32) }
-    ensures none { IfNone result (BeginsWithNone IsLongField field_octets octets.now) }
+    ensures none { IfNone result (LacksItem FitsInField field_octets octets.now) }
 {
     let (rec, rest) = take_octet(octets)?;
     let (set, rest) = take_octet(rest)?;

@@ -2,12 +2,12 @@
 
 ghost use Rattle.std.specs.Prelude.{◌≡◌, Some, None, IsSome, IfSome, IfNone};
 ghost use Rattle.iim_object.specs.Format.Objects.{ObjectEnded, Confirmed, Place, MayFollow, place_after};
-ghost use Rattle.iim_object.specs.States.Reading.{StandsAt, IsAt, IsPossible};
-ghost use Rattle.iim_places.specs.States.Possible.{begun_of_object, object_after};
-ghost use Rattle.iim_places.specs.Nowhere.{goes_nowhere, stops_nowhere};
-ghost use Rattle.iim_places.specs.States.Restored.{phase_told};
+ghost use Rattle.iim_object.specs.States.Reading.{ObjectReaderStandsAt, PlaceHasNumbers, IsPossible};
+ghost use Rattle.iim_places.specs.States.Possible.{partial_subfile_of, object_after};
+ghost use Rattle.iim_places.specs.NullObjectSink.{null_sink_accepts, null_sink_stops};
+ghost use Rattle.iim_places.specs.States.Restored.{phase_of_ticket};
 
-use crate::laws::lower_laws;
+use crate::laws::layer_lemmas;
 use crate::ticket::split::TicketPhase;
 use iim_dataset::Stop;
 use iim_object::{ObjectReader, ObjectSink};
@@ -15,12 +15,12 @@ use iim_tables::records::{CONFIRMED_SIZE, OBJECT, POST_OBJECT};
 
 /// An object sink that accepts everything and stores nothing.
 #[derive(Drop)]
-struct Nowhere;
+struct NullObjectSink;
 
-impl ObjectSink for Nowhere {
-    ghost goes = { goes_nowhere };
+impl ObjectSink for NullObjectSink {
+    ghost goes = { null_sink_accepts };
 
-    ghost stops = { stops_nowhere };
+    ghost stops = { null_sink_stops };
 
     ghost stands = { λ _. Unit {0} };
 
@@ -41,8 +41,8 @@ impl ObjectSink for Nowhere {
 
 /// Returns the count of a partial subfile and how many of its octets remain, or `None` if no
 /// subfile is partial.
-fn begun_subfile(section: u8, phase: &TicketPhase<'_>) -> Option<(u64, u64)>
-    ensures { result ≡ begun_of_object section (phase_told phase.now) }
+fn partial_subfile(section: u8, phase: &TicketPhase<'_>) -> Option<(u64, u64)>
+    ensures { result ≡ partial_subfile_of section (phase_of_ticket phase.now) }
 {
     match phase {
         TicketPhase::Data { count, left, .. } if section == OBJECT => Some((*count, *left)),
@@ -54,14 +54,14 @@ fn begun_subfile(section: u8, phase: &TicketPhase<'_>) -> Option<(u64, u64)>
 fn ended(object: ObjectReader) -> Option<ObjectReader>
     requires { IsSome object }
     ensures calls { IfSome result IsSome }
-    ensures stands { IfSome result (λ r. (p : Place) → StandsAt object p → MayFollow p ObjectEnded
-        → StandsAt r (place_after p ObjectEnded)) }
-    ensures none { IfNone result ((p : Place) → StandsAt object p → MayFollow p ObjectEnded
+    ensures stands { IfSome result (λ r. (p : Place) → ObjectReaderStandsAt object p → MayFollow p ObjectEnded
+        → ObjectReaderStandsAt r (place_after p ObjectEnded)) }
+    ensures none { IfNone result ((p : Place) → ObjectReaderStandsAt object p → MayFollow p ObjectEnded
         → IsPossible (place_after p ObjectEnded) → ⊥) }
 {
-    lower_laws();
+    layer_lemmas();
     let mut object = object;
-    match object.head(POST_OBJECT, CONFIRMED_SIZE, 0, &mut Nowhere) {
+    match object.head(POST_OBJECT, CONFIRMED_SIZE, 0, &mut NullObjectSink) {
         Ok(()) => Some(object),
         Err(_) => None,
     }
@@ -71,12 +71,12 @@ fn ended(object: ObjectReader) -> Option<ObjectReader>
 fn confirmed(object: ObjectReader, size: u64) -> Option<ObjectReader>
     requires { IsSome object }
     ensures calls { IfSome result IsSome }
-    ensures stands { IfSome result (λ r. (p : Place) → StandsAt object p → MayFollow p (Confirmed size)
-        → StandsAt r (place_after p (Confirmed size))) }
-    ensures none { IfNone result ((p : Place) → StandsAt object p → MayFollow p (Confirmed size)
+    ensures stands { IfSome result (λ r. (p : Place) → ObjectReaderStandsAt object p → MayFollow p (Confirmed size)
+        → ObjectReaderStandsAt r (place_after p (Confirmed size))) }
+    ensures none { IfNone result ((p : Place) → ObjectReaderStandsAt object p → MayFollow p (Confirmed size)
         → IsPossible (place_after p (Confirmed size)) → ⊥) }
 {
-    lower_laws();
+    layer_lemmas();
     let mut object = object;
     match object.value(POST_OBJECT, CONFIRMED_SIZE, size) {
         Ok(()) => Some(object),
@@ -88,14 +88,15 @@ fn confirmed(object: ObjectReader, size: u64) -> Option<ObjectReader>
 /// and `heads` heads. Returns `None` if no input reaches that state.
 fn ended_at(numbers: [Option<u64>; 4], taken: u64, heads: u64) -> Option<ObjectReader>
     ensures calls { IfSome result IsSome }
-    ensures leads { IfSome result (λ r. (p : Place) × IsAt numbers taken None heads p
+    ensures leads { IfSome result (λ r. (p : Place) × PlaceHasNumbers numbers taken None heads p
         × IsPossible (place_after p ObjectEnded)) }
-    ensures stands { IfSome result (λ r. (p : Place) → IsAt numbers taken None heads p
-        → IsPossible (place_after p ObjectEnded) → StandsAt r (place_after p ObjectEnded)) }
-    ensures none { IfNone result ((p : Place) → IsAt numbers taken None heads p → IsPossible (place_after p ObjectEnded)
+    ensures stands { IfSome result (λ r. (p : Place) → PlaceHasNumbers numbers taken None heads p
+        → IsPossible (place_after p ObjectEnded) → ObjectReaderStandsAt r (place_after p ObjectEnded)) }
+    ensures none { IfNone result ((p : Place) → PlaceHasNumbers numbers taken None heads p → IsPossible
+        (place_after p ObjectEnded)
         → ⊥) }
 {
-    lower_laws();
+    layer_lemmas();
     let object = ObjectReader::at(numbers, taken, None, heads)?;
     if heads == 0 {
         return None;
@@ -107,15 +108,15 @@ fn ended_at(numbers: [Option<u64>; 4], taken: u64, heads: u64) -> Option<ObjectR
 /// `taken` octets and `heads` heads. Returns `None` if no input reaches that state.
 fn confirmed_at(numbers: [Option<u64>; 4], taken: u64, heads: u64) -> Option<ObjectReader>
     ensures calls { IfSome result IsSome }
-    ensures leads { IfSome result (λ r. (p : Place) × IsAt numbers taken None heads p
+    ensures leads { IfSome result (λ r. (p : Place) × PlaceHasNumbers numbers taken None heads p
         × IsPossible (place_after (place_after p ObjectEnded) (Confirmed taken))) }
-    ensures stands { IfSome result (λ r. (p : Place) → IsAt numbers taken None heads p
+    ensures stands { IfSome result (λ r. (p : Place) → PlaceHasNumbers numbers taken None heads p
         → IsPossible (place_after (place_after p ObjectEnded) (Confirmed taken))
-        → StandsAt r (place_after (place_after p ObjectEnded) (Confirmed taken))) }
-    ensures none { IfNone result ((p : Place) → IsAt numbers taken None heads p
+        → ObjectReaderStandsAt r (place_after (place_after p ObjectEnded) (Confirmed taken))) }
+    ensures none { IfNone result ((p : Place) → PlaceHasNumbers numbers taken None heads p
         → IsPossible (place_after (place_after p ObjectEnded) (Confirmed taken)) → ⊥) }
 {
-    lower_laws();
+    layer_lemmas();
     let object = ended_at(numbers, taken, heads)?;
     confirmed(object, taken)
 }
@@ -132,19 +133,19 @@ pub(crate) fn object_at(
 ) -> Option<ObjectReader>
     ensures calls { IfSome result IsSome }
     ensures leads { IfSome result (λ r. (p : Place)
-        × IsAt numbers taken (begun_of_object section (phase_told phase.now)) heads p
-        × IsPossible (object_after section (phase_told phase.now) taken p)) }
+        × PlaceHasNumbers numbers taken (partial_subfile_of section (phase_of_ticket phase.now)) heads p
+        × IsPossible (object_after section (phase_of_ticket phase.now) taken p)) }
     ensures stands { IfSome result (λ r. (p : Place)
-        → IsAt numbers taken (begun_of_object section (phase_told phase.now)) heads p
-        → IsPossible (object_after section (phase_told phase.now) taken p)
-        → StandsAt r (object_after section (phase_told phase.now) taken p)) }
+        → PlaceHasNumbers numbers taken (partial_subfile_of section (phase_of_ticket phase.now)) heads p
+        → IsPossible (object_after section (phase_of_ticket phase.now) taken p)
+        → ObjectReaderStandsAt r (object_after section (phase_of_ticket phase.now) taken p)) }
     ensures none { IfNone result ((p : Place)
-        → IsAt numbers taken (begun_of_object section (phase_told phase.now)) heads p
-        → IsPossible (object_after section (phase_told phase.now) taken p) → ⊥) }
+        → PlaceHasNumbers numbers taken (partial_subfile_of section (phase_of_ticket phase.now)) heads p
+        → IsPossible (object_after section (phase_of_ticket phase.now) taken p) → ⊥) }
 {
     match phase {
         TicketPhase::Data { .. } if section == POST_OBJECT => ended_at(numbers, taken, heads),
         TicketPhase::Ended => confirmed_at(numbers, taken, heads),
-        _ => ObjectReader::at(numbers, taken, begun_subfile(section, phase), heads),
+        _ => ObjectReader::at(numbers, taken, partial_subfile(section, phase), heads),
     }
 }

@@ -1,20 +1,22 @@
 //! Whether the position of a ticket is reachable, and the readers there.
 
 ghost use Rattle.iim_dataset.specs.Format.Datasets.{BeginsTag, count_octets};
-ghost use Rattle.iim_fields.specs.Format.Records.{tells_number, IsWithin};
+ghost use Rattle.iim_fields.specs.Format.Records.{has_number_value, IsWithin};
 ghost use Rattle.std.specs.Prelude.{◌≡◌, ◌↔◌, ◌≤◌, true, ◌+◌, ◌-◌, cond, length, false, IsTrue, IfSome, IfNone};
 ghost use Rattle.iim_fields.specs.Format.Causes.{joined};
-ghost use Rattle.iim_places.specs.States.Possible.{begun_subfiles, one_of_some, TagsLead, widest, begun_count, begun_fields, count_octets_before, greatest_size_before, IsSmallPhase};
-ghost use Rattle.iim_places.specs.States.Readers.{AreAt, AreAtIn, LeadsNowhereIn};
-ghost use Rattle.iim_places.specs.States.Restored.{IsLimitFault, phase_told, split_told};
-ghost use Rattle.iim_places.specs.Restoring.{LeadsNowhere};
+ghost use Rattle.iim_places.specs.States.Possible.{partial_subfiles, zero_or_one, TagsReachPhase, widest, partial_count, partial_fields, first_count_octets, first_greatest_size, IsSmallPhase};
+ghost use Rattle.iim_places.specs.States.Readers.{ReadersAreAt, ReadersAreAtIn, IsUnreachableInVersion};
+ghost use Rattle.iim_places.specs.States.Restored.{IsLimitFault, phase_of_ticket, contents_from};
+ghost use Rattle.iim_places.specs.Restoring.{IsUnreachable};
 ghost use Rattle.iim_places.specs.Format.TicketForm.{HasForm};
 
 use crate::form::FIRST_VERSION;
 use crate::ticket::fault::TicketFault;
 use crate::ticket::fields::TicketFields;
 use crate::ticket::object::object_at;
-use crate::ticket::readers::{has_come, message_at, part_number, records_lead, tags_at};
+use crate::ticket::readers::{
+    has_received_octet, message_at, part_number, records_are_reached, tags_at,
+};
 use crate::ticket::split::{TicketParts, TicketPhase};
 use iim_dataset::HeadReader;
 use iim_dataset::internals::EXTENDED;
@@ -60,7 +62,7 @@ impl Readers {
 
 /// Returns the total size of the data and the number of datasets, or `None` if either exceeds 32
 /// bits.
-fn told_fields(fields: TicketFields<'_>) -> Option<(u32, u32)>
+fn count_fields(fields: TicketFields<'_>) -> Option<(u32, u32)>
     ensures some { IfSome result (λ r. (r.0 ≡ length (joined fields.entry)) × (r.1 ≡ length fields.entry)) }
     ensures none { IfNone result (IsWithin widest (length (joined fields.entry)) (length fields.entry) → ⊥) }
 {
@@ -77,13 +79,14 @@ fn told_fields(fields: TicketFields<'_>) -> Option<(u32, u32)>
 /// Returns the total size and the number of the datasets, including a partial dataset of records 1
 /// and 2 with the whole count of its head. Returns `None` if either exceeds 32 bits.
 fn told(section: u8, phase: &TicketPhase<'_>, fields: TicketFields<'_>) -> Option<(u32, u32)>
-    ensures some { IfSome result (λ r. (r.0 ≡ length (joined fields.entry) + begun_count section (phase_told phase.now))
-        × (r.1 ≡ length fields.entry + begun_fields section (phase_told phase.now))) }
+    ensures some { IfSome result (λ r. (r.0 ≡ length (joined fields.entry) + partial_count section
+        (phase_of_ticket phase.now))
+        × (r.1 ≡ length fields.entry + partial_fields section (phase_of_ticket phase.now))) }
     ensures none { IfNone result (IsWithin widest
-        (length (joined fields.entry) + begun_count section (phase_told phase.now))
-        (length fields.entry + begun_fields section (phase_told phase.now)) → ⊥) }
+        (length (joined fields.entry) + partial_count section (phase_of_ticket phase.now))
+        (length fields.entry + partial_fields section (phase_of_ticket phase.now)) → ⊥) }
 {
-    let (octets, count) = told_fields(fields)?;
+    let (octets, count) = count_fields(fields)?;
     match phase {
         TicketPhase::Data { count: more, .. } if is_kept(section) => {
             let octets = octets.checked_add(u32::try_from(*more).ok()?)?;
@@ -94,8 +97,8 @@ fn told(section: u8, phase: &TicketPhase<'_>, fields: TicketFields<'_>) -> Optio
 }
 
 /// Checks whether at least one subfile is complete.
-pub(crate) fn some_ended(section: u8, phase: &TicketPhase<'_>, heads: u64) -> bool
-    ensures { cond result 1 0 ≡ one_of_some (heads - begun_subfiles section (phase_told phase.now)) }
+pub(crate) fn has_complete_subfile(section: u8, phase: &TicketPhase<'_>, heads: u64) -> bool
+    ensures { cond result 1 0 ≡ zero_or_one (heads - partial_subfiles section (phase_of_ticket phase.now)) }
 {
     match phase {
         TicketPhase::Data { .. } if section == OBJECT => heads > 1,
@@ -104,7 +107,7 @@ pub(crate) fn some_ended(section: u8, phase: &TicketPhase<'_>, heads: u64) -> bo
 }
 
 /// Checks whether the message has ended if the object has.
-fn ends_together(section: u8, part: u8) -> bool
+fn message_has_ended_with_object(section: u8, part: u8) -> bool
     ensures ends { IsTrue result → section ≡ 9 → part ≡ 11 }
     ensures apart { result ≡ false → (section ≡ 9) × (part ≡ 11 → ⊥) }
 {
@@ -114,15 +117,15 @@ fn ends_together(section: u8, part: u8) -> bool
 /// Returns the readers at the position of a ticket's parts. Returns `None` if no input reaches it
 /// that is incomplete or an envelope by the sizes of the present version.
 fn readers_by_layers(parts: &TicketParts<'_>) -> Option<Readers>
-    requires { HasForm (split_told parts.now) }
-    ensures some { IfSome result (λ r. AreAt (split_told parts.now) r) }
-    ensures none { IfNone result (LeadsNowhere (split_told parts.now)) }
+    requires { HasForm (contents_from parts.now) }
+    ensures some { IfSome result (λ r. ReadersAreAt (contents_from parts.now) r) }
+    ensures none { IfNone result (IsUnreachable (contents_from parts.now)) }
 {
     let (octets, fields) = told(parts.section, &parts.phase, parts.fields.again())?;
     let tags = tags_at(parts.section, &parts.phase)?;
-    let some = some_ended(parts.section, &parts.phase, parts.heads);
+    let some = has_complete_subfile(parts.section, &parts.phase, parts.heads);
     let kept = parts.fields.again();
-    if !records_lead(parts.section, &parts.phase, kept, parts.numbers, some) {
+    if !records_are_reached(parts.section, &parts.phase, kept, parts.numbers, some) {
         return None;
     }
     let object = object_at(
@@ -139,7 +142,7 @@ fn readers_by_layers(parts: &TicketParts<'_>) -> Option<Readers>
         &parts.texts,
         parts.taken,
     )?;
-    if !ends_together(parts.section, parts.part) {
+    if !message_has_ended_with_object(parts.section, parts.part) {
         return None;
     }
     Some(Readers {
@@ -148,20 +151,20 @@ fn readers_by_layers(parts: &TicketParts<'_>) -> Option<Readers>
         message,
         octets,
         fields,
-        begun: has_come(parts.section, &parts.phase),
+        begun: has_received_octet(parts.section, &parts.phase),
     })
 }
 
 /// The maximum length of a count or a size, in octets, when version 1 was current.
-const COUNT_OCTETS_BEFORE: u8 = 4;
+const FIRST_COUNT_OCTETS: u8 = 4;
 
 /// The maximum size of an object when version 1 was current, in octets.
-const GREATEST_SIZE_BEFORE: u64 = 4_294_967_295;
+const FIRST_GREATEST_SIZE: u64 = 4_294_967_295;
 
 /// Checks whether the prefix of a tag begins one whose count has at most that length.
 fn is_small_tag(held: &[u8]) -> bool
     requires { BeginsTag count_octets held.now }
-    ensures { IsTrue result ↔ BeginsTag count_octets_before held.now }
+    ensures { IsTrue result ↔ BeginsTag first_count_octets held.now }
 {
     if held.len() < 5 {
         return true;
@@ -169,21 +172,21 @@ fn is_small_tag(held: &[u8]) -> bool
     if held[3] != EXTENDED {
         return true;
     }
-    held[4] <= COUNT_OCTETS_BEFORE
+    held[4] <= FIRST_COUNT_OCTETS
 }
 
 /// Checks whether partial data with this count, of which `left` octets remain, were possible by
 /// those sizes after `taken` octets of the object.
 fn is_small_data(section: u8, taken: u64, count: u64, left: u64) -> bool
-    ensures { IsTrue result ↔ ((tells_number section ≡ true → count ≤ count_octets_before)
-        × (section ≡ 8 → (count ≤ greatest_size_before) × (taken + left ≤ greatest_size_before))) }
+    ensures { IsTrue result ↔ ((has_number_value section ≡ true → count ≤ first_count_octets)
+        × (section ≡ 8 → (count ≤ first_greatest_size) × (taken + left ≤ first_greatest_size))) }
 {
     match section {
-        PRE_OBJECT | POST_OBJECT => count <= u64::from(COUNT_OCTETS_BEFORE),
+        PRE_OBJECT | POST_OBJECT => count <= u64::from(FIRST_COUNT_OCTETS),
         OBJECT => {
-            count <= GREATEST_SIZE_BEFORE
-                && left <= GREATEST_SIZE_BEFORE
-                && taken <= GREATEST_SIZE_BEFORE - left
+            count <= FIRST_GREATEST_SIZE
+                && left <= FIRST_GREATEST_SIZE
+                && taken <= FIRST_GREATEST_SIZE - left
         }
         _ => true,
     }
@@ -191,8 +194,8 @@ fn is_small_data(section: u8, taken: u64, count: u64, left: u64) -> bool
 
 /// Checks whether the partial dataset was possible by those sizes.
 fn is_small(section: u8, taken: u64, phase: &TicketPhase<'_>) -> bool
-    requires { TagsLead section (phase_told phase.now) }
-    ensures { IsTrue result ↔ IsSmallPhase section taken (phase_told phase.now) }
+    requires { TagsReachPhase section (phase_of_ticket phase.now) }
+    ensures { IsTrue result ↔ IsSmallPhase section taken (phase_of_ticket phase.now) }
 {
     match phase {
         TicketPhase::Tag(held) => is_small_tag(held),
@@ -204,9 +207,9 @@ fn is_small(section: u8, taken: u64, phase: &TicketPhase<'_>) -> bool
 /// Returns the readers at the position of a ticket's parts. Returns `None` if no input reaches it
 /// that is incomplete or an envelope by the sizes of the ticket's version.
 pub fn readers_at(parts: &TicketParts<'_>) -> Option<Readers>
-    requires { HasForm (split_told parts.now) }
-    ensures some { IfSome result (λ r. AreAtIn (split_told parts.now) r) }
-    ensures none { IfNone result (LeadsNowhereIn (split_told parts.now)) }
+    requires { HasForm (contents_from parts.now) }
+    ensures some { IfSome result (λ r. ReadersAreAtIn (contents_from parts.now) r) }
+    ensures none { IfNone result (IsUnreachableInVersion (contents_from parts.now)) }
 {
     let readers = readers_by_layers(parts)?;
     if parts.version == FIRST_VERSION && !is_small(parts.section, parts.taken, &parts.phase) {

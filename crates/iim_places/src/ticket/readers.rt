@@ -3,26 +3,26 @@
 ghost use Rattle.std.specs.Prelude.{◌≡◌, ◌↔◌, ◌<◌, ℕ, List, length, map, IsSome, IfSome, IfNone, IsTrue, false};
 ghost use Rattle.iim_dataset.specs.Format.Datasets.{Dataset};
 ghost use Rattle.iim_dataset.specs.Format.Octets.{Octets};
-ghost use Rattle.iim_dataset.specs.States.Reading.{TakesCalls};
-ghost use Rattle.iim_fields.specs.States.Standing.{TakesHead, HasChecked};
+ghost use Rattle.iim_dataset.specs.States.Reading.{DatasetReaderAccepts};
+ghost use Rattle.iim_fields.specs.States.Standing.{AcceptsHead, HasChecked};
 ghost use Rattle.iim_fields.specs.Format.Causes.{kept_octets};
 ghost use Rattle.iim_fields.specs.Format.Records.{IsWithin};
-ghost use Rattle.wire_message.specs.States.Reading.{LeadsIn, IsOneOf, StandsAt, LeadsToSaved};
+ghost use Rattle.wire_message.specs.States.Reading.{IsReachedByLength, IsPossibleLength, MessageReaderHasRead, ReachesSavedState};
 ghost use Rattle.wire_message.specs.declared.saved.MessagePart.{MessagePart as MessagePartValue};
 ghost use Rattle.wire_message.specs.declared.saved.MessagePlace.{MessagePlace as MessagePlaceValue};
-ghost use Rattle.iim_places.specs.TicketParts.{AreNumbers};
-ghost use Rattle.iim_places.specs.States.Possible.{TagsLead, RecordsLive, are_ended, widest};
-ghost use Rattle.iim_places.specs.Restoring.{AreKept, IsMessageOf, told_datasets};
-ghost use Rattle.iim_places.specs.States.Readers.{has_come, tag_place};
-ghost use Rattle.iim_places.specs.Format.TicketForm.{IsPhase};
-ghost use Rattle.iim_places.specs.States.Restored.{phase_told};
+ghost use Rattle.iim_places.specs.TicketParts.{AreRecordNumbers};
+ghost use Rattle.iim_places.specs.States.Possible.{TagsReachPhase, RecordsAreViable, phase_has_ended, widest};
+ghost use Rattle.iim_places.specs.Restoring.{AreStored, HasMessageParts, state_datasets};
+ghost use Rattle.iim_places.specs.States.Readers.{has_received_octet, tag_place};
+ghost use Rattle.iim_places.specs.Format.TicketForm.{IsTicketPhase};
+ghost use Rattle.iim_places.specs.States.Restored.{phase_of_ticket};
 ghost use Rattle.iim_places.specs.Format.Tickets.{part_number, present_version};
 
 use crate::ticket::fields::TicketFields;
 use crate::ticket::split::TicketPhase;
-use crate::ticket::taker::take_told;
+use crate::ticket::taker::pass_state;
 use arrayvec::ArrayVec;
-use iim_dataset::laws::places_are_reached;
+use iim_dataset::laws::dataset_states_are_reached;
 use iim_dataset::{DatasetPlace, Head, HeadReader};
 use iim_fields::RecordCheck;
 use iim_tables::records::POST_OBJECT;
@@ -34,7 +34,7 @@ fn are_octets(octets: &[u8])
 {}
 
 /// Copies the octets into an array, or returns `None` if they exceed its capacity.
-fn fitted<const ROOM: usize>(octets: &[u8]) -> Option<ArrayVec<u8, ROOM>>
+fn copy_if_fits<const ROOM: usize>(octets: &[u8]) -> Option<ArrayVec<u8, ROOM>>
     ensures some { IfSome result (λ array. array.items ≡ octets.now) }
     ensures none { IfNone result (ROOM < length octets.now) }
 {
@@ -44,15 +44,15 @@ fn fitted<const ROOM: usize>(octets: &[u8]) -> Option<ArrayVec<u8, ROOM>>
 /// Returns the reader of tags in the partial dataset of `phase`, after a head of record `section`,
 /// or `None` if no input reaches that state.
 pub(crate) fn tags_at(section: u8, phase: &TicketPhase<'_>) -> Option<HeadReader>
-    requires { IsPhase present_version section (phase_told phase.now) }
-    ensures calls { IfSome result TakesCalls }
-    ensures place { IfSome result (λ r. r.place ≡ tag_place section (phase_told phase.now)) }
-    ensures leads { IfSome result (λ r. TagsLead section (phase_told phase.now)) }
-    ensures none { IfNone result (TagsLead section (phase_told phase.now) → ⊥) }
+    requires { IsTicketPhase present_version section (phase_of_ticket phase.now) }
+    ensures calls { IfSome result DatasetReaderAccepts }
+    ensures place { IfSome result (λ r. r.place ≡ tag_place section (phase_of_ticket phase.now)) }
+    ensures leads { IfSome result (λ r. TagsReachPhase section (phase_of_ticket phase.now)) }
+    ensures none { IfNone result (TagsReachPhase section (phase_of_ticket phase.now) → ⊥) }
 {
-    places_are_reached();
+    dataset_states_are_reached();
     match phase {
-        TicketPhase::Tag(held) => HeadReader::at(DatasetPlace::Tag(fitted(held)?)),
+        TicketPhase::Tag(held) => HeadReader::at(DatasetPlace::Tag(copy_if_fits(held)?)),
         TicketPhase::Data {
             set,
             count,
@@ -73,14 +73,14 @@ pub(crate) fn tags_at(section: u8, phase: &TicketPhase<'_>) -> Option<HeadReader
 
 /// Checks whether the last dataset has ended.
 pub(crate) fn has_ended(phase: &TicketPhase<'_>) -> bool
-    ensures { result ≡ are_ended (phase_told phase.now) }
+    ensures { result ≡ phase_has_ended (phase_of_ticket phase.now) }
 {
     matches!(phase, TicketPhase::Ended)
 }
 
 /// Checks whether an octet was received.
-pub(crate) fn has_come(section: u8, phase: &TicketPhase<'_>) -> bool
-    ensures { result ≡ has_come section (phase_told phase.now) }
+pub(crate) fn has_received_octet(section: u8, phase: &TicketPhase<'_>) -> bool
+    ensures { result ≡ has_received_octet section (phase_of_ticket phase.now) }
 {
     match phase {
         TicketPhase::Tag(held) if section == 0 => !held.is_empty(),
@@ -91,11 +91,11 @@ pub(crate) fn has_come(section: u8, phase: &TicketPhase<'_>) -> bool
 /// Checks whether the record layer can continue with the partial dataset of `phase`, after the
 /// datasets that `check` has consumed.
 fn can_continue(check: &mut RecordCheck, section: u8, phase: &TicketPhase<'_>) -> bool
-    requires { TakesHead check.old }
+    requires { AcceptsHead check.old }
     ensures lives { IsTrue result → (ds : List Dataset) → HasChecked check.old ds
-        → RecordsLive section (phase_told phase.now) ds }
+        → RecordsAreViable section (phase_of_ticket phase.now) ds }
     ensures dies { result ≡ false → (ds : List Dataset) → HasChecked check.old ds
-        → RecordsLive section (phase_told phase.now) ds → ⊥ }
+        → RecordsAreViable section (phase_of_ticket phase.now) ds → ⊥ }
 {
     match phase {
         TicketPhase::Tag(_) => check.section() == section,
@@ -113,24 +113,24 @@ fn can_continue(check: &mut RecordCheck, section: u8, phase: &TicketPhase<'_>) -
 
 /// Checks whether the record layer accepts these fields, these numbers of record 7, a subfile if
 /// `some` are complete, 9:10 if the object has ended, and then the partial dataset of `phase`.
-pub(crate) fn records_lead(
+pub(crate) fn records_are_reached(
     section: u8,
     phase: &TicketPhase<'_>,
     fields: TicketFields<'_>,
     numbers: [Option<u64>; 4],
     some: bool,
 ) -> bool
-    requires { AreNumbers numbers }
-    ensures kept { IsTrue result → AreKept fields.entry }
-    ensures lives { IsTrue result → RecordsLive section (phase_told phase.now)
-        (told_datasets fields.entry numbers some (are_ended (phase_told phase.now))) }
-    ensures dies { result ≡ false → AreKept fields.entry
+    requires { AreRecordNumbers numbers }
+    ensures kept { IsTrue result → AreStored fields.entry }
+    ensures lives { IsTrue result → RecordsAreViable section (phase_of_ticket phase.now)
+        (state_datasets fields.entry numbers some (phase_has_ended (phase_of_ticket phase.now))) }
+    ensures dies { result ≡ false → AreStored fields.entry
         → IsWithin widest (kept_octets fields.entry) (length fields.entry)
-        → RecordsLive section (phase_told phase.now)
-        (told_datasets fields.entry numbers some (are_ended (phase_told phase.now))) → ⊥ }
+        → RecordsAreViable section (phase_of_ticket phase.now)
+        (state_datasets fields.entry numbers some (phase_has_ended (phase_of_ticket phase.now))) → ⊥ }
 {
     let mut check = RecordCheck::new();
-    take_told(&mut check, fields, numbers, some, has_ended(phase))
+    pass_state(&mut check, fields, numbers, some, has_ended(phase))
         && can_continue(&mut check, section, phase)
 }
 
@@ -179,28 +179,28 @@ fn message_part(number: u8) -> Option<MessagePart>
 /// Returns the position within a message with this part, counter, flag and texts. Returns `None` if
 /// a text is too long or the part does not exist, so that no input reaches the position.
 fn message_place(part: u8, counter: u8, flag: u8, texts: &[&[u8]; 7]) -> Option<MessagePlace>
-    ensures some { IfSome result (IsMessageOf part counter flag (map (λ t. t.now) texts.now)) }
+    ensures some { IfSome result (HasMessageParts part counter flag (map (λ t. t.now) texts.now)) }
     ensures none { IfNone result ((m : MessagePlaceValue) (octets text : List ℕ)
-        → IsMessageOf part counter flag (map (λ t. t.now) texts.now) m → LeadsToSaved octets text m → ⊥) }
+        → HasMessageParts part counter flag (map (λ t. t.now) texts.now) m → ReachesSavedState octets text m → ⊥) }
 {
     let [source, number, priority, category, words, info, trailer] = texts;
     Some(MessagePlace {
         part: message_part(part)?,
         counter,
         flag,
-        source: fitted(source)?,
-        number: fitted(number)?,
-        priority: fitted(priority)?,
-        category: fitted(category)?,
-        words: fitted(words)?,
-        info: fitted(info)?,
-        trailer: fitted(trailer)?,
+        source: copy_if_fits(source)?,
+        number: copy_if_fits(number)?,
+        priority: copy_if_fits(priority)?,
+        category: copy_if_fits(category)?,
+        words: copy_if_fits(words)?,
+        info: copy_if_fits(info)?,
+        trailer: copy_if_fits(trailer)?,
     })
 }
 
 /// Checks whether the number is at least `least`, and at most `greatest` if that is given.
 fn is_between(least: u64, greatest: Option<u64>, count: u64) -> bool
-    ensures { IsTrue result ↔ IsOneOf least greatest count }
+    ensures { IsTrue result ↔ IsPossibleLength least greatest count }
 {
     match greatest {
         Some(most) => (least..=most).contains(&count),
@@ -211,7 +211,7 @@ fn is_between(least: u64, greatest: Option<u64>, count: u64) -> bool
 /// Checks whether some input of `taken` octets reaches the position of the reader.
 fn is_reached(reader: &MessageReader, taken: u64) -> bool
     requires { IsSome reader.now }
-    ensures { IsTrue result ↔ LeadsIn reader.now taken }
+    ensures { IsTrue result ↔ IsReachedByLength reader.now taken }
 {
     let (least, greatest) = reader.lengths();
     is_between(least, greatest, taken)
@@ -228,12 +228,12 @@ pub(crate) fn message_at(
 ) -> Option<MessageReader>
     ensures calls { IfSome result IsSome }
     ensures some { IfSome result (λ r. (m : MessagePlaceValue)
-        × IsMessageOf part counter flag (map (λ t. t.now) texts.now) m
-        × ((octets : List ℕ) × (text : List ℕ) × LeadsToSaved octets text m × (length octets ≡ taken))
-        × ((octets text : List ℕ) → LeadsToSaved octets text m → StandsAt r octets text)) }
+        × HasMessageParts part counter flag (map (λ t. t.now) texts.now) m
+        × ((octets : List ℕ) × (text : List ℕ) × ReachesSavedState octets text m × (length octets ≡ taken))
+        × ((octets text : List ℕ) → ReachesSavedState octets text m → MessageReaderHasRead r octets text)) }
     ensures none { IfNone result ((m : MessagePlaceValue) (octets text : List ℕ)
-        → IsMessageOf part counter flag (map (λ t. t.now) texts.now) m
-        → LeadsToSaved octets text m → length octets ≡ taken → ⊥) }
+        → HasMessageParts part counter flag (map (λ t. t.now) texts.now) m
+        → ReachesSavedState octets text m → length octets ≡ taken → ⊥) }
 {
     let reader = MessageReader::at(message_place(part, counter, flag, texts)?)?;
     if !is_reached(&reader, taken) {

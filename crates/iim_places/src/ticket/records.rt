@@ -4,19 +4,19 @@ ghost use Rattle.std.specs.Prelude.{◌≡◌, ◌+◌, List, length, IfOk};
 ghost use Rattle.iim_dataset.specs.Format.Datasets.{Dataset};
 ghost use Rattle.iim_fields.specs.Format.Causes.{joined};
 ghost use Rattle.iim_fields.specs.Format.Records.{IsWithin};
-ghost use Rattle.iim_fields.specs.States.Standing.{StandsAfter, limits_of, room_for, room_of};
-ghost use Rattle.iim_places.specs.TicketParts.{AreNumbers};
-ghost use Rattle.iim_places.specs.States.Possible.{TagsLead, RecordsLive, are_ended, begun_count, begun_fields};
-ghost use Rattle.iim_places.specs.States.Readers.{RecordsStand, LeadsWithin, FieldsStand};
-ghost use Rattle.iim_places.specs.Restoring.{AreWithinWith, AreKept, told_datasets};
+ghost use Rattle.iim_fields.specs.States.Standing.{HasReadDatasets, limits_of, room_for, reader_capacity};
+ghost use Rattle.iim_places.specs.TicketParts.{AreRecordNumbers};
+ghost use Rattle.iim_places.specs.States.Possible.{TagsReachPhase, RecordsAreViable, phase_has_ended, partial_count, partial_fields};
+ghost use Rattle.iim_places.specs.States.Readers.{RecordsReaderIsAt, LayersReachWithin, FieldsReaderIsAt};
+ghost use Rattle.iim_places.specs.Restoring.{AreWithinLimitsWith, AreStored, state_datasets};
 ghost use Rattle.iim_places.specs.Format.TicketForm.{HasForm};
-ghost use Rattle.iim_places.specs.States.Restored.{phase_told, split_told};
+ghost use Rattle.iim_places.specs.States.Restored.{phase_of_ticket, contents_from};
 
 use crate::ticket::fields::TicketFields;
-use crate::ticket::possible::some_ended;
+use crate::ticket::possible::has_complete_subfile;
 use crate::ticket::readers::has_ended;
 use crate::ticket::split::{TicketParts, TicketPhase};
-use crate::ticket::taker::take_told;
+use crate::ticket::taker::pass_state;
 use iim_dataset::Head;
 use iim_fields::{Fields, Limits};
 use iim_tables::records::OBJECT;
@@ -25,14 +25,16 @@ use std::alloc::{AllocError, Global};
 /// Passes the partial dataset of `phase`, in record `section`, to the reader: its head, and the
 /// data received. The data of a subfile are not stored.
 fn take_phase(records: &mut Fields, section: u8, phase: &TicketPhase<'_>)
-    requires stands { (ds : List Dataset) × StandsAfter records.old ds × RecordsLive section (phase_told phase.now) ds
-        × AreWithinWith (limits_of records.old) section (phase_told phase.now) ds }
-    requires tags { TagsLead section (phase_told phase.now) }
-    ensures stands { (ds : List Dataset) → StandsAfter records.old ds → RecordsLive section (phase_told phase.now) ds
-        → AreWithinWith (limits_of records.old) section (phase_told phase.now) ds
-        → RecordsStand records.new section (phase_told phase.now) ds }
+    requires stands { (ds : List Dataset) × HasReadDatasets records.old ds × RecordsAreViable section
+        (phase_of_ticket phase.now) ds
+        × AreWithinLimitsWith (limits_of records.old) section (phase_of_ticket phase.now) ds }
+    requires tags { TagsReachPhase section (phase_of_ticket phase.now) }
+    ensures stands { (ds : List Dataset) → HasReadDatasets records.old ds → RecordsAreViable section
+        (phase_of_ticket phase.now) ds
+        → AreWithinLimitsWith (limits_of records.old) section (phase_of_ticket phase.now) ds
+        → RecordsReaderIsAt records.new section (phase_of_ticket phase.now) ds }
     ensures limits { limits_of records.new ≡ limits_of records.old }
-    ensures room { room_of records.new ≡ room_of records.old }
+    ensures room { reader_capacity records.new ≡ reader_capacity records.old }
 {
     if let TicketPhase::Data {
         set,
@@ -65,21 +67,21 @@ fn records_at(
     numbers: [Option<u64>; 4],
     some: bool,
 ) -> Result<Fields, AllocError>
-    requires fits { AreNumbers numbers }
-    requires kept { AreKept fields }
-    requires tags { TagsLead section (phase_told phase.now) }
-    requires lives { RecordsLive section (phase_told phase.now)
-        (told_datasets fields numbers some (are_ended (phase_told phase.now))) }
-    requires within { IsWithin limits (length (joined fields) + begun_count section (phase_told phase.now))
-        (length fields + begun_fields section (phase_told phase.now)) }
+    requires fits { AreRecordNumbers numbers }
+    requires kept { AreStored fields }
+    requires tags { TagsReachPhase section (phase_of_ticket phase.now) }
+    requires lives { RecordsAreViable section (phase_of_ticket phase.now)
+        (state_datasets fields numbers some (phase_has_ended (phase_of_ticket phase.now))) }
+    requires within { IsWithin limits (length (joined fields) + partial_count section (phase_of_ticket phase.now))
+        (length fields + partial_fields section (phase_of_ticket phase.now)) }
     ensures stands { IfOk result (λ records.
-        RecordsStand records section (phase_told phase.now)
-        (told_datasets fields.entry numbers some (are_ended (phase_told phase.now)))) }
+        RecordsReaderIsAt records section (phase_of_ticket phase.now)
+        (state_datasets fields.entry numbers some (phase_has_ended (phase_of_ticket phase.now)))) }
     ensures limits { IfOk result (λ records. limits_of records ≡ limits) }
-    ensures room { IfOk result (λ records. room_of records ≡ room_for limits) }
+    ensures room { IfOk result (λ records. reader_capacity records ≡ room_for limits) }
 {
     let mut records = Fields::new(alloc, limits)?;
-    if !take_told(&mut records, fields, numbers, some, has_ended(phase)) {
+    if !pass_state(&mut records, fields, numbers, some, has_ended(phase)) {
         unreachable!()
     }
     take_phase(&mut records, section, phase);
@@ -93,11 +95,11 @@ pub fn fields_at(
     limits: Limits,
     parts: &TicketParts<'_>,
 ) -> Result<Fields, AllocError>
-    requires form { HasForm (split_told parts.now) }
-    requires leads { LeadsWithin limits (split_told parts.now) }
-    ensures stands { IfOk result (FieldsStand (split_told parts.now)) }
+    requires form { HasForm (contents_from parts.now) }
+    requires leads { LayersReachWithin limits (contents_from parts.now) }
+    ensures stands { IfOk result (FieldsReaderIsAt (contents_from parts.now)) }
     ensures limits { IfOk result (λ records. limits_of records ≡ limits) }
-    ensures room { IfOk result (λ records. room_of records ≡ room_for limits) }
+    ensures room { IfOk result (λ records. reader_capacity records ≡ room_for limits) }
 {
     records_at(
         alloc,
@@ -106,6 +108,6 @@ pub fn fields_at(
         &parts.phase,
         parts.fields.again(),
         parts.numbers,
-        some_ended(parts.section, &parts.phase, parts.heads),
+        has_complete_subfile(parts.section, &parts.phase, parts.heads),
     )
 }

@@ -2,15 +2,15 @@
 
 ghost use Rattle.std.specs.Prelude.{◌≡◌, ◌<◌, ◌+◌, ◌++◌, ◌∷◌, length, map, IfSome, IfNone, IfOk, IfErr};
 ghost use Rattle.std.specs.List.{flat_map};
-ghost use Rattle.iim_places.specs.Format.Tickets.{ticket_name, width, phase_octets, field_octets, fields_octets, number_octets, text_octets};
-ghost use Rattle.iim_places.specs.Format.TicketForm.{IsLongField, AreFields, AreNumbersIn, AreTexts, IsVersion, IsPhase, IsFaultOf, HasForm, SplitsTicket};
-ghost use Rattle.iim_places.specs.Restoring.{BeginsWithNone, BeginsWithFewer, FieldsBefore};
-ghost use Rattle.iim_places.specs.TicketParts.{BeginsWithNoData, AreNoMessage, AreNoBody, message_parts, body_octets};
-ghost use Rattle.iim_places.specs.States.Restored.{phase_told, split_told};
+ghost use Rattle.iim_places.specs.Format.Tickets.{ticket_header, width, phase_octets, field_octets, fields_octets, number_octets, text_octets};
+ghost use Rattle.iim_places.specs.Format.TicketForm.{FitsInField, AreTicketFields, AreTicketNumbers, AreTicketTexts, IsTicketVersion, IsTicketPhase, IsTicketFormFault, HasForm, HasContents};
+ghost use Rattle.iim_places.specs.Restoring.{LacksItem, LacksItems, FieldsPrecede};
+ghost use Rattle.iim_places.specs.TicketParts.{BeginsWithNoData, EncodesNoMessage, EncodesNoBody, message_parts, body_octets};
+ghost use Rattle.iim_places.specs.States.Restored.{phase_of_ticket, contents_from};
 
 use crate::form::{ENDED, FIRST_VERSION, IN_DATA, IN_TAG, PRESENT_VERSION};
 use crate::ticket::fault::TicketFault;
-use crate::ticket::fields::{TicketFields, walk_over};
+use crate::ticket::fields::{TicketFields, iterate};
 use crate::ticket::front::{
     take_field, take_front, take_number, take_octet, take_option, take_text, take_wide,
 };
@@ -76,10 +76,10 @@ struct MessageParts<'a> {
 }
 
 /// Parses the name and the version. Returns the version and the rest.
-fn after_name(ticket: &[u8]) -> Result<(u8, &[u8]), TicketFault>
-    ensures named { IfOk result (λ r. ticket.now ≡ ticket_name r.0 ++ r.1.now) }
-    ensures version { IfOk result (λ r. IsVersion r.0) }
-    ensures fault { IfErr result (λ fault. IsFaultOf ticket.now fault) }
+fn parse_name(ticket: &[u8]) -> Result<(u8, &[u8]), TicketFault>
+    ensures named { IfOk result (λ r. ticket.now ≡ ticket_header r.0 ++ r.1.now) }
+    ensures version { IfOk result (λ r. IsTicketVersion r.0) }
+    ensures fault { IfErr result (λ fault. IsTicketFormFault ticket.now fault) }
 {
     let Some(rest) = ticket.strip_prefix(NAME) else {
         return Err(TicketFault::TicketForm);
@@ -94,20 +94,20 @@ fn after_name(ticket: &[u8]) -> Result<(u8, &[u8]), TicketFault>
 }
 
 /// Returns the maximum number of octets of an incomplete tag.
-fn most_held(version: u8) -> usize
+fn max_partial_tag(version: u8) -> usize
     ensures { result + 1 ≡ 5 + width version }
 {
     if version == FIRST_VERSION { 8 } else { 12 }
 }
 
 /// Parses the octets of an incomplete tag. Returns them and the rest.
-fn take_held(version: u8, octets: &[u8]) -> Option<(&[u8], &[u8])>
+fn take_partial_tag(version: u8, octets: &[u8]) -> Option<(&[u8], &[u8])>
     ensures parts { IfSome result (λ r. octets.now ≡ text_octets r.0.now ++ r.1.now) }
     ensures fits { IfSome result (λ r. length r.0.now < 5 + width version) }
-    ensures none { IfNone result (BeginsWithNone (λ held. length held < 5 + width version) text_octets octets.now) }
+    ensures none { IfNone result (LacksItem (λ held. length held < 5 + width version) text_octets octets.now) }
 {
     let (held, rest) = take_text(octets)?;
-    if held.len() > most_held(version) {
+    if held.len() > max_partial_tag(version) {
         return None;
     }
     Some((held, rest))
@@ -115,8 +115,8 @@ fn take_held(version: u8, octets: &[u8]) -> Option<(&[u8], &[u8])>
 
 /// Parses partial data. Returns them and the rest.
 fn take_data(version: u8, section: u8, octets: &[u8]) -> Option<(TicketPhase<'_>, &[u8])>
-    ensures parts { IfSome result (λ r. 1 ∷ octets.now ≡ phase_octets version (phase_told r.0) ++ r.1.now) }
-    ensures fits { IfSome result (λ r. IsPhase version section (phase_told r.0)) }
+    ensures parts { IfSome result (λ r. 1 ∷ octets.now ≡ phase_octets version (phase_of_ticket r.0) ++ r.1.now) }
+    ensures fits { IfSome result (λ r. IsTicketPhase version section (phase_of_ticket r.0)) }
     ensures none { IfNone result (BeginsWithNoData version section octets.now) }
 {
     let (set, rest) = take_octet(octets)?;
@@ -138,14 +138,14 @@ fn take_data(version: u8, section: u8, octets: &[u8]) -> Option<(TicketPhase<'_>
 
 /// Parses the partial dataset. Returns it and the rest.
 fn take_phase(version: u8, section: u8, octets: &[u8]) -> Option<(TicketPhase<'_>, &[u8])>
-    ensures parts { IfSome result (λ r. octets.now ≡ phase_octets version (phase_told r.0) ++ r.1.now) }
-    ensures fits { IfSome result (λ r. IsPhase version section (phase_told r.0)) }
-    ensures none { IfNone result (BeginsWithNone (IsPhase version section) (phase_octets version) octets.now) }
+    ensures parts { IfSome result (λ r. octets.now ≡ phase_octets version (phase_of_ticket r.0) ++ r.1.now) }
+    ensures fits { IfSome result (λ r. IsTicketPhase version section (phase_of_ticket r.0)) }
+    ensures none { IfNone result (LacksItem (IsTicketPhase version section) (phase_octets version) octets.now) }
 {
     let (kind, rest) = take_octet(octets)?;
     match kind {
         IN_TAG => {
-            let (held, rest) = take_held(version, rest)?;
+            let (held, rest) = take_partial_tag(version, rest)?;
             Some((TicketPhase::Tag(held), rest))
         }
         IN_DATA => take_data(version, section, rest),
@@ -156,8 +156,8 @@ fn take_phase(version: u8, section: u8, octets: &[u8]) -> Option<(TicketPhase<'_
 
 /// Skips the first `count` datasets and returns the rest, or `None` if there are fewer.
 fn after_fields(octets: &[u8], count: u64) -> Option<&[u8]>
-    ensures parts { IfSome result (λ rest. FieldsBefore count octets.now rest.now) }
-    ensures none { IfNone result (BeginsWithFewer IsLongField field_octets count octets.now) }
+    ensures parts { IfSome result (λ rest. FieldsPrecede count octets.now rest.now) }
+    ensures none { IfNone result (LacksItems FitsInField field_octets count octets.now) }
 {
     let mut rest = octets;
     for _ in 0..count {
@@ -169,20 +169,20 @@ fn after_fields(octets: &[u8], count: u64) -> Option<&[u8]>
 /// Parses the number of datasets and the datasets. Returns an iterator over them, and the rest.
 fn take_fields(octets: &[u8]) -> Option<(TicketFields<'_>, &[u8])>
     ensures parts { IfSome result (λ r. octets.now ≡ fields_octets r.0 ++ r.1.now) }
-    ensures fits { IfSome result (λ r. AreFields r.0) }
-    ensures none { IfNone result (BeginsWithNone AreFields fields_octets octets.now) }
+    ensures fits { IfSome result (λ r. AreTicketFields r.0) }
+    ensures none { IfNone result (LacksItem AreTicketFields fields_octets octets.now) }
 {
     let (count, start) = take_number(octets)?;
     let rest = after_fields(start, count)?;
     let (fields, rest) = start.split_at(start.len() - rest.len());
-    Some((walk_over(fields), rest))
+    Some((iterate(fields), rest))
 }
 
 /// Parses the four numbers of record 7. Returns them and the rest.
 fn take_numbers(version: u8, octets: &[u8]) -> Option<([Option<u64>; 4], &[u8])>
     ensures parts { IfSome result (λ r. octets.now ≡ flat_map (number_octets version) r.0 ++ r.1.now) }
-    ensures fits { IfSome result (λ r. AreNumbersIn version r.0) }
-    ensures none { IfNone result (BeginsWithNone (AreNumbersIn version) (flat_map (number_octets version)) octets.now) }
+    ensures fits { IfSome result (λ r. AreTicketNumbers version r.0) }
+    ensures none { IfNone result (LacksItem (AreTicketNumbers version) (flat_map (number_octets version)) octets.now) }
 {
     let (mode, rest) = take_option(version, octets)?;
     let (limit, rest) = take_option(version, rest)?;
@@ -195,8 +195,8 @@ fn take_numbers(version: u8, octets: &[u8]) -> Option<([Option<u64>; 4], &[u8])>
 #[tactic(auto, using(crate::proofs::Splitting::cut, crate::proofs::Splitting::seven, std::proofs::lemmas::List::append_assoc))]
 fn take_texts(octets: &[u8]) -> Option<([&[u8]; 7], &[u8])>
     ensures parts { IfSome result (λ r. octets.now ≡ flat_map text_octets (map (λ t. t.now) r.0) ++ r.1.now) }
-    ensures fits { IfSome result (λ r. AreTexts (map (λ t. t.now) r.0)) }
-    ensures none { IfNone result (BeginsWithNone AreTexts (flat_map text_octets) octets.now) }
+    ensures fits { IfSome result (λ r. AreTicketTexts (map (λ t. t.now) r.0)) }
+    ensures none { IfNone result (LacksItem AreTicketTexts (flat_map text_octets) octets.now) }
 {
     let (source, rest) = take_text(octets)?;
     let (number, rest) = take_text(rest)?;
@@ -212,8 +212,8 @@ fn take_texts(octets: &[u8]) -> Option<([&[u8]; 7], &[u8])>
 /// Parses the message's parts, with which a ticket ends. Returns `None` if octets are left over.
 fn read_message(octets: &[u8]) -> Option<MessageParts<'_>>
     ensures parts { IfSome result (λ m. octets.now ≡ message_parts m.part m.counter m.flag (map (λ t. t.now) m.texts)) }
-    ensures fits { IfSome result (λ m. AreTexts (map (λ t. t.now) m.texts)) }
-    ensures none { IfNone result (AreNoMessage octets.now) }
+    ensures fits { IfSome result (λ m. AreTicketTexts (map (λ t. t.now) m.texts)) }
+    ensures none { IfNone result (EncodesNoMessage octets.now) }
 {
     let (part, rest) = take_octet(octets)?;
     let (counter, rest) = take_octet(rest)?;
@@ -232,11 +232,11 @@ fn read_message(octets: &[u8]) -> Option<MessageParts<'_>>
 
 /// Parses what follows the name and the version of a ticket.
 fn read_body(version: u8, octets: &[u8]) -> Option<TicketParts<'_>>
-    requires { IsVersion version }
-    ensures version { IfSome result (λ parts. (split_told parts).version ≡ version) }
-    ensures parts { IfSome result (λ parts. octets.now ≡ body_octets (split_told parts)) }
-    ensures fits { IfSome result (λ parts. HasForm (split_told parts)) }
-    ensures none { IfNone result (AreNoBody version octets.now) }
+    requires { IsTicketVersion version }
+    ensures version { IfSome result (λ parts. (contents_from parts).version ≡ version) }
+    ensures parts { IfSome result (λ parts. octets.now ≡ body_octets (contents_from parts)) }
+    ensures fits { IfSome result (λ parts. HasForm (contents_from parts)) }
+    ensures none { IfNone result (EncodesNoBody version octets.now) }
 {
     let (section, rest) = take_octet(octets)?;
     let (phase, rest) = take_phase(version, section, rest)?;
@@ -272,10 +272,10 @@ fn read_body(version: u8, octets: &[u8]) -> Option<TicketParts<'_>>
 /// - more octets of data remain than their count;
 /// - the mark of a number of record 7 is not 0 or 1.
 pub fn split_ticket(ticket: &[u8]) -> Result<TicketParts<'_>, TicketFault>
-    ensures parts { IfOk result (λ parts. SplitsTicket ticket.now (split_told parts)) }
-    ensures fault { IfErr result (λ fault. IsFaultOf ticket.now fault) }
+    ensures parts { IfOk result (λ parts. HasContents ticket.now (contents_from parts)) }
+    ensures fault { IfErr result (λ fault. IsTicketFormFault ticket.now fault) }
 {
-    let (version, body) = after_name(ticket)?;
+    let (version, body) = parse_name(ticket)?;
     match read_body(version, body) {
         Some(parts) => Ok(parts),
         None => Err(TicketFault::TicketForm),

@@ -3,13 +3,13 @@
 ghost use Rattle.std.specs.Prelude.{◌≡◌, [], ◌∷◌, ◌++◌, List, IsTrue, true, cond};
 ghost use Rattle.iim_dataset.specs.Format.Datasets.{Dataset};
 ghost use Rattle.iim_fields.specs.States.Standing as checks;
-ghost use Rattle.iim_fields.specs.States.Standing.{IsBetween, StandsAfter, limits_of, room_of};
+ghost use Rattle.iim_fields.specs.States.Standing.{IsBetweenDatasets, HasReadDatasets, limits_of, reader_capacity};
 ghost use Rattle.iim_fields.specs.States.Stores.{Room};
 ghost use Rattle.iim_fields.specs.declared.limits.Limits.{Limits as LimitsValue};
 ghost use Rattle.iim_object.specs.Format.Packing.{number_dataset};
-ghost use Rattle.iim_places.specs.TicketParts.{dataset, AreNumbers, IsSize};
-ghost use Rattle.iim_places.specs.States.Possible.{mode_dataset, one_dataset, plain_end, plain_numbers, widest};
-ghost use Rattle.iim_places.specs.Restoring.{AreKept, TookDatasets, numbers_told, told_datasets};
+ghost use Rattle.iim_places.specs.TicketParts.{dataset, AreRecordNumbers, IsAbsentOrSize};
+ghost use Rattle.iim_places.specs.States.Possible.{mode_dataset, dataset_if, witness_end, witness_numbers, widest};
+ghost use Rattle.iim_places.specs.Restoring.{AreStored, ConsumesEach, numbers_of_list, state_datasets};
 
 use crate::ticket::fields::TicketFields;
 use iim_dataset::{Head, number_bytes};
@@ -38,12 +38,12 @@ pub(crate) trait DatasetTaker {
     /// Allocates nothing.
     fn take(&mut self, rec: u8, set: u8, octets: &[u8]) -> bool
         requires { ready self.old }
-        ensures took { TookDatasets ready stands limits self.old (dataset rec set octets.now ∷ []) self.new result }
+        ensures took { ConsumesEach ready stands limits self.old (dataset rec set octets.now ∷ []) self.new result }
         ensures room { room self.new ≡ room self.old };
 }
 
 impl DatasetTaker for RecordCheck {
-    ghost ready = { checks.TakesHead };
+    ghost ready = { checks.AcceptsHead };
 
     ghost stands = { checks.HasChecked };
 
@@ -68,13 +68,13 @@ impl DatasetTaker for RecordCheck {
 }
 
 impl DatasetTaker for Fields {
-    ghost ready = { IsBetween };
+    ghost ready = { IsBetweenDatasets };
 
-    ghost stands = { StandsAfter };
+    ghost stands = { HasReadDatasets };
 
     ghost limits = { limits_of };
 
-    ghost room = { room_of };
+    ghost room = { reader_capacity };
 
     fn take(&mut self, rec: u8, set: u8, octets: &[u8]) -> bool {
         let head = Head {
@@ -99,9 +99,9 @@ impl DatasetTaker for Fields {
 /// Passes the datasets of records 1 and 2 to `taker`.
 fn take_fields<T: DatasetTaker>(taker: &mut T, fields: TicketFields<'_>) -> bool
     requires { T.ready taker.old }
-    ensures kept { IsTrue result → AreKept fields.entry }
-    ensures all { AreKept fields.entry
-        → TookDatasets T.ready T.stands T.limits taker.old fields.entry taker.new result }
+    ensures kept { IsTrue result → AreStored fields.entry }
+    ensures all { AreStored fields.entry
+        → ConsumesEach T.ready T.stands T.limits taker.old fields.entry taker.new result }
     ensures room { T.room taker.new ≡ T.room taker.old }
 {
     let mut fields = fields;
@@ -119,7 +119,7 @@ fn take_fields<T: DatasetTaker>(taker: &mut T, fields: TicketFields<'_>) -> bool
 /// Passes the mode, 7:10, to `taker` if there is one.
 fn take_mode<T: DatasetTaker>(taker: &mut T, mode: Option<u64>) -> bool
     requires { T.ready taker.old }
-    ensures took { TookDatasets T.ready T.stands T.limits taker.old (one_dataset mode_dataset mode) taker.new result }
+    ensures took { ConsumesEach T.ready T.stands T.limits taker.old (dataset_if mode_dataset mode) taker.new result }
     ensures room { T.room taker.new ≡ T.room taker.old }
 {
     match mode {
@@ -132,8 +132,8 @@ fn take_mode<T: DatasetTaker>(taker: &mut T, mode: Option<u64>) -> bool
 /// Passes the size 7:`set` to `taker` if there is one.
 fn take_size<T: DatasetTaker>(taker: &mut T, set: u8, size: Option<u64>) -> bool
     requires ready { T.ready taker.old }
-    requires fits { IsSize size }
-    ensures took { TookDatasets T.ready T.stands T.limits taker.old (one_dataset (number_dataset 7 set) size) taker.new
+    requires fits { IsAbsentOrSize size }
+    ensures took { ConsumesEach T.ready T.stands T.limits taker.old (dataset_if (number_dataset 7 set) size) taker.new
         result }
     ensures room { T.room taker.new ≡ T.room taker.old }
 {
@@ -146,8 +146,9 @@ fn take_size<T: DatasetTaker>(taker: &mut T, set: u8, size: Option<u64>) -> bool
 /// Passes the numbers of record 7 to `taker`, in their order.
 fn take_numbers<T: DatasetTaker>(taker: &mut T, numbers: [Option<u64>; 4]) -> bool
     requires ready { T.ready taker.old }
-    requires fits { AreNumbers numbers }
-    ensures took { TookDatasets T.ready T.stands T.limits taker.old (plain_numbers (numbers_told numbers)) taker.new
+    requires fits { AreRecordNumbers numbers }
+    ensures took { ConsumesEach T.ready T.stands T.limits taker.old (witness_numbers
+        (numbers_of_list numbers)) taker.new
         result }
     ensures room { T.room taker.new ≡ T.room taker.old }
 {
@@ -161,7 +162,7 @@ fn take_numbers<T: DatasetTaker>(taker: &mut T, numbers: [Option<u64>; 4]) -> bo
 /// Passes an empty subfile to `taker` if `some` subfiles are complete.
 fn take_subfile<T: DatasetTaker>(taker: &mut T, some: bool) -> bool
     requires { T.ready taker.old }
-    ensures took { TookDatasets T.ready T.stands T.limits taker.old (cond some (dataset 8 10 [] ∷ []) []) taker.new
+    ensures took { ConsumesEach T.ready T.stands T.limits taker.old (cond some (dataset 8 10 [] ∷ []) []) taker.new
         result }
     ensures room { T.room taker.new ≡ T.room taker.old }
 {
@@ -171,7 +172,7 @@ fn take_subfile<T: DatasetTaker>(taker: &mut T, some: bool) -> bool
 /// Passes 9:10 of an empty object to `taker` if the object has ended.
 fn take_end<T: DatasetTaker>(taker: &mut T, ended: bool) -> bool
     requires { T.ready taker.old }
-    ensures took { TookDatasets T.ready T.stands T.limits taker.old (plain_end ended []) taker.new result }
+    ensures took { ConsumesEach T.ready T.stands T.limits taker.old (witness_end ended []) taker.new result }
     ensures room { T.room taker.new ≡ T.room taker.old }
 {
     !ended || taker.take(POST_OBJECT, CONFIRMED_SIZE, &[0, 0, 0, 0])
@@ -184,10 +185,10 @@ fn take_records<T: DatasetTaker>(
     numbers: [Option<u64>; 4],
 ) -> bool
     requires ready { T.ready taker.old }
-    requires fits { AreNumbers numbers }
-    ensures kept { IsTrue result → AreKept fields.entry }
-    ensures all { AreKept fields.entry
-        → TookDatasets T.ready T.stands T.limits taker.old (fields.entry ++ plain_numbers (numbers_told numbers))
+    requires fits { AreRecordNumbers numbers }
+    ensures kept { IsTrue result → AreStored fields.entry }
+    ensures all { AreStored fields.entry
+        → ConsumesEach T.ready T.stands T.limits taker.old (fields.entry ++ witness_numbers (numbers_of_list numbers))
         taker.new result }
     ensures room { T.room taker.new ≡ T.room taker.old }
 {
@@ -197,8 +198,8 @@ fn take_records<T: DatasetTaker>(
 /// Passes an empty subfile to `taker` if `some` are complete, and 9:10 if the object has ended.
 fn take_object<T: DatasetTaker>(taker: &mut T, some: bool, ended: bool) -> bool
     requires { T.ready taker.old }
-    ensures took { TookDatasets T.ready T.stands T.limits taker.old
-        (cond some (dataset 8 10 [] ∷ []) [] ++ plain_end ended []) taker.new result }
+    ensures took { ConsumesEach T.ready T.stands T.limits taker.old
+        (cond some (dataset 8 10 [] ∷ []) [] ++ witness_end ended []) taker.new result }
     ensures room { T.room taker.new ≡ T.room taker.old }
 {
     take_subfile(taker, some) && take_end(taker, ended)
@@ -207,7 +208,7 @@ fn take_object<T: DatasetTaker>(taker: &mut T, some: bool, ended: bool) -> bool
 /// Passes to `taker` the datasets that determine the state of the record layer at a ticket's
 /// position: the fields, the numbers of record 7, an empty subfile if `some` are complete, and 9:10
 /// if the object has ended.
-pub(crate) fn take_told<T: DatasetTaker>(
+pub(crate) fn pass_state<T: DatasetTaker>(
     taker: &mut T,
     fields: TicketFields<'_>,
     numbers: [Option<u64>; 4],
@@ -215,10 +216,10 @@ pub(crate) fn take_told<T: DatasetTaker>(
     ended: bool,
 ) -> bool
     requires ready { T.ready taker.old }
-    requires fits { AreNumbers numbers }
-    ensures kept { IsTrue result → AreKept fields.entry }
-    ensures all { AreKept fields.entry
-        → TookDatasets T.ready T.stands T.limits taker.old (told_datasets fields.entry numbers some ended) taker.new
+    requires fits { AreRecordNumbers numbers }
+    ensures kept { IsTrue result → AreStored fields.entry }
+    ensures all { AreStored fields.entry
+        → ConsumesEach T.ready T.stands T.limits taker.old (state_datasets fields.entry numbers some ended) taker.new
         result }
     ensures room { T.room taker.new ≡ T.room taker.old }
 {

@@ -4,16 +4,16 @@ use Rattle.iim_places.specs.Format.Causes.{cause_number, cause_name, refusal_tex
 use Rattle.iim_round_trip.specs.Format.RoundTrip.{UnpackFault, OutOfMemory, Refused}
 
 -- The number of the cause for which nothing was unpacked. A refusal has the number of its cause.
-abbrev pub fault_number : UnpackFault → ℕ
-fault_number OutOfMemory = 70
-fault_number (Refused e) = cause_number e.cause
+abbrev pub unpack_fault_number : UnpackFault → ℕ
+unpack_fault_number OutOfMemory = 70
+unpack_fault_number (Refused e) = cause_number e.cause
 
 -- The name of the cause for which nothing was unpacked.
-abbrev pub fault_name : UnpackFault → List ℕ
-fault_name OutOfMemory = codes "OutOfMemory"
-fault_name (Refused e) = cause_name e.cause
+abbrev pub unpack_fault_name : UnpackFault → List ℕ
+unpack_fault_name OutOfMemory = codes "OutOfMemory"
+unpack_fault_name (Refused e) = cause_name e.cause
 
 -- The printed form: the refusal, or `out of memory`.
-abbrev pub fault_text : UnpackFault → List ℕ
-fault_text OutOfMemory = codes "out of memory"
-fault_text (Refused e) = refusal_text e
+abbrev pub unpack_fault_text : UnpackFault → List ℕ
+unpack_fault_text OutOfMemory = codes "out of memory"
+unpack_fault_text (Refused e) = refusal_text e

@@ -9,7 +9,7 @@ use Rattle.iim_fields.specs.Format.{Causes.joined, Records.IsWithin}
 use Rattle.wire_story.specs.Format.Texts as story
 pub use Rattle.iim_pack.specs.Format.Packed.{Packed}
 use Rattle.iim_unpack.specs.Format.Pieces.{HasParts}
-use Rattle.iim_dataset.specs.Format.Octets.{Rose}
+use Rattle.iim_dataset.specs.Format.Octets.{CounterRose}
 use Rattle.iim_unpack.specs.Format.Pieces as pieces
 use Rattle.iim_places.specs.{Format.Streams.Answer, declared.refusal.Cause.TheVariants.Message}
 pub use Rattle.iim_object.specs.declared.plan.Plan.{Plan}
@@ -19,12 +19,12 @@ pub use Rattle.iim_round_trip.specs.declared.unpacking.UnpackFault.{UnpackFault}
 pub use Rattle.iim_round_trip.specs.declared.unpacking.UnpackFault.TheVariants.{OutOfMemory, Refused}
 
 -- The fields are within the limits on octets and on fields.
-abbrev pub FieldsAreWithin : Limits → List Dataset → Type 0
-FieldsAreWithin limits fields = IsWithin limits (length (joined fields)) (length fields)
+abbrev pub FieldsAreWithinLimits : Limits → List Dataset → Type 0
+FieldsAreWithinLimits limits fields = IsWithin limits (length (joined fields)) (length fields)
 
 -- The stream begins with what was packed of these fields, header, lines and trailer, within the
 -- limits. Anything may follow.
-pub record BeginsPacked (limits : Limits) (stream : List ℕ) : Type 0 where
+pub record BeginsWithPacked (limits : Limits) (stream : List ℕ) : Type 0 where
   pub fields : List Dataset
   pub head : Header
   pub lines : List (List ℕ)
@@ -32,7 +32,7 @@ pub record BeginsPacked (limits : Limits) (stream : List ℕ) : Type 0 where
   pub plan : Plan
   pub octets : List ℕ
   pub packed : Packed fields head lines trailer plan octets
-  pub within : FieldsAreWithin limits fields
+  pub within : FieldsAreWithinLimits limits fields
   pub rest : List ℕ
   pub parts : stream ≡ octets ++ rest
 
@@ -47,29 +47,29 @@ packed_value fields head lines trailer plan parts =
 -- If the stream begins with what was packed, within the limits, then exactly the packed octets are
 -- consumed; the envelope, the header, the trailer and the sizes are those that were packed; and the
 -- sink received the lines.
-abbrev pub GivesBack : {S : Type 0} → (S → List story.StoryEvent → S → Type 0) → Limits → List ℕ → S → S → Unpacked → ℕ → Type 0
-GivesBack goes limits stream a b got used = (p : BeginsPacked limits stream) → (used ≡ length p.octets)
+abbrev pub UnpacksPacked : {S : Type 0} → (S → List story.StoryEvent → S → Type 0) → Limits → List ℕ → S → S → Unpacked → ℕ → Type 0
+UnpacksPacked goes limits stream a b got used = (p : BeginsWithPacked limits stream) → (used ≡ length p.octets)
     × HasParts got (packed_value p.fields p.head p.lines p.trailer p.plan p.packed.written.parts) × goes a (story.events_of_lines p.lines) b
 
 -- The stream is not the cause: the allocation for the unpacker failed, or the sink stopped.
-abbrev pub IsOutside : UnpackFault → Type 0
-IsOutside OutOfMemory = Unit {0}
-IsOutside (Refused e) = e.cause ≡ Message Sink
+abbrev pub IsNotFromStream : UnpackFault → Type 0
+IsNotFromStream OutOfMemory = Unit {0}
+IsNotFromStream (Refused e) = e.cause ≡ Message Sink
 
 -- Why no envelope is returned. If the allocation for the unpacker failed, the sink received
 -- nothing. Otherwise the stream does not begin with an envelope, because an octet is rejected or
 -- the stream is truncated; or the sink stopped.
-abbrev pub IsTurnedDown : {S : Type 0} → (S → List story.StoryEvent → S → Type 0) → Limits → List ℕ → S → S → UnpackFault → Type 0
-IsTurnedDown goes limits stream a b OutOfMemory = b ≡ a
-IsTurnedDown goes limits stream a b (Refused e) = pieces.IsTurnedDown goes limits stream a b e
+abbrev pub IsRejectedUnpacking : {S : Type 0} → (S → List story.StoryEvent → S → Type 0) → Limits → List ℕ → S → S → UnpackFault → Type 0
+IsRejectedUnpacking goes limits stream a b OutOfMemory = b ≡ a
+IsRejectedUnpacking goes limits stream a b (Refused e) = pieces.IsRejected goes limits stream a b e
 
 -- The function's result represents the result of the stream.
-abbrev pub IsAnswer : Result (Unpacked × ℕ) UnpackFault → Answer → Type 0
-IsAnswer (Ok got) answer = pieces.IsAnswer (Ok got) answer
-IsAnswer (Err OutOfMemory) answer = ⊥
-IsAnswer (Err (Refused e)) answer = pieces.IsAnswer (Err e) answer
+abbrev pub RepresentsUnpackResult : Result (Unpacked × ℕ) UnpackFault → Answer → Type 0
+RepresentsUnpackResult (Ok got) answer = pieces.RepresentsResult (Ok got) answer
+RepresentsUnpackResult (Err OutOfMemory) answer = ⊥
+RepresentsUnpackResult (Err (Refused e)) answer = pieces.RepresentsResult (Err e) answer
 
 -- The sink's count of failures increased if and only if the sink is the cause.
-abbrev pub CountsFor : UnpackFault → ℕ → ℕ → Type 0
-CountsFor OutOfMemory old new = new ≡ old
-CountsFor (Refused e) old new = (e.cause ≡ Message Sink → Rose old new) × (e.cause ≢ Message Sink → new ≡ old)
+abbrev pub CountsFailureOfSink : UnpackFault → ℕ → ℕ → Type 0
+CountsFailureOfSink OutOfMemory old new = new ≡ old
+CountsFailureOfSink (Refused e) old new = (e.cause ≡ Message Sink → CounterRose old new) × (e.cause ≢ Message Sink → new ≡ old)

@@ -2,30 +2,30 @@
 use Rattle.std.specs.Prelude.{ℕ, List, codes, ◌≡◌, ◌+◌, ◌<◌, ◌≤◌, ◌⊎◌, [], ◌∷◌, ◌++◌, length, Some}
 use Rattle.std.specs.List.{AllByRecursion}
 use Rattle.iim_fields.specs.Format.Causes.{number_of_cause, name_of_cause}
-use Rattle.iim_fields.specs.States.Standing.{add_fault, finish_fault}
+use Rattle.iim_fields.specs.States.Standing.{added_field_fault, missing_field_fault}
 use Rattle.iim_fields.specs.declared.{limits.Limits.Limits, fault.FieldCause.FieldCause, fault.FieldFault.FieldFault}
 use Rattle.iim_dataset.specs.Format.{Octets.lf, Datasets.Dataset}
 use Rattle.wire_message.specs.Format.Messages.{Header, IsTrailer}
 use Rattle.wire_story.specs.Format.Texts.{IsLine}
-use Rattle.iim_script.specs.Format.Scripts.{HasNo, NextLine, NextLines, TellsField, TellsHead, TellsTrailer, text_word, AreFieldLines, IsFront, max_script}
+use Rattle.iim_script.specs.Format.Scripts.{Lacks, NextLine, NextLines, DescribesField, DescribesHead, DescribesTrailer, text_word, DescribeFields, IsFront, max_script}
 pub use Rattle.iim_script.specs.declared.fault.ScriptCause.{ScriptCause}
 pub use Rattle.iim_script.specs.declared.fault.ScriptCause.TheVariants.{ScriptLine, ScriptTooLong, Field, BadTrailer, BadTextOctet, OutOfMemory}
 
-abbrev pub cause_number : ScriptCause → ℕ
-cause_number ScriptLine = 91
-cause_number ScriptTooLong = 92
-cause_number (Field cause) = number_of_cause cause
-cause_number BadTrailer = 83
-cause_number BadTextOctet = 82
-cause_number OutOfMemory = 70
+abbrev pub script_cause_number : ScriptCause → ℕ
+script_cause_number ScriptLine = 91
+script_cause_number ScriptTooLong = 92
+script_cause_number (Field cause) = number_of_cause cause
+script_cause_number BadTrailer = 83
+script_cause_number BadTextOctet = 82
+script_cause_number OutOfMemory = 70
 
-abbrev pub cause_name : ScriptCause → List ℕ
-cause_name ScriptLine = codes "ScriptLine"
-cause_name ScriptTooLong = codes "ScriptTooLong"
-cause_name (Field cause) = name_of_cause cause
-cause_name BadTrailer = codes "BadTrailer"
-cause_name BadTextOctet = codes "BadTextOctet"
-cause_name OutOfMemory = codes "OutOfMemory"
+abbrev pub script_cause_name : ScriptCause → List ℕ
+script_cause_name ScriptLine = codes "ScriptLine"
+script_cause_name ScriptTooLong = codes "ScriptTooLong"
+script_cause_name (Field cause) = name_of_cause cause
+script_cause_name BadTrailer = codes "BadTrailer"
+script_cause_name BadTextOctet = codes "BadTextOctet"
+script_cause_name OutOfMemory = codes "OutOfMemory"
 
 -- ---- Why octets are not a script: the first error by line.
 
@@ -37,49 +37,49 @@ pub data Stage : Type 0 where
   AfterTrailer : List Dataset → Header → List ℕ → Stage
 
 -- The lines are the beginning of a script, after which the reader is in this state.
-abbrev pub HaveCome : Limits → List (List ℕ) → Stage → Type 0
-HaveCome limits lines (InFields ds) = AreFieldLines limits [] lines ds
-HaveCome limits lines (AfterMessage ds head) =
-    (fields : List (List ℕ)) × (message : List ℕ) × AreFieldLines limits [] fields ds × TellsHead message head × (lines ≡ fields ++ message ∷ [])
-HaveCome limits lines (AfterTrailer ds head trailer) =
-    (fields : List (List ℕ)) × (message : List ℕ) × (line : List ℕ) × AreFieldLines limits [] fields ds × TellsHead message head
-    × TellsTrailer line trailer × IsTrailer trailer × (lines ≡ fields ++ (message ∷ line ∷ []))
+abbrev pub ReachStage : Limits → List (List ℕ) → Stage → Type 0
+ReachStage limits lines (InFields ds) = DescribeFields limits [] lines ds
+ReachStage limits lines (AfterMessage ds head) =
+    (fields : List (List ℕ)) × (message : List ℕ) × DescribeFields limits [] fields ds × DescribesHead message head × (lines ≡ fields ++ message ∷ [])
+ReachStage limits lines (AfterTrailer ds head trailer) =
+    (fields : List (List ℕ)) × (message : List ℕ) × (line : List ℕ) × DescribeFields limits [] fields ds × DescribesHead message head
+    × DescribesTrailer line trailer × IsTrailer trailer × (lines ≡ fields ++ (message ∷ line ∷ []))
 
 -- The octets begin with `count` lines, each with its end, after which the reader is in this state,
 -- and this is the rest.
-pub record Stands (limits : Limits) (octets : List ℕ) (stage : Stage) (rest : List ℕ) (count : ℕ) : Type 0 where
+pub record ReachesStage (limits : Limits) (octets : List ℕ) (stage : Stage) (rest : List ℕ) (count : ℕ) : Type 0 where
   pub lines : List (List ℕ)
   pub lined : NextLines octets lines rest
   pub count_is : count ≡ length lines
-  pub come : HaveCome limits lines stage
+  pub come : ReachStage limits lines stage
 
 -- The line does not have this form.
-abbrev pub TellsNone : {A : Type 0} → (List ℕ → A → Type 0) → List ℕ → Type 0
-TellsNone {A} tells line = (told : A) → tells line told → ⊥
+abbrev pub HasNoForm : {A : Type 0} → (List ℕ → A → Type 0) → List ℕ → Type 0
+HasNoForm {A} tells line = (told : A) → tells line told → ⊥
 
 -- The line is `text`, and the datasets are no complete envelope, for this cause.
-abbrev pub EndsTooSoon : List Dataset → List ℕ → FieldCause → Type 0
-EndsTooSoon ds line cause = (fault : FieldFault) × (line ≡ text_word) × (finish_fault ds ≡ Some fault) × (cause ≡ fault.cause)
+abbrev pub IsIncompleteEnvelope : List Dataset → List ℕ → FieldCause → Type 0
+IsIncompleteEnvelope ds line cause = (fault : FieldFault) × (line ≡ text_word) × (missing_field_fault ds ≡ Some fault) × (cause ≡ fault.cause)
 
 -- The error of the line in this state. 91 ScriptLine: it has none of the forms that are allowed
 -- here. Otherwise it describes a dataset that the builder rejects, with this cause; or it is
 -- `text`, and something is missing; or its octets are not a valid trailer, 83 BadTrailer.
-abbrev pub IsWrong : Limits → Stage → List ℕ → ScriptCause → Type 0
-IsWrong limits (InFields ds) line ScriptLine = TellsNone TellsField line × TellsNone TellsHead line
-IsWrong limits (InFields ds) line (Field cause) =
-    (d : Dataset) × (fault : FieldFault) × TellsField line d × (add_fault limits ds d ≡ Some fault) × (cause ≡ fault.cause)
-IsWrong limits (AfterMessage ds head) line ScriptLine = TellsNone TellsTrailer line × (line ≡ text_word → ⊥)
-IsWrong limits (AfterMessage ds head) line (Field cause) = EndsTooSoon ds line cause
-IsWrong limits (AfterMessage ds head) line BadTrailer = (octets : List ℕ) × TellsTrailer line octets × (IsTrailer octets → ⊥)
-IsWrong limits (AfterTrailer ds head trailer) line ScriptLine = line ≡ text_word → ⊥
-IsWrong limits (AfterTrailer ds head trailer) line (Field cause) = EndsTooSoon ds line cause
-IsWrong limits stage line cause = ⊥
+abbrev pub IsBadLine : Limits → Stage → List ℕ → ScriptCause → Type 0
+IsBadLine limits (InFields ds) line ScriptLine = HasNoForm DescribesField line × HasNoForm DescribesHead line
+IsBadLine limits (InFields ds) line (Field cause) =
+    (d : Dataset) × (fault : FieldFault) × DescribesField line d × (added_field_fault limits ds d ≡ Some fault) × (cause ≡ fault.cause)
+IsBadLine limits (AfterMessage ds head) line ScriptLine = HasNoForm DescribesTrailer line × (line ≡ text_word → ⊥)
+IsBadLine limits (AfterMessage ds head) line (Field cause) = IsIncompleteEnvelope ds line cause
+IsBadLine limits (AfterMessage ds head) line BadTrailer = (octets : List ℕ) × DescribesTrailer line octets × (IsTrailer octets → ⊥)
+IsBadLine limits (AfterTrailer ds head trailer) line ScriptLine = line ≡ text_word → ⊥
+IsBadLine limits (AfterTrailer ds head trailer) line (Field cause) = IsIncompleteEnvelope ds line cause
+IsBadLine limits stage line cause = ⊥
 
 -- The next line before the story is invalid; or no LF ends it, as at the end of the octets, for 91
 -- ScriptLine.
-abbrev pub IsNextWrong : Limits → Stage → List ℕ → ScriptCause → Type 0
-IsNextWrong limits stage rest cause =
-    (HasNo lf rest × (cause ≡ ScriptLine)) ⊎ ((line : List ℕ) × (after : List ℕ) × NextLine rest line after × IsWrong limits stage line cause)
+abbrev pub IsNextBad : Limits → Stage → List ℕ → ScriptCause → Type 0
+IsNextBad limits stage rest cause =
+    (Lacks lf rest × (cause ≡ ScriptLine)) ⊎ ((line : List ℕ) × (after : List ℕ) × NextLine rest line after × IsBadLine limits stage line cause)
 
 -- A line of the story, with its end or at the end of the story, has an octet that is not allowed in
 -- a line, and no line before it has one. The line `text` has the number `text_line`.
@@ -88,7 +88,7 @@ pub record IsBadStory (story : List ℕ) (text_line number : ℕ) : Type 0 where
   pub rest : List ℕ
   pub line : List ℕ
   pub lined : NextLines story before rest
-  pub is_there : ((after : List ℕ) × NextLine rest line after) ⊎ (HasNo lf rest × (line ≡ rest))
+  pub is_there : ((after : List ℕ) × NextLine rest line after) ⊎ (Lacks lf rest × (line ≡ rest))
   pub texts : AllByRecursion IsLine before
   pub bad : IsLine line → ⊥
   pub number_is : number ≡ text_line + length before + 1
@@ -112,4 +112,4 @@ IsScriptFault limits octets number ScriptTooLong = (max_script < length octets) 
 IsScriptFault limits octets number OutOfMemory = (length octets ≤ max_script) × (number ≡ 0)
 IsScriptFault limits octets number BadTextOctet = (length octets ≤ max_script) × IsStoryFault limits octets number
 IsScriptFault limits octets number cause = (length octets ≤ max_script) × (stage : Stage) × (rest : List ℕ) × (count : ℕ)
-    × Stands limits octets stage rest count × (number ≡ count + 1) × IsNextWrong limits stage rest cause
+    × ReachesStage limits octets stage rest count × (number ≡ count + 1) × IsNextBad limits stage rest cause

@@ -5,12 +5,12 @@ use Rattle.std.specs.List.{AllByRecursion, list_all, flat_map, join_with_byte}
 use Rattle.iim_dataset.specs.Format.Octets.{lf, cr, sp, digit_zero, capital_a, small_a, backslash, small_x, colon, is_digit}
 use Rattle.iim_dataset.specs.Format.Datasets.{Dataset, shown, dataset_name}
 use Rattle.wire_message.specs.Format.Messages.{Header, IsHeader, IsTrailer}
-use Rattle.iim_fields.specs.{States.Standing.add_fault, States.Standing.finish_fault, declared.limits.Limits.Limits}
+use Rattle.iim_fields.specs.{States.Standing.added_field_fault, States.Standing.missing_field_fault, declared.limits.Limits.Limits}
 use Rattle.wire_story.specs.Format.{Texts.IsLine, Texts.delivered, Packing.lines_of}
 
 -- None of the octets equals this one.
-abbrev pub HasNo : ℕ → List ℕ → Type 0
-HasNo b xs = AllByRecursion (λ x. (x == b) ≡ false) xs
+abbrev pub Lacks : ℕ → List ℕ → Type 0
+Lacks b xs = AllByRecursion (λ x. (x == b) ≡ false) xs
 
 -- `front` is the octets without this one at their end; or all of them, if this is not their last.
 abbrev pub WithoutLast : ℕ → List ℕ → List ℕ → Type 0
@@ -20,7 +20,7 @@ WithoutLast b octets front = (octets ≡ front ++ b ∷ []) ⊎ ((octets ≡ fro
 -- right before it is not part of the line.
 pub record NextLine (octets line after : List ℕ) : Type 0 where
   pub ended : List ℕ
-  pub no_feed : HasNo lf ended
+  pub no_feed : Lacks lf ended
   pub is_line : WithoutLast cr ended line
   pub parts : octets ≡ ended ++ lf ∷ after
 
@@ -49,14 +49,14 @@ BeginsWith text octet rest = ((octet ≢ backslash) × (text ≡ octet ∷ rest)
     ⊎ ((high : ℕ) × (low : ℕ) × (text ≡ backslash ∷ small_x ∷ high ∷ low ∷ rest) × IsOfDigits high low octet)
 
 -- The text encodes the octets, one after another.
-abbrev pub TellsOctets : List ℕ → List ℕ → Type 0
-TellsOctets text [] = text ≡ []
-TellsOctets text (octet ∷ octets) = (rest : List ℕ) × BeginsWith text octet rest × TellsOctets rest octets
+abbrev pub EncodesOctets : List ℕ → List ℕ → Type 0
+EncodesOctets text [] = text ≡ []
+EncodesOctets text (octet ∷ octets) = (rest : List ℕ) × BeginsWith text octet rest × EncodesOctets rest octets
 
 -- What ends a line: nothing, for no octets; otherwise SP, and a text of at least one octet.
-abbrev pub TellsLast : List ℕ → List ℕ → Type 0
-TellsLast end [] = end ≡ []
-TellsLast end (octet ∷ octets) = (text : List ℕ) × (end ≡ sp ∷ text) × TellsOctets text (octet ∷ octets)
+abbrev pub EndsWith : List ℕ → List ℕ → Type 0
+EndsWith end [] = end ≡ []
+EndsWith end (octet ∷ octets) = (text : List ℕ) × (end ≡ sp ∷ text) × EncodesOctets text (octet ∷ octets)
 
 -- ---- The forms of a script's lines.
 
@@ -66,7 +66,7 @@ decimal_from n [] = n
 decimal_from n (digit ∷ digits) = decimal_from (n * 10 + (digit - digit_zero)) digits
 
 -- The number of a record or a dataset: 1 to 3 decimal digits, of a value up to 255.
-pub record TellsNumber (digits : List ℕ) (n : ℕ) : Type 0 where
+pub record EncodesNumber (digits : List ℕ) (n : ℕ) : Type 0 where
   pub some : 1 ≤ length digits
   pub few : length digits ≤ 3
   pub are_digits : IsTrue (list_all is_digit digits)
@@ -74,19 +74,19 @@ pub record TellsNumber (digits : List ℕ) (n : ℕ) : Type 0 where
   pub fits : n ≤ 255
 
 -- The line is `R:D`, and the rest, which does not begin with a digit.
-pub record TellsNames (line : List ℕ) (rec set : ℕ) (end : List ℕ) : Type 0 where
+pub record BeginsWithName (line : List ℕ) (rec set : ℕ) (end : List ℕ) : Type 0 where
   pub rec_digits : List ℕ
   pub set_digits : List ℕ
-  pub is_rec : TellsNumber rec_digits rec
-  pub is_set : TellsNumber set_digits set
+  pub is_rec : EncodesNumber rec_digits rec
+  pub is_set : EncodesNumber set_digits set
   pub undigited : is_digit (get_or end 0 0) ≡ false
   pub line_is : line ≡ rec_digits ++ (colon ∷ set_digits ++ end)
 
 -- A line `R:D`, followed by SP and the octets as text if there are any.
-pub record TellsField (line : List ℕ) (d : Dataset) : Type 0 where
+pub record DescribesField (line : List ℕ) (d : Dataset) : Type 0 where
   pub end : List ℕ
-  pub names : TellsNames line d.rec d.set end
-  pub is_end : TellsLast end d.octets
+  pub names : BeginsWithName line d.rec d.set end
+  pub is_end : EndsWith end d.octets
 
 -- `text`
 abbrev pub text_word : List ℕ
@@ -98,27 +98,27 @@ head_words head end = head.source ++ (sp ∷ (head.number ++ (sp ∷ (head.prior
 
 -- The octets are these parts, none of which contains SP, and the rest of the line: nothing, or SP
 -- and more.
-pub record AreWords (octets : List ℕ) (head : Header) (end : List ℕ) : Type 0 where
-  pub source : HasNo sp head.source
-  pub number : HasNo sp head.number
-  pub priority : HasNo sp head.priority
-  pub category : HasNo sp head.category
-  pub words : HasNo sp head.words
+pub record AreFieldsOf (octets : List ℕ) (head : Header) (end : List ℕ) : Type 0 where
+  pub source : Lacks sp head.source
+  pub number : Lacks sp head.number
+  pub priority : Lacks sp head.priority
+  pub category : Lacks sp head.category
+  pub words : Lacks sp head.words
   pub ends : get_or end 0 sp ≡ sp
   pub octets_are : octets ≡ head_words head end
 
 -- A line `message SOURCE NUMBER PRIORITY CATEGORY WORDS`, followed by SP and the info as text if
 -- there is one.
-pub record TellsHead (line : List ℕ) (head : Header) : Type 0 where
+pub record DescribesHead (line : List ℕ) (head : Header) : Type 0 where
   pub end : List ℕ
   pub is_header : IsHeader head
-  pub is_end : TellsLast end head.info
+  pub is_end : EndsWith end head.info
   pub line_is : line ≡ codes "message " ++ head_words head end
 
 -- A line `trailer`, followed by SP and the octets as text if there are any.
-pub record TellsTrailer (line octets : List ℕ) : Type 0 where
+pub record DescribesTrailer (line octets : List ℕ) : Type 0 where
   pub end : List ℕ
-  pub is_end : TellsLast end octets
+  pub is_end : EndsWith end octets
   pub line_is : line ≡ codes "trailer" ++ end
 
 -- ---- The format of a script, and its contents.
@@ -129,17 +129,17 @@ max_script = 16777216
 
 -- Each line describes the dataset at the same index, and a builder accepts these, one after
 -- another, after those before them.
-abbrev pub AreFieldLines : Limits → List Dataset → List (List ℕ) → List Dataset → Type 0
-AreFieldLines limits before [] [] = Unit {0}
-AreFieldLines limits before (line ∷ lines) (d ∷ ds) =
-    TellsField line d × (add_fault limits before d ≡ None) × AreFieldLines limits (before ++ d ∷ []) lines ds
-AreFieldLines limits before lines ds = ⊥
+abbrev pub DescribeFields : Limits → List Dataset → List (List ℕ) → List Dataset → Type 0
+DescribeFields limits before [] [] = Unit {0}
+DescribeFields limits before (line ∷ lines) (d ∷ ds) =
+    DescribesField line d × (added_field_fault limits before d ≡ None) × DescribeFields limits (before ++ d ∷ []) lines ds
+DescribeFields limits before lines ds = ⊥
 
 -- No line, for an empty trailer; or the one line that describes the trailer.
-abbrev pub AreTrailer : List (List ℕ) → List ℕ → Type 0
-AreTrailer [] octets = octets ≡ []
-AreTrailer (line ∷ []) octets = TellsTrailer line octets × IsTrailer octets
-AreTrailer (line ∷ next ∷ lines) octets = ⊥
+abbrev pub DescribeTrailer : List (List ℕ) → List ℕ → Type 0
+DescribeTrailer [] octets = octets ≡ []
+DescribeTrailer (line ∷ []) octets = DescribesTrailer line octets × IsTrailer octets
+DescribeTrailer (line ∷ next ∷ lines) octets = ⊥
 
 -- The octets begin with what precedes the story, and the story follows. The lines are those of
 -- datasets, which are an envelope; that of the header; that of the trailer, if any; and the line
@@ -150,10 +150,10 @@ pub record IsFront (limits : Limits) (octets : List ℕ) (fields : List Dataset)
   pub message : List ℕ
   pub trailers : List (List ℕ)
   pub lined : NextLines octets (field_lines ++ (message ∷ trailers ++ text_word ∷ [])) story
-  pub are_fields : AreFieldLines limits [] field_lines fields
-  pub whole : finish_fault fields ≡ None
-  pub is_head : TellsHead message head
-  pub is_trailer : AreTrailer trailers trailer
+  pub are_fields : DescribeFields limits [] field_lines fields
+  pub whole : missing_field_fault fields ≡ None
+  pub is_head : DescribesHead message head
+  pub is_trailer : DescribeTrailer trailers trailer
   pub text_line_is : text_line ≡ length field_lines + length trailers + 2
 
 -- The lines of a story, at least one. Each but the last has its end. The last may lack it, unless
@@ -161,7 +161,7 @@ pub record IsFront (limits : Limits) (octets : List ℕ) (fields : List Dataset)
 abbrev pub IsStory : List ℕ → List (List ℕ) → Type 0
 IsStory octets lines = (0 < length lines) × (NextLines octets lines []
     ⊎ ((before : List (List ℕ)) × (last : List ℕ) × (lines ≡ before ++ last ∷ []) × NextLines octets before last
-    × HasNo lf last × (last ≡ [] → before ≡ [])))
+    × Lacks lf last × (last ≡ [] → before ≡ [])))
 
 -- the lines of a text, as a reader of stories delivers them
 abbrev pub text_lines : List ℕ → List (List ℕ)

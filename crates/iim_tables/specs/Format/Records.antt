@@ -4,18 +4,18 @@
 use Rattle.std.specs.Prelude.{◌≡◌, ℕ, Bool, true, false, not, ◌&&◌, ◌||◌, ◌==◌, ◌≤◌, List, map, count_by, length}
 use Rattle.std.specs.{List.AllByRecursion, List.list_any, List.filter, Option.option_map_or}
 use Rattle.iim_dataset.specs.Format.{Octets.IsOctet, Octets.Octets, Octets.number, Datasets.Dataset}
-use Rattle.iim_tables.specs.Format.Rows.{Meets, row_of, table}
+use Rattle.iim_tables.specs.Format.Rows.{OctetsMeetRow, row_of, table}
 use Rattle.iim_tables.specs.declared.shape.Duty.{Duty, TheVariants.Mandatory}
 
 -- the dataset must occur in each such record (whether 7:90 must occur depends on the mode, and is a
 -- matter of sizes)
-abbrev pub has_to_occur : Duty → Bool
-has_to_occur Mandatory = true
-has_to_occur other = false
+abbrev pub must_occur : Duty → Bool
+must_occur Mandatory = true
+must_occur other = false
 
 -- the numbers of the datasets that the record must have, in the order of the table: lowest first
 abbrev pub mandatory : ℕ → List ℕ
-mandatory rec = map (λ e. e.set) (filter (λ e. e.rec == rec && has_to_occur e.row.duty) table)
+mandatory rec = map (λ e. e.set) (filter (λ e. e.rec == rec && must_occur e.row.duty) table)
 
 -- the dataset may occur more than once: its row says so, or it has no row
 abbrev pub repeats : ℕ → ℕ → Bool
@@ -38,7 +38,7 @@ has_file_format d = not (d.rec == 1 && d.set == 20) || number d.octets == 2
 pub record IsGoodDataset (d : Dataset) : Type 0 where
   pub numbered : IsOctet d.set
   pub octets : Octets d.octets
-  pub meets : Meets d.rec d.set d.octets
+  pub meets : OctetsMeetRow d.rec d.set d.octets
   pub file_format : has_file_format d ≡ true
 
 -- Each dataset is good and of this record, the mandatory ones occur, and those that do not repeat
@@ -49,5 +49,5 @@ pub record IsGoodRecord (rec : ℕ) (ds : List Dataset) : Type 0 where
   pub once : (n : ℕ) → repeats rec n ≡ false → occurrences n ds ≤ 1
 
 -- Some n octets meet the row of the dataset.
-abbrev pub HasValue : ℕ → ℕ → ℕ → Type 0
-HasValue rec set n = (xs : List ℕ) × Octets xs × (length xs ≡ n) × Meets rec set xs
+abbrev pub HasValueOfLength : ℕ → ℕ → ℕ → Type 0
+HasValueOfLength rec set n = (xs : List ℕ) × Octets xs × (length xs ≡ n) × OctetsMeetRow rec set xs

@@ -76,21 +76,21 @@ row_in entries rec set = option_map (λ e. e.row) (find (λ e. e.rec == rec && e
 
 -- the row of a dataset that has no line and is stored unread: up to 8192 octets of any kind, as
 -- often as it occurs
-abbrev pub kept_row : Row
-kept_row = record { min = 0; max = 8192; kind = Octets; duty = Optional; repeats = true }
+abbrev pub unread_row : Row
+unread_row = record { min = 0; max = 8192; kind = Octets; duty = Optional; repeats = true }
 
 -- every other number of records 1 and 2 is stored unread, and no other record has another number
-abbrev pub row_of_others : ℕ → Option Row
-row_of_others rec = if rec == 1 || rec == 2 then Some kept_row else None
+abbrev pub row_of_unread : ℕ → Option Row
+row_of_unread rec = if rec == 1 || rec == 2 then Some unread_row else None
 
 -- the row of a dataset, if it has one
 unfoldable pub row_of : ℕ → ℕ → Option Row
-row_of rec set = option_or (row_in table rec set) (row_of_others rec)
+row_of rec set = option_or (row_in table rec set) (row_of_unread rec)
 
 -- the number of octets is within the row's bounds, and they are of its kind
 abbrev pub is_admitted : Row → List ℕ → Bool
 is_admitted r xs = within r.min r.max (length xs) && has_kind r.kind xs
 
 -- the dataset has a row, and the octets meet it
-abbrev pub Meets : ℕ → ℕ → List ℕ → Type 0
-Meets rec set xs = IsSomeAnd (row_of rec set) (λ r. IsTrue (is_admitted r xs))
+abbrev pub OctetsMeetRow : ℕ → ℕ → List ℕ → Type 0
+OctetsMeetRow rec set xs = IsSomeAnd (row_of rec set) (λ r. IsTrue (is_admitted r xs))

@@ -16,7 +16,7 @@ pub record HasParts (got : Unpacked) (v : Value) : Type 0 where
   pub sizes : got.sizes ≡ v.sizes
 
 -- The borrowed value has the parts of the value, except the lines.
-pub record ShowsParts (got : UnpackedRef) (v : Value) : Type 0 where
+pub record HasBorrowedParts (got : UnpackedRef) (v : Value) : Type 0 where
   pub fields : got.envelope ≡ v.fields
   pub head : got.head.now ≡ v.head
   pub trailer : got.trailer.now ≡ v.trailer
@@ -27,8 +27,8 @@ abbrev pub stream_of : List (Bor (List ℕ)) → List ℕ
 stream_of pieces = flat_map (λ piece. piece.now) pieces
 
 -- From state `a` to state `b`, the sink received exactly the text of the octets.
-abbrev pub TellsText : {S : Type 0} → (S → List story.StoryEvent → S → Type 0) → S → List ℕ → S → Type 0
-TellsText {S} goes a octets b = (more : List story.StoryEvent) × goes a more b × Delivers [] octets more
+abbrev pub SinkReceivesText : {S : Type 0} → (S → List story.StoryEvent → S → Type 0) → S → List ℕ → S → Type 0
+SinkReceivesText {S} goes a octets b = (more : List story.StoryEvent) × goes a more b × Delivers [] octets more
 
 -- The stream begins with an envelope of `used` octets, whose value has these parts, and the sink
 -- received its lines.
@@ -40,13 +40,13 @@ pub record IsUnpacked {S : Type 0} (goes : S → List story.StoryEvent → S →
 
 -- Why a stream does not begin with an envelope. Either an octet is rejected, and the sink received
 -- the text of the octets before it; or the stream is truncated, and the sink received all its text.
-abbrev pub IsTurnedDown : {S : Type 0} → (S → List story.StoryEvent → S → Type 0) → Limits → List ℕ → S → S → Refusal → Type 0
-IsTurnedDown goes limits stream a b e =
-    (IsRefused limits stream e × TellsText goes a (take e.octet stream) b) ⊎ (IsTruncated limits stream e × TellsText goes a stream b)
+abbrev pub IsRejected : {S : Type 0} → (S → List story.StoryEvent → S → Type 0) → Limits → List ℕ → S → S → Refusal → Type 0
+IsRejected goes limits stream a b e =
+    (IsRefused limits stream e × SinkReceivesText goes a (take e.octet stream) b) ⊎ (IsTruncated limits stream e × SinkReceivesText goes a stream b)
 
 -- The function's result represents the result of the stream.
-abbrev pub IsAnswer : Result (Unpacked × ℕ) Refusal → Answer → Type 0
-IsAnswer (Ok got) (Finished used value) = HasParts got.0 value × (got.1 ≡ used)
-IsAnswer (Err e) (Refused f) = e ≡ f
-IsAnswer (Err e) (Truncated f) = e ≡ f
-IsAnswer result answer = ⊥
+abbrev pub RepresentsResult : Result (Unpacked × ℕ) Refusal → Answer → Type 0
+RepresentsResult (Ok got) (Finished used value) = HasParts got.0 value × (got.1 ≡ used)
+RepresentsResult (Err e) (Refused f) = e ≡ f
+RepresentsResult (Err e) (Truncated f) = e ≡ f
+RepresentsResult result answer = ⊥

@@ -3,10 +3,10 @@ use Rattle.std.specs.Prelude.{ℕ, List, ◌++◌, Option, None, Some}
 use Rattle.iim_dataset.specs.States.Devices.{Device}
 
 -- octets, prepended to the known input of a source
-abbrev pub put_before : List ℕ → Option (List ℕ) → Option (List ℕ)
-put_before held None = None
-put_before held (Some rest) = Some (held ++ rest)
+abbrev pub prepend_to : List ℕ → Option (List ℕ) → Option (List ℕ)
+prepend_to held None = None
+prepend_to held (Some rest) = Some (held ++ rest)
 
 -- a source with octets prepended to its input
-abbrev pub with_held : List ℕ → Device → Device
-with_held held d = record { octets = put_before held d.octets; failures = d.failures; interruptions = d.interruptions }
+abbrev pub with_unread : List ℕ → Device → Device
+with_unread held d = record { octets = prepend_to held d.octets; failures = d.failures; interruptions = d.interruptions }

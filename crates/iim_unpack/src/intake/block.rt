@@ -2,7 +2,7 @@
 
 ghost use Rattle.std.specs.Prelude.{◌≡◌, ◌≤◌, [], ℕ, length, drop, IfOk, IfErr, OnErr};
 ghost use Rattle.std.specs.Io.KnownBytes.{IsAtEnd};
-ghost use Rattle.iim_dataset.specs.States.Devices.{Missed, HasGiven, WithinInterruptionLimit};
+ghost use Rattle.iim_dataset.specs.States.Devices.{ReadFailed, ReadsGave, WithinInterruptionLimit};
 
 use iim_dataset::{BLOCK, IoFault, Source, take};
 use std::marker::Model;
@@ -55,12 +55,12 @@ impl Block {
     /// Reads once, retrying after interruptions, and replaces the buffered octets. Returns how many
     /// octets were read: 0 only at the end of the source.
     pub(crate) fn fill<R: Source>(&mut self, reader: &mut R) -> Result<usize, IoFault>
-        ensures given { IfOk result (λ count. HasGiven (R.state reader.old) (R.state reader.new) self.new) }
+        ensures given { IfOk result (λ count. ReadsGave (R.state reader.old) (R.state reader.new) self.new) }
         ensures length { IfOk result (λ count. length self.new ≡ count) }
         ensures end { IfOk result (λ count. count ≡ 0 → IsAtEnd (R.state reader.new).octets) }
-        ensures missed { IfErr result (Missed (R.state reader.old) (R.state reader.new)) }
+        ensures missed { IfErr result (ReadFailed (R.state reader.old) (R.state reader.new)) }
         ensures empty { OnErr result (self.new ≡ []) }
-        ensures patience { WithinInterruptionLimit 1 (R.state reader.old) (R.state reader.new) }
+        ensures retry_limit { WithinInterruptionLimit 1 (R.state reader.old) (R.state reader.new) }
         ensures leads { R.leads reader.old reader.new }
     {
         self.from = 0;

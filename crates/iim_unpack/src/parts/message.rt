@@ -3,12 +3,12 @@
 ghost use Rattle.std.specs.Prelude.{◌≡◌, ◌<◌, length, map, take, slice_index, Some, IsSome, IfErr, OnOk, refl};
 ghost use Rattle.std.proofs.Common.{◌∙◌};
 ghost use Rattle.iim_object.specs.Format.Objects.{ObjectOctet, head_token};
-ghost use Rattle.iim_object.specs.States.Reading.{LeadsOn, RefusesHead, RefusesRun, events_at};
-ghost use Rattle.iim_unpack.specs.Routes.{TellsMessage, MessageRefuses, PassesTo, HaltsAt, RefusesObject, tells_message_nothing, tells_message_joined, message_refuses_joined};
+ghost use Rattle.iim_object.specs.States.Reading.{TokenAdvancesObject, RejectsObjectHead, RejectsObjectOctet, events_at};
+ghost use Rattle.iim_unpack.specs.RouterSteps.{MessageEmits, MessageRejects, ToMessageConsumes, ToMessageRejects, ObjectRejectsHead, message_emits_nil, message_emits_append, message_rejects_append};
 
 use iim_dataset::{Head, Stop};
 use iim_object::{ObjectFault, ObjectReader, ObjectSink};
-use iim_places::internals::{TokenFault, message_on, size_on};
+use iim_places::internals::{TokenFault, message_fault_on, size_fault_on};
 use wire_message::{MessageCause, MessageFault, MessageReader};
 use wire_story::StorySink;
 
@@ -21,28 +21,28 @@ pub(crate) struct ToMessage<'m, 's, S> {
 }
 
 impl<'m, 's, S: StorySink> ObjectSink for ToMessage<'m, 's, S> {
-    ghost goes = { PassesTo S.goes S.failures };
+    ghost goes = { ToMessageConsumes S.goes S.failures };
 
-    ghost stops = { HaltsAt S.goes S.failures };
+    ghost stops = { ToMessageRejects S.goes S.failures };
 
     ghost stands = { λ a. IsSome a.message.now };
 
     ghost nothing = { λ a. (
       refl,
       refl,
-      λ some. tells_message_nothing some (S.nothing a.sink.now),
+      λ some. message_emits_nil some (S.nothing a.sink.now),
     ) };
 
     ghost joined = { λ a b c xs ys h k. (
       h.0 ∙ k.0,
       h.1 ∙ k.1,
-      λ some. let p = h.2 some in tells_message_joined S.joined p (k.2 p.takes_calls),
+      λ some. let p = h.2 some in message_emits_append S.joined p (k.2 p.takes_calls),
     ) };
 
     ghost joined_stop = { λ a b c xs ys refused h k. (
       h.0 ∙ k.0,
       h.1 ∙ k.1,
-      λ some. let p = h.2 some in message_refuses_joined S.joined p (k.2 p.takes_calls),
+      λ some. let p = h.2 some in message_rejects_append S.joined p (k.2 p.takes_calls),
     ) };
 
     fn run(&mut self, run: &[u8]) -> Result<(), Stop> {
@@ -70,7 +70,7 @@ impl<'m, 's, S: StorySink> ObjectSink for ToMessage<'m, 's, S> {
 }
 
 /// Ends a mutable borrow, for the prover: the value is unchanged.
-pub(crate) fn give_back<T>(lent: &mut T)
+pub(crate) fn end_borrow<T>(lent: &mut T)
     ensures { lent.new ≡ lent.old }
 {}
 
@@ -85,9 +85,9 @@ fn run_object<'m, 's, S: StorySink>(
     ensures same { OnOk result (object.new ≡ object.old) }
     ensures message { to.new.message.ghost_name ≡ to.old.message.ghost_name }
     ensures sink { to.new.sink.ghost_name ≡ to.old.sink.ghost_name }
-    ensures told { OnOk result (TellsMessage S.goes S.failures (to.old.message.now, to.old.sink.now)
+    ensures told { OnOk result (MessageEmits S.goes S.failures (to.old.message.now, to.old.sink.now)
         (map ObjectOctet run.now) (to.new.message.now, to.new.sink.now)) }
-    ensures refused { IfErr result (RefusesRun (MessageRefuses S.goes S.failures to.new.cause) run.now
+    ensures refused { IfErr result (RejectsObjectOctet (MessageRejects S.goes S.failures to.new.cause) run.now
         (to.old.message.now, to.old.sink.now) (to.new.message.now, to.new.sink.now)) }
 {
     object.run(run, to)
@@ -105,11 +105,11 @@ fn end_object<'m, 's, S: StorySink>(
     ensures message { to.new.message.ghost_name ≡ to.old.message.ghost_name }
     ensures sink { to.new.sink.ghost_name ≡ to.old.sink.ghost_name }
     ensures takes_calls { OnOk result (IsSome object.new) }
-    ensures leads_on { OnOk result (LeadsOn object.old (head_token head.rec head.count) object.new) }
-    ensures told { OnOk result (TellsMessage S.goes S.failures (to.old.message.now, to.old.sink.now)
+    ensures leads_on { OnOk result (TokenAdvancesObject object.old (head_token head.rec head.count) object.new) }
+    ensures told { OnOk result (MessageEmits S.goes S.failures (to.old.message.now, to.old.sink.now)
         (events_at head.rec) (to.new.message.now, to.new.sink.now)) }
-    ensures refused { IfErr result (RefusesHead (TellsMessage S.goes S.failures)
-        (MessageRefuses S.goes S.failures to.new.cause) object.old (head_token head.rec head.count)
+    ensures refused { IfErr result (RejectsObjectHead (MessageEmits S.goes S.failures)
+        (MessageRejects S.goes S.failures to.new.cause) object.old (head_token head.rec head.count)
         (to.old.message.now, to.old.sink.now) (to.new.message.now, to.new.sink.now)) }
 {
     object.head(head.rec, head.set, head.count, to)
@@ -125,11 +125,11 @@ pub(crate) fn pass_octets<S: StorySink>(
     requires object { IsSome object.old }
     requires message { IsSome message.old }
     ensures same { OnOk result (object.new ≡ object.old) }
-    ensures told { OnOk result (TellsMessage S.goes S.failures (message.old, sink.old) (map ObjectOctet run.now)
+    ensures told { OnOk result (MessageEmits S.goes S.failures (message.old, sink.old) (map ObjectOctet run.now)
         (message.new, sink.new)) }
     ensures before { IfErr result (λ fault. fault.taken < length run.now) }
     ensures refused { IfErr result (λ fault.
-        MessageRefuses S.goes S.failures (Some fault.cause) (message.old, sink.old)
+        MessageRejects S.goes S.failures (Some fault.cause) (message.old, sink.old)
         (map ObjectOctet (take fault.taken run.now)) (ObjectOctet (slice_index run.now fault.taken))
         (message.new, sink.new)) }
 {
@@ -144,7 +144,7 @@ pub(crate) fn pass_octets<S: StorySink>(
         sink: same,
         cause,
     } = to;
-    give_back(same);
+    end_borrow(same);
     match answer {
         Ok(()) => Ok(()),
         Err(ObjectFault::Size { cause: _ }) => unreachable!(),
@@ -168,10 +168,10 @@ pub(crate) fn pass_head<S: StorySink>(
     requires object { IsSome object.old }
     requires message { IsSome message.old }
     ensures takes_calls { OnOk result (IsSome object.new) }
-    ensures leads_on { OnOk result (LeadsOn object.old (head_token head.rec head.count) object.new) }
-    ensures told { OnOk result (TellsMessage S.goes S.failures (message.old, sink.old) (events_at head.rec)
+    ensures leads_on { OnOk result (TokenAdvancesObject object.old (head_token head.rec head.count) object.new) }
+    ensures told { OnOk result (MessageEmits S.goes S.failures (message.old, sink.old) (events_at head.rec)
         (message.new, sink.new)) }
-    ensures refused { IfErr result (RefusesObject S.goes S.failures object.old head (message.old, sink.old)
+    ensures refused { IfErr result (ObjectRejectsHead S.goes S.failures object.old head (message.old, sink.old)
         (message.new, sink.new)) }
 {
     let mut to = ToMessage {
@@ -185,12 +185,12 @@ pub(crate) fn pass_head<S: StorySink>(
         sink: same,
         cause,
     } = to;
-    give_back(same);
+    end_borrow(same);
     match answer {
         Ok(()) => Ok(()),
-        Err(ObjectFault::Size { cause }) => Err(size_on(head, cause)),
+        Err(ObjectFault::Size { cause }) => Err(size_fault_on(head, cause)),
         Err(ObjectFault::Stopped(_)) => match cause {
-            Some(cause) => Err(message_on(head, cause)),
+            Some(cause) => Err(message_fault_on(head, cause)),
             None => unreachable!(),
         },
     }

@@ -2,7 +2,7 @@
 
 ghost use Rattle.std.specs.Prelude.{refl};
 ghost use Rattle.std.proofs.Common.{◌∙◌};
-ghost use Rattle.iim_unpack.specs.Routes.{tells_parts_nothing, tells_parts_joined, stopped_joined, ended_takes_nothing, Routes, RefusesRoute, TakesNext, IsOver};
+ghost use Rattle.iim_unpack.specs.RouterSteps.{parts_emit_nil, parts_emit_append, parts_reject_append, ended_parts_accept_nothing, RouterSteps, RouterRejects, RouterAccepts, RouterHasEnded};
 
 use crate::parts::Parts;
 use iim_dataset::{DatasetSink, Head, Step, Stop};
@@ -21,34 +21,34 @@ pub(crate) struct Router<'p, 's, S> {
 }
 
 impl<'p, 's, S: StorySink> DatasetSink for Router<'p, 's, S> {
-    ghost goes = { Routes S.goes S.failures };
+    ghost goes = { RouterSteps S.goes S.failures };
 
-    ghost stops = { RefusesRoute S.goes S.failures };
+    ghost stops = { RouterRejects S.goes S.failures };
 
-    ghost stands = { TakesNext };
+    ghost stands = { RouterAccepts };
 
-    ghost ends = { IsOver };
+    ghost ends = { RouterHasEnded };
 
     ghost nothing = { λ a. (
       refl,
       refl,
-      tells_parts_nothing (S.nothing a.sink.now),
+      parts_emit_nil (S.nothing a.sink.now),
       refl,
     ) };
 
     ghost joined = { λ a b c xs ys h k. (
       h.0 ∙ k.0,
       h.1 ∙ k.1,
-      tells_parts_joined S.joined h.2 k.2,
+      parts_emit_append S.joined h.2 k.2,
       k.3 ∙ h.3,
     ) };
 
-    ghost ended = { λ a left ended takes. ended_takes_nothing a.parts.now left ended takes };
+    ghost ended = { λ a left ended takes. ended_parts_accept_nothing a.parts.now left ended takes };
 
     ghost joined_stop = { λ a b c xs ys event h k. (
       h.0 ∙ k.0,
       h.1 ∙ k.1,
-      stopped_joined S.joined h.2 k.2,
+      parts_reject_append S.joined h.2 k.2,
       k.3 ∙ h.3,
     ) };
 
@@ -63,7 +63,7 @@ impl<'p, 's, S: StorySink> DatasetSink for Router<'p, 's, S> {
     }
 
     #[inline(always)]
-    fn wants_whole(&self) -> bool {
+    fn prefers_whole_datasets(&self) -> bool {
         true
     }
 

@@ -29,13 +29,13 @@ pub(crate) struct Grown {
 }
 
 impl TicketOut for Grown {
-    ghost use Rattle.iim_unpack.specs.TicketOuts.{GrowsBy, grows_by_nothing, grows_joined};
+    ghost use Rattle.iim_unpack.specs.TicketOuts.{AppendsOctets, appends_octets_nil, appends_octets_append};
 
-    ghost puts = { GrowsBy };
+    ghost puts = { AppendsOctets };
 
-    ghost nothing = { grows_by_nothing };
+    ghost nothing = { appends_octets_nil };
 
-    ghost joined = { grows_joined };
+    ghost joined = { appends_octets_append };
 
     fn put(&mut self, more: &[u8]) {
         if self.is_refused {
@@ -56,13 +56,13 @@ pub(crate) struct Front<'o> {
 }
 
 impl<'o> TicketOut for Front<'o> {
-    ghost use Rattle.iim_unpack.specs.TicketOuts.{WritesFront, front_of_nothing, fronts_joined};
+    ghost use Rattle.iim_unpack.specs.TicketOuts.{WritesPrefix, writes_prefix_nil, writes_prefix_append};
 
-    ghost puts = { WritesFront };
+    ghost puts = { WritesPrefix };
 
-    ghost nothing = { front_of_nothing };
+    ghost nothing = { writes_prefix_nil };
 
-    ghost joined = { fronts_joined };
+    ghost joined = { writes_prefix_append };
 
     #[inline(always)]
     fn put(&mut self, more: &[u8]) {

@@ -3,18 +3,18 @@
 ghost use Rattle.std.specs.Prelude.{IfSome, IfNone, IfOk, IfErr, ◌≡◌, ℕ, List};
 ghost use Rattle.iim_fields.specs.Format.Records.{IsWithin};
 ghost use Rattle.iim_fields.specs.States.Standing.{room_for};
-ghost use Rattle.iim_places.specs.States.Readers.{AreAtIn};
+ghost use Rattle.iim_places.specs.States.Readers.{ReadersAreAtIn};
 ghost use Rattle.iim_unpack.specs.States.Restored.{IsRestored};
-ghost use Rattle.iim_places.specs.States.Restored.{IsRestoreFault, split_told};
-ghost use Rattle.iim_places.specs.Format.TicketForm.{HasForm, SplitsTicket};
-ghost use Rattle.iim_unpack.specs.States.Unpacking.{room_in};
+ghost use Rattle.iim_places.specs.States.Restored.{IsRestoreFault, contents_from};
+ghost use Rattle.iim_places.specs.Format.TicketForm.{HasForm, HasContents};
+ghost use Rattle.iim_unpack.specs.States.Unpacking.{capacity_in};
 
 use crate::parts::Parts;
 use crate::unpacker::Unpacker;
 use iim_fields::Limits;
-use iim_object::laws::readers_tell_sizes;
+use iim_object::laws::readers_return_sizes;
 use iim_places::internals::{Readers, fields_at, readers_at};
-use iim_places::laws::{lower_laws, place_laws};
+use iim_places::laws::{layer_lemmas, place_laws};
 use iim_places::{TicketFault, TicketParts, split_ticket};
 use std::alloc::{AllocError, Global};
 
@@ -27,16 +27,16 @@ fn unpacker_at(
     readers: Readers,
     at: u64,
 ) -> Result<Unpacker, AllocError>
-    requires form { HasForm (split_told parts.now) }
-    requires readers { AreAtIn (split_told parts.now) readers }
+    requires form { HasForm (contents_from parts.now) }
+    requires readers { ReadersAreAtIn (contents_from parts.now) readers }
     requires within { IsWithin limits readers.octets readers.fields }
-    ensures restored { IfOk result (λ u. (ticket : List ℕ) → SplitsTicket ticket (split_told parts.now)
+    ensures restored { IfOk result (λ u. (ticket : List ℕ) → HasContents ticket (contents_from parts.now)
         → IsRestored limits ticket at u) }
-    ensures room { IfOk result (λ u. room_in u ≡ room_for limits) }
+    ensures room { IfOk result (λ u. capacity_in u ≡ room_for limits) }
 {
-    lower_laws();
+    layer_lemmas();
     place_laws();
-    readers_tell_sizes();
+    readers_return_sizes();
     let fields = fields_at(alloc, limits, parts)?;
     let Readers {
         tags,
@@ -75,7 +75,7 @@ impl Unpacker {
         at: u64,
     ) -> Result<Unpacker, TicketFault>
         ensures restored { IfOk result (IsRestored limits ticket.now at) }
-        ensures room { IfOk result (λ u. room_in u ≡ room_for limits) }
+        ensures room { IfOk result (λ u. capacity_in u ≡ room_for limits) }
         ensures fault { IfErr result (IsRestoreFault limits ticket.now) }
     {
         place_laws();

@@ -2,13 +2,13 @@
 
 ghost use Rattle.std.specs.Prelude.{◌≡◌, ◌^◌, ◌-◌, ◌<◌, ℕ, List, length, sum, Some, IsSome, IfSome};
 ghost use Rattle.std.specs.List.{flat_map};
-ghost use Rattle.iim_dataset.specs.States.Reading.{TakesCalls};
-ghost use Rattle.iim_fields.specs.States.Standing.{IsFailed};
+ghost use Rattle.iim_dataset.specs.States.Reading.{DatasetReaderAccepts};
+ghost use Rattle.iim_fields.specs.States.Standing.{RecordReaderFailed};
 ghost use Rattle.iim_object.specs.Format.Objects as object_places;
 ghost use Rattle.iim_object.specs.States.Reading as objects;
-ghost use Rattle.iim_places.specs.Format.Tickets.{four, wide, present_version, field_octets, fields_octets, number_octets, text_octets, texts_octets, message_octets, phase_octets, DataBegun, TagBegun};
-ghost use Rattle.iim_unpack.specs.Steps.{phase_in, left_in, IsSpelled};
-ghost use Rattle.iim_unpack.specs.TicketOuts.{HoldsFront};
+ghost use Rattle.iim_places.specs.Format.Tickets.{four, wide, present_version, field_octets, fields_octets, number_octets, text_octets, texts_octets, message_octets, phase_octets, PartialData, PartialTag};
+ghost use Rattle.iim_unpack.specs.Steps.{phase_in, remaining_of_subfile, IsEncoded};
+ghost use Rattle.iim_unpack.specs.TicketOuts.{HoldsPrefix};
 
 use crate::parts::Parts;
 use crate::ticket::out::{Front, Grown, TicketOut};
@@ -62,7 +62,7 @@ fn push_text<T: TicketOut>(ticket: &mut T, text: &[u8])
 /// Appends the octets of a partial tag.
 fn push_tag<T: TicketOut>(ticket: &mut T, held: &[u8])
     requires { length held.now < 256 }
-    ensures { T.puts ticket.old (phase_octets present_version (TagBegun held.now)) ticket.new }
+    ensures { T.puts ticket.old (phase_octets present_version (PartialTag held.now)) ticket.new }
 {
     ticket.put(&[IN_TAG]);
     push_text(ticket, held);
@@ -71,7 +71,7 @@ fn push_tag<T: TicketOut>(ticket: &mut T, held: &[u8])
 /// Appends partial data: the dataset's number, the count, how many octets remain, and those
 /// received.
 fn push_data<T: TicketOut>(ticket: &mut T, head: Head, left: u64, taken: &[u8])
-    ensures { T.puts ticket.old (phase_octets present_version (DataBegun head.set head.count left taken.now))
+    ensures { T.puts ticket.old (phase_octets present_version (PartialData head.set head.count left taken.now))
         ticket.new }
 {
     ticket.put(&[IN_DATA, head.set]);
@@ -82,8 +82,8 @@ fn push_data<T: TicketOut>(ticket: &mut T, head: Head, left: u64, taken: &[u8])
 
 /// Appends the partial dataset.
 fn push_phase<T: TicketOut>(ticket: &mut T, reader: &HeadReader, parts: &Parts)
-    requires reader { TakesCalls reader.now }
-    requires fields { IsFailed parts.now.fields → ⊥ }
+    requires reader { DatasetReaderAccepts reader.now }
+    requires fields { RecordReaderFailed parts.now.fields → ⊥ }
     ensures { T.puts ticket.old (phase_octets present_version (phase_in reader.now.place parts.now)) ticket.new }
 {
     if parts.has_ended() {
@@ -109,7 +109,7 @@ fn push_field<T: TicketOut>(ticket: &mut T, rec: u8, set: u8, octets: &[u8])
 }
 
 /// Returns how many datasets are stored.
-fn kept_count(fields: &Fields) -> usize
+fn stored_count(fields: &Fields) -> usize
     requires { length fields.now.kept < 2 ^ 32 }
     ensures { result ≡ length fields.now.kept }
 {
@@ -121,7 +121,7 @@ fn push_fields<T: TicketOut>(ticket: &mut T, fields: &Fields)
     requires { length fields.now.kept < 2 ^ 32 }
     ensures { T.puts ticket.old (fields_octets fields.now.kept) ticket.new }
 {
-    push_number(ticket, kept_count(fields) as u64);
+    push_number(ticket, stored_count(fields) as u64);
     let mut kept = fields.kept();
     while let Some((rec, set, octets)) = kept.next() {
         push_field(ticket, rec, set, octets);
@@ -152,10 +152,10 @@ fn push_options<T: TicketOut>(ticket: &mut T, numbers: &[Option<u64>])
 
 /// Returns how many octets of the object were received.
 fn object_octets(reader: &HeadReader, object: &ObjectReader) -> u64
-    requires reader { TakesCalls reader.now }
+    requires reader { DatasetReaderAccepts reader.now }
     requires object { IsSome object.now }
-    ensures { (p : object_places.Place) → objects.StandsAt object.now p → result ≡ sum p.lengths
-        - left_in reader.now.place }
+    ensures { (p : object_places.Place) → objects.ObjectReaderStandsAt object.now p → result ≡ sum p.lengths
+        - remaining_of_subfile reader.now.place }
 {
     match reader.place() {
         Some(DatasetPlace::Inside { head, left }) if head.rec == OBJECT => {
@@ -188,12 +188,12 @@ fn push_message<T: TicketOut>(ticket: &mut T, place: &MessagePlace)
 
 /// Writes the ticket for the state of these readers.
 fn write_ticket<T: TicketOut>(ticket: &mut T, reader: &HeadReader, parts: &Parts)
-    requires reader { TakesCalls reader.now }
-    requires fields { IsFailed parts.now.fields → ⊥ }
+    requires reader { DatasetReaderAccepts reader.now }
+    requires fields { RecordReaderFailed parts.now.fields → ⊥ }
     requires few { length parts.now.fields.kept < 2 ^ 32 }
     requires object { IsSome parts.now.object }
     requires message { IsSome parts.now.message }
-    ensures { (octets : List ℕ) × IsSpelled reader.now.place parts.now octets × T.puts ticket.old octets ticket.new }
+    ensures { (octets : List ℕ) × IsEncoded reader.now.place parts.now octets × T.puts ticket.old octets ticket.new }
 {
     ticket.put(&NAME);
     ticket.put(&[parts.fields.section()]);
@@ -209,26 +209,26 @@ fn write_ticket<T: TicketOut>(ticket: &mut T, reader: &HeadReader, parts: &Parts
 /// same buffer.
 fn write_front(front: &mut Front<'_>, reader: &HeadReader, parts: &Parts)
     requires unused { front.old.count ≡ 0 }
-    requires reader { TakesCalls reader.now }
-    requires fields { IsFailed parts.now.fields → ⊥ }
+    requires reader { DatasetReaderAccepts reader.now }
+    requires fields { RecordReaderFailed parts.now.fields → ⊥ }
     requires few { length parts.now.fields.kept < 2 ^ 32 }
     requires object { IsSome parts.now.object }
     requires message { IsSome parts.now.message }
     ensures same { front.new.out.ghost_name ≡ front.old.out.ghost_name }
-    ensures holds { (octets : List ℕ) × IsSpelled reader.now.place parts.now octets
-        × HoldsFront front.new.out.now front.new.count octets }
+    ensures holds { (octets : List ℕ) × IsEncoded reader.now.place parts.now octets
+        × HoldsPrefix front.new.out.now front.new.count octets }
 {
     write_ticket(front, reader, parts);
 }
 
 /// Returns the ticket for the state of these readers, or `None` if the allocation fails.
-pub(crate) fn spell_ticket(alloc: Global, reader: &HeadReader, parts: &Parts) -> Option<Vec<u8>>
-    requires reader { TakesCalls reader.now }
-    requires fields { IsFailed parts.now.fields → ⊥ }
+pub(crate) fn encode_ticket(alloc: Global, reader: &HeadReader, parts: &Parts) -> Option<Vec<u8>>
+    requires reader { DatasetReaderAccepts reader.now }
+    requires fields { RecordReaderFailed parts.now.fields → ⊥ }
     requires few { length parts.now.fields.kept < 2 ^ 32 }
     requires object { IsSome parts.now.object }
     requires message { IsSome parts.now.message }
-    ensures { IfSome result (λ ticket. IsSpelled reader.now.place parts.now ticket.items) }
+    ensures { IfSome result (λ ticket. IsEncoded reader.now.place parts.now ticket.items) }
 {
     let mut grown = Grown {
         ticket: Vec::new(alloc),
@@ -243,23 +243,23 @@ pub(crate) fn spell_ticket(alloc: Global, reader: &HeadReader, parts: &Parts) ->
 }
 
 /// Ends a mutable borrow, for the prover: the buffer is unchanged.
-fn give_back(lent: &mut [u8])
+fn end_borrow(lent: &mut [u8])
     ensures { lent.new ≡ lent.old }
 {}
 
 /// Writes the ticket to the start of a buffer if it fits, and returns its length in octets in any
 /// case. Allocates nothing.
-pub(crate) fn spell_at(out: &mut [u8], reader: &HeadReader, parts: &Parts) -> usize
-    requires reader { TakesCalls reader.now }
-    requires fields { IsFailed parts.now.fields → ⊥ }
+pub(crate) fn encode_ticket_at(out: &mut [u8], reader: &HeadReader, parts: &Parts) -> usize
+    requires reader { DatasetReaderAccepts reader.now }
+    requires fields { RecordReaderFailed parts.now.fields → ⊥ }
     requires few { length parts.now.fields.kept < 2 ^ 32 }
     requires object { IsSome parts.now.object }
     requires message { IsSome parts.now.message }
-    ensures { (octets : List ℕ) × IsSpelled reader.now.place parts.now octets × HoldsFront out.new result octets }
+    ensures { (octets : List ℕ) × IsEncoded reader.now.place parts.now octets × HoldsPrefix out.new result octets }
 {
     let mut front = Front { out, count: 0 };
     write_front(&mut front, reader, parts);
     let Front { out: same, count } = front;
-    give_back(same);
+    end_borrow(same);
     count
 }

@@ -1,6 +1,6 @@
 //! Readers and writers of `std` that are interrupted, and then fail.
 
-use crate::told::{Told, count_of};
+use crate::told::{TestLog, count_of};
 use iim_dataset::{FromRead, FromWrite, Source, Target, put, take};
 use std::alloc::Global;
 use std::io::{Error, ErrorKind, Read, Result, Write};
@@ -59,7 +59,7 @@ impl Write for Halting {
     }
 }
 
-pub(crate) fn tell(told: &mut Told, alloc: Global) {
+pub(crate) fn tell(told: &mut TestLog, alloc: Global) {
     faults_of_a_reader_of_std(told);
     faults_of_a_writer_of_std(told);
     interruptions_between_octets(told);
@@ -68,7 +68,7 @@ pub(crate) fn tell(told: &mut Told, alloc: Global) {
 }
 
 /// Checks that only the kind `Interrupted` is an interruption; every other error is a failure.
-fn faults_of_a_reader_of_std(told: &mut Told) {
+fn faults_of_a_reader_of_std(told: &mut TestLog) {
     let mut reader = FromRead::new(Halting::new(1, 1));
     let mut buffer = [0u8; 8];
     told.begin("faults_of_a_reader_of_std", " ", &reader.read(&mut buffer));
@@ -78,7 +78,7 @@ fn faults_of_a_reader_of_std(told: &mut Told) {
 
 /// Checks that only the kind `Interrupted` is an interruption of a writer; `put` then stops after 0
 /// octets.
-fn faults_of_a_writer_of_std(told: &mut Told) {
+fn faults_of_a_writer_of_std(told: &mut TestLog) {
     let mut writer = FromWrite::new(Halting::new(1, 1));
     told.begin("faults_of_a_writer_of_std", " ", &writer.write(b"abcdef"));
     told.answer(" ", &writer.write(b"abcdef"));
@@ -86,7 +86,7 @@ fn faults_of_a_writer_of_std(told: &mut Told) {
 }
 
 /// Checks that a million interruptions are a fault only if they come in a row.
-fn interruptions_between_octets(told: &mut Told) {
+fn interruptions_between_octets(told: &mut TestLog) {
     let mut writer = FromWrite::new(Halting::new(600_000, 3));
     told.begin(
         "interruptions_between_octets",
@@ -97,14 +97,14 @@ fn interruptions_between_octets(told: &mut Told) {
 }
 
 /// Writes a long slice twice, and begins a line of the results.
-fn write_twice<T: Target>(told: &mut Told, target: &mut T) {
+fn write_twice<T: Target>(told: &mut TestLog, target: &mut T) {
     let piece = [b'x'; 32_768];
     told.begin("a_long_piece_goes_at_once", " ", &target.write(&piece));
     told.answer(" ", &put(target, &piece));
 }
 
 /// Checks that a long slice is written in one call if the writer accepts it.
-fn a_long_piece_goes_at_once(told: &mut Told, alloc: Global) {
+fn a_long_piece_goes_at_once(told: &mut TestLog, alloc: Global) {
     let mut writer = FromWrite::new(Vec::new(alloc));
     write_twice(told, &mut writer);
     let written = writer.into_inner();
@@ -114,7 +114,7 @@ fn a_long_piece_goes_at_once(told: &mut Told, alloc: Global) {
 }
 
 /// Logs three reads of a source of two long slices, and how many octets of the first are right.
-fn read_thrice<S: Source>(told: &mut Told, source: &mut S) {
+fn read_thrice<S: Source>(told: &mut TestLog, source: &mut S) {
     let mut buffer = [0u8; 32_768];
     told.begin("a_long_piece_comes_at_once", " ", &source.read(&mut buffer));
     told.answer(": ", &count_of(b'x', &buffer));
@@ -123,7 +123,7 @@ fn read_thrice<S: Source>(told: &mut Told, source: &mut S) {
 }
 
 /// Checks that a long slice is read in one call if the reader returns it.
-fn a_long_piece_comes_at_once(told: &mut Told) {
+fn a_long_piece_comes_at_once(told: &mut TestLog) {
     let octets = [b'x'; 65_536];
     read_thrice(told, &mut FromRead::new(octets.as_slice()));
 }

@@ -1,9 +1,9 @@
 //! Sinks of datasets that stop, and octets after the dataset that a sink called the last.
 
 ghost use Rattle.std.specs.Prelude.{◌≡◌, ◌≢◌, ⊤, IfSome};
-ghost use Rattle.iim_dataset.specs.States.Reading.{TakesCalls};
+ghost use Rattle.iim_dataset.specs.States.Reading.{DatasetReaderAccepts};
 
-use crate::told::Told;
+use crate::told::TestLog;
 use arrayvec::ArrayVec;
 use iim_dataset::{DatasetSink, Fault, Head, HeadReader, Step, Stop};
 
@@ -18,18 +18,18 @@ struct Recorder {
     runs: usize,
     ended: usize,
     /// The number of events that are accepted before one is rejected.
-    patience: usize,
+    retry_limit: usize,
 }
 
 impl Recorder {
-    fn new(patience: usize) -> Recorder
+    fn new(retry_limit: usize) -> Recorder
         ensures { result.ended ≡ 0 }
     {
         Recorder {
             record: ArrayVec::new(),
             runs: 0,
             ended: 0,
-            patience,
+            retry_limit,
         }
     }
 
@@ -44,10 +44,10 @@ impl Recorder {
     fn takes(&mut self, octets: &[u8]) -> bool
         ensures { self.new.ended ≡ self.old.ended }
     {
-        if self.patience == 0 {
+        if self.retry_limit == 0 {
             return false;
         }
-        self.patience -= 1;
+        self.retry_limit -= 1;
         let _ = self.record.try_extend_from_slice(octets);
         true
     }
@@ -80,8 +80,8 @@ impl DatasetSink for Recorder {
 
     fn run(&mut self, run: &[u8]) -> Result<(), Stop> {
         self.runs = self.runs.saturating_add(1);
-        let taken = run.len().min(self.patience);
-        self.patience -= taken;
+        let taken = run.len().min(self.retry_limit);
+        self.retry_limit -= taken;
         let _ = self.record.try_extend_from_slice(&run[..taken]);
         if taken < run.len() {
             return Err(Stop { taken });
@@ -101,7 +101,7 @@ impl DatasetSink for Recorder {
     }
 }
 
-pub(crate) fn tell(told: &mut Told) {
+pub(crate) fn tell(told: &mut TestLog) {
     a_dataset_after_the_last(told);
     octets_after_the_last_dataset(told);
     sinks_of_datasets_that_stop(told);
@@ -114,7 +114,7 @@ fn feed_by_octets(
     octets: &[u8],
     sink: &mut Recorder,
 ) -> Result<usize, Fault>
-    requires { TakesCalls reader.old }
+    requires { DatasetReaderAccepts reader.old }
 {
     for (at, octet) in octets.iter().enumerate() {
         if sink.ended == 3 {
@@ -141,7 +141,7 @@ fn feed(
     one_by_one: bool,
     sink: &mut Recorder,
 ) -> Result<usize, Fault>
-    requires reader { TakesCalls reader.old }
+    requires reader { DatasetReaderAccepts reader.old }
     requires sink { sink.old.ended ≡ 0 }
 {
     if one_by_one {
@@ -154,8 +154,8 @@ fn feed(
 /// Feeds a chunk to a reader whose sink accepts others after its last dataset, and returns how many
 /// octets were consumed.
 fn feed_on(reader: &mut HeadReader, octets: &[u8], sink: &mut Recorder) -> Option<usize>
-    requires { TakesCalls reader.old }
-    ensures { IfSome result (λ used. TakesCalls reader.new) }
+    requires { DatasetReaderAccepts reader.old }
+    ensures { IfSome result (λ used. DatasetReaderAccepts reader.new) }
 {
     sink.go_on();
     match reader.feed(octets, sink) {
@@ -167,8 +167,8 @@ fn feed_on(reader: &mut HeadReader, octets: &[u8], sink: &mut Recorder) -> Optio
 /// Feeds three datasets, then nothing, and then the beginning of a fourth, and returns how many
 /// octets of each were consumed.
 fn feed_four(reader: &mut HeadReader, sink: &mut Recorder) -> Option<(usize, usize, usize)>
-    requires { TakesCalls reader.old }
-    ensures { IfSome result (λ used. TakesCalls reader.new) }
+    requires { DatasetReaderAccepts reader.old }
+    ensures { IfSome result (λ used. DatasetReaderAccepts reader.new) }
 {
     let three = feed_on(reader, STREAM, sink)?;
     let none = feed_on(reader, b"", sink)?;
@@ -178,42 +178,42 @@ fn feed_four(reader: &mut HeadReader, sink: &mut Recorder) -> Option<(usize, usi
 
 /// Checks that after the last dataset a reader continues if its sink does: what comes then is the
 /// next dataset.
-fn a_dataset_after_the_last(told: &mut Told) {
+fn a_dataset_after_the_last(told: &mut TestLog) {
     let trial = "a_dataset_after_the_last";
     let mut reader = HeadReader::new();
     let mut sink = Recorder::new(16);
     let Some((three, none, fourth)) = feed_four(&mut reader, &mut sink) else {
         return told.line_of_words(trial, "refused");
     };
-    tell_used(told, trial, [three, none, fourth], reader.named());
+    log_used(told, trial, [three, none, fourth], reader.named());
     sink.go_on();
     let answer = reader.feed(b"Tx", &mut sink);
     told.line_and_octets(trial, &answer, sink.record.as_slice());
 }
 
 /// Logs how many octets of each of three chunks were consumed, and the dataset that was named last.
-fn tell_used(told: &mut Told, trial: &str, used: [usize; 3], named: (u8, u8)) {
+fn log_used(told: &mut TestLog, trial: &str, used: [usize; 3], named: (u8, u8)) {
     let [three, none, fourth] = used;
     told.begin(trial, " used ", &three);
     told.answer(", ", &none);
     told.answer(" and ", &fourth);
-    tell_named(told, named);
+    log_named(told, named);
 }
 
 /// Ends a line with the dataset that was named last.
-fn tell_named(told: &mut Told, named: (u8, u8)) {
+fn log_named(told: &mut TestLog, named: (u8, u8)) {
     told.answer(", named ", &named.0);
     told.end(":", &named.1);
 }
 
 /// Adds what a sink has received, and whether its reader has failed.
-fn tell_state(told: &mut Told, reader: &HeadReader, sink: &Recorder) {
+fn log_state(told: &mut TestLog, reader: &HeadReader, sink: &Recorder) {
     told.octets(" ", sink.record.as_slice());
     told.answer(", failed: ", &reader.is_failed());
 }
 
 /// Checks that an octet after the last dataset is rejected if it begins no tag.
-fn octets_after_the_last_dataset(told: &mut Told) {
+fn octets_after_the_last_dataset(told: &mut TestLog) {
     let trial = "octets_after_the_last_dataset";
     let mut reader = HeadReader::new();
     let mut sink = Recorder::new(11);
@@ -224,24 +224,24 @@ fn octets_after_the_last_dataset(told: &mut Told) {
     let answer = reader.feed(b"x", &mut sink);
     told.begin(trial, " used ", &three);
     told.answer(", ", &answer);
-    tell_state(told, &reader, &sink);
+    log_state(told, &reader, &sink);
     told.end_words("");
 }
 
 /// Logs the result of reading with a sink that stops at an event, in one chunk or one by one.
-fn tell_stop(told: &mut Told, event: usize, one_by_one: bool) {
+fn log_stop(told: &mut TestLog, event: usize, one_by_one: bool) {
     let mut sink = Recorder::new(event);
     let mut reader = HeadReader::new();
     told.begin("sinks_of_datasets_that_stop", " event ", &event);
     told.answer(": ", &feed(&mut reader, STREAM, one_by_one, &mut sink));
-    tell_state(told, &reader, &sink);
-    tell_named(told, reader.named());
+    log_state(told, &reader, &sink);
+    log_named(told, reader.named());
 }
 
 /// Stops a sink at each event: a head, octets of data, or an end.
-fn sinks_of_datasets_that_stop(told: &mut Told) {
+fn sinks_of_datasets_that_stop(told: &mut TestLog) {
     for event in 0..11 {
-        tell_stop(told, event, false);
-        tell_stop(told, event, true);
+        log_stop(told, event, false);
+        log_stop(told, event, true);
     }
 }

@@ -1,6 +1,6 @@
 //! Objects written with computed sizes, and to a target that fails at each call.
 
-use crate::told::Told;
+use crate::told::TestLog;
 use iim_dataset::Target;
 use iim_object::{PackCause, Plan, Size, StartFault, SubfileBuffer, SubfileWriter};
 use std::alloc::Global;
@@ -44,7 +44,7 @@ fn room(alloc: Global, subfile: u64, size: Size) -> Option<usize> {
     Some(buffer(alloc, subfile, size)?.room())
 }
 
-fn buffers_have_room_for_the_lesser_of_subfile_and_bound(told: &mut Told, alloc: Global) {
+fn buffers_have_room_for_the_lesser_of_subfile_and_bound(told: &mut TestLog, alloc: Global) {
     for (subfile, size) in &PLANS {
         told.begin(
             "buffers_have_room_for_the_lesser_of_subfile_and_bound",
@@ -63,14 +63,14 @@ fn writer_of_three(alloc: Global) -> Option<SubfileWriter<Sink>> {
 }
 
 /// Logs how many octets were written, and how many the object has so far.
-fn tell_counts<W: Target>(told: &mut Told, writer: &SubfileWriter<W>) {
+fn log_counts<W: Target>(told: &mut TestLog, writer: &SubfileWriter<W>) {
     told.begin(CAUSES, " ", &writer.written());
     told.answer(" out, ", &writer.total());
     told.end(" taken, failed: ", &writer.is_failed());
 }
 
 /// Writes chunks, and logs each result.
-fn tell_writes<W: Target>(told: &mut Told, writer: &mut SubfileWriter<W>, pieces: &[&[u8]]) {
+fn log_writes<W: Target>(told: &mut TestLog, writer: &mut SubfileWriter<W>, pieces: &[&[u8]]) {
     for piece in pieces {
         told.begin_octets(CAUSES, " write '", piece);
         told.end("': ", &writer.write(piece));
@@ -78,21 +78,21 @@ fn tell_writes<W: Target>(told: &mut Told, writer: &mut SubfileWriter<W>, pieces
 }
 
 /// Writes more than was announced, and then less.
-fn write_before<W: Target>(told: &mut Told, writer: &mut SubfileWriter<W>) {
-    tell_writes(told, writer, &[b"abcd"]);
-    tell_counts(told, writer);
-    tell_writes(told, writer, &[b"ab"]);
+fn write_before<W: Target>(told: &mut TestLog, writer: &mut SubfileWriter<W>) {
+    log_writes(told, writer, &[b"abcd"]);
+    log_counts(told, writer);
+    log_writes(told, writer, &[b"ab"]);
 }
 
 /// Continues to write after less was written than was announced.
-fn write_after<W: Target>(told: &mut Told, writer: &mut SubfileWriter<W>) {
-    tell_counts(told, writer);
-    tell_writes(told, writer, &[b"cd", b"c", b"d"]);
-    tell_counts(told, writer);
+fn write_after<W: Target>(told: &mut TestLog, writer: &mut SubfileWriter<W>) {
+    log_counts(told, writer);
+    log_writes(told, writer, &[b"cd", b"c", b"d"]);
+    log_counts(told, writer);
 }
 
 /// Logs the rejected end, and continues after it.
-fn finish_after(told: &mut Told, mut writer: SubfileWriter<Sink>, cause: PackCause) {
+fn finish_after(told: &mut TestLog, mut writer: SubfileWriter<Sink>, cause: PackCause) {
     told.line(CAUSES, " finish: ", &cause);
     write_after(told, &mut writer);
     match writer.finish() {
@@ -101,7 +101,7 @@ fn finish_after(told: &mut Told, mut writer: SubfileWriter<Sink>, cause: PackCau
     }
 }
 
-fn causes_and_their_order(told: &mut Told, alloc: Global) {
+fn causes_and_their_order(told: &mut TestLog, alloc: Global) {
     let Some(mut writer) = writer_of_three(alloc) else {
         return told.line_of_words(CAUSES, "not started");
     };
@@ -124,7 +124,7 @@ struct End {
 }
 
 /// Logs an end, and whether the octets that were written are a prefix of the expected ones.
-fn tell_end(told: &mut Told, end: &End, octets: &[u8]) {
+fn log_end(told: &mut TestLog, end: &End, octets: &[u8]) {
     told.put(" good: in ");
     told.put(end.call);
     told.answer(" ", &end.cause);
@@ -135,8 +135,8 @@ fn tell_end(told: &mut Told, end: &End, octets: &[u8]) {
 }
 
 /// Logs the end at a call of a writer that failed there. It accepts nothing more.
-fn tell_failed(
-    told: &mut Told,
+fn log_failed(
+    told: &mut TestLog,
     call: &'static str,
     cause: PackCause,
     mut writer: SubfileWriter<Sink>,
@@ -150,20 +150,20 @@ fn tell_failed(
     match writer.finish() {
         Ok(target) => {
             end.call = "finish after a failure";
-            tell_end(told, &end, target.octets());
+            log_end(told, &end, target.octets());
         }
         Err((writer, last)) => {
             end.written = writer.written();
             end.later[2] = Some(last);
-            tell_end(told, &end, writer.into_writer().octets());
+            log_end(told, &end, writer.into_writer().octets());
         }
     }
 }
 
 /// Writes three octets, and logs how that ended.
-fn tell_written(told: &mut Told, mut writer: SubfileWriter<Sink>) {
+fn log_written(told: &mut TestLog, mut writer: SubfileWriter<Sink>) {
     if let Err(cause) = writer.write(b"abc") {
-        return tell_failed(told, "write", cause, writer);
+        return log_failed(told, "write", cause, writer);
     }
     match writer.finish() {
         Ok(target) => {
@@ -173,36 +173,36 @@ fn tell_written(told: &mut Told, mut writer: SubfileWriter<Sink>) {
                 written: 46,
                 later: [None; 3],
             };
-            tell_end(told, &end, target.octets());
+            log_end(told, &end, target.octets());
         }
-        Err((writer, cause)) => tell_failed(told, "finish", cause, writer),
+        Err((writer, cause)) => log_failed(told, "finish", cause, writer),
     }
 }
 
 /// Logs how writing ended that failed at its start.
-fn tell_not_started(told: &mut Told, fault: &StartFault<Sink>) {
+fn log_not_started(told: &mut TestLog, fault: &StartFault<Sink>) {
     let end = End {
         call: "start",
         cause: Some(fault.cause),
         written: fault.written,
         later: [None; 3],
     };
-    tell_end(told, &end, fault.writer.octets());
+    log_end(told, &end, fault.writer.octets());
 }
 
 /// Writes three octets to a target that accepts `good` octets, one a call, and then fails.
-fn write_three(told: &mut Told, alloc: Global, good: u64) {
+fn write_three(told: &mut TestLog, alloc: Global, good: u64) {
     let Some(buffer) = buffer(alloc, 2, Size::Unknown(Some(5))) else {
         return told.line_of_words(FAILING, "no buffer");
     };
     told.begin(FAILING, " ", &good);
     match SubfileWriter::start(buffer, TrialWriter::new(good, Trouble::Failure)) {
-        Ok(writer) => tell_written(told, writer),
-        Err(fault) => tell_not_started(told, &fault),
+        Ok(writer) => log_written(told, writer),
+        Err(fault) => log_not_started(told, &fault),
     }
 }
 
-fn writes_that_fail_at_each_call(told: &mut Told, alloc: Global) {
+fn writes_that_fail_at_each_call(told: &mut TestLog, alloc: Global) {
     told.begin(FAILING, " ", &SMALL_OUT.len());
     told.end_words(" octets");
     for good in 0..48 {
@@ -220,14 +220,14 @@ fn interrupted(alloc: Global, interruptions: u32) -> Option<(bool, u64)> {
     Some((leads_on, writer.written()))
 }
 
-fn a_million_interruptions_are_a_failure(told: &mut Told, alloc: Global) {
+fn a_million_interruptions_are_a_failure(told: &mut TestLog, alloc: Global) {
     for interruptions in [999_999, 1_000_000] {
         told.begin("a_million_interruptions_are_a_failure", " ", &interruptions);
         told.end(": ", &interrupted(alloc, interruptions));
     }
 }
 
-pub(crate) fn tell(told: &mut Told, alloc: Global) {
+pub(crate) fn tell(told: &mut TestLog, alloc: Global) {
     buffers_have_room_for_the_lesser_of_subfile_and_bound(told, alloc);
     causes_and_their_order(told, alloc);
     writes_that_fail_at_each_call(told, alloc);

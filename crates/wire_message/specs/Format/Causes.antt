@@ -1,12 +1,12 @@
 -- Why an octet of a message is rejected.
 use Rattle.std.specs.Prelude.{List, ℕ, ◌++◌, codes, decimal, ◌≡◌, ◌≢◌, ◌<◌, [], ◌∷◌}
-use Rattle.wire_story.specs.Format.Texts.{number_of_text, name_of_text, Holds, Octet}
+use Rattle.wire_story.specs.Format.Texts.{number_of_text, name_of_text, EndsInReturns, Octet}
 use Rattle.wire_story.specs.declared.fault.TextCause.TheVariants as texts
 use Rattle.wire_message.specs.declared.fault.MessageCause.{MessageCause}
 use Rattle.wire_message.specs.declared.fault.MessageFault.{MessageFault}
 use Rattle.wire_message.specs.declared.fault.MessageCause.TheVariants.{BadOctet, Unfinished, LoneReturn, ControlOctet, Sink}
 use Rattle.iim_dataset.specs.Format.Octets.{cr}
-use Rattle.wire_message.specs.Format.Messages.{MessageLivesWith, MessageDiesAt, text_so_far, StoryLivesIn}
+use Rattle.wire_message.specs.Format.Messages.{IsViableMessage, EndsViableMessage, text_so_far, HasViableStory}
 
 abbrev pub number_of_message : MessageCause → ℕ
 number_of_message BadOctet = 30
@@ -31,18 +31,18 @@ abbrev pub print_of_fault : MessageFault → List ℕ
 print_of_fault fault = codes "refused after " ++ (decimal fault.taken ++ (codes " octets, cause " ++ print_of_message fault.cause))
 
 -- The text in the octets is a viable prefix of a story, and with one more octet it is not.
-abbrev pub StoryDiesWith : List ℕ → ℕ → Type 0
-StoryDiesWith octets octet = StoryLivesIn octets × (StoryLivesIn (octets ++ octet ∷ []) → ⊥)
+abbrev pub EndsViableStoryIn : List ℕ → ℕ → Type 0
+EndsViableStoryIn octets octet = HasViableStory octets × (HasViableStory (octets ++ octet ∷ []) → ⊥)
 
 -- Why an octet is rejected after others: with it they are no longer a viable prefix of a message,
 -- or else their text is not one of a story, or else the sink rejected an octet of the text that it
 -- received.
-abbrev pub HasCause : MessageCause → List ℕ → ℕ → Type 0
-HasCause BadOctet octets octet = MessageDiesAt octets (Octet octet)
-HasCause Unfinished octets octet = ⊥
-HasCause LoneReturn octets octet = MessageLivesWith (octets ++ octet ∷ []) × StoryDiesWith octets octet
-    × ((held : ℕ) × (0 < held) × Holds (text_so_far octets) held)
-HasCause ControlOctet octets octet = MessageLivesWith (octets ++ octet ∷ []) × StoryDiesWith octets octet
-    × Holds (text_so_far octets) 0
-HasCause Sink octets octet = MessageLivesWith (octets ++ octet ∷ []) × StoryLivesIn (octets ++ octet ∷ [])
+abbrev pub HasMessageCause : MessageCause → List ℕ → ℕ → Type 0
+HasMessageCause BadOctet octets octet = EndsViableMessage octets (Octet octet)
+HasMessageCause Unfinished octets octet = ⊥
+HasMessageCause LoneReturn octets octet = IsViableMessage (octets ++ octet ∷ []) × EndsViableStoryIn octets octet
+    × ((held : ℕ) × (0 < held) × EndsInReturns (text_so_far octets) held)
+HasMessageCause ControlOctet octets octet = IsViableMessage (octets ++ octet ∷ []) × EndsViableStoryIn octets octet
+    × EndsInReturns (text_so_far octets) 0
+HasMessageCause Sink octets octet = IsViableMessage (octets ++ octet ∷ []) × HasViableStory (octets ++ octet ∷ [])
     × (text_so_far (octets ++ octet ∷ []) ≡ text_so_far octets ++ octet ∷ []) × (octet ≢ cr)

@@ -1,7 +1,7 @@
 -- The message: its parts, its canonical form, and the layers of an object.
 use Rattle.std.specs.Prelude.{ℕ, ◌≤◌, Bool, ◌&&◌, ◌||◌, ◌==◌, not, nat_lt, IsTrue, List, length, ◌≡◌, ◌⊎◌, [], ◌∷◌, ◌++◌, if◌then◌else◌, map}
 use Rattle.std.specs.List.{list_all, list_any, before_first, after_first}
-use Rattle.iim_dataset.specs.Format.Octets.{nul, etx, lf, cr, syn, sp, within, is_digit, is_letter, soh, stx, eot, IsAlive, DiesAt}
+use Rattle.iim_dataset.specs.Format.Octets.{nul, etx, lf, cr, syn, sp, within, is_digit, is_letter, soh, stx, eot, IsViablePrefix, EndsViablePrefix}
 use Rattle.wire_story.specs.Format.Texts.{packed_text, OctetOrEnd, Octet, End, with_end, StoryLanguage}
 
 abbrev pub is_alphanumeric : ℕ → Bool
@@ -100,8 +100,8 @@ abbrev pub IsGap : List ℕ → Type 0
 IsGap xs = IsField is_filler_octet 1 max_filler xs × IsTrue (has_feed xs)
 
 -- nothing for an empty info, or SP and the info
-abbrev pub SpellsInfo : List ℕ → List ℕ → Type 0
-SpellsInfo info xs = ((info ≡ []) × (xs ≡ [])) ⊎ (xs ≡ sp ∷ info)
+abbrev pub EncodesInfo : List ℕ → List ℕ → Type 0
+EncodesInfo info xs = ((info ≡ []) × (xs ≡ [])) ⊎ (xs ≡ sp ∷ info)
 
 -- source, number, SP, priority, SP, category, SP, words
 abbrev pub fixed_header : Header → List ℕ
@@ -115,7 +115,7 @@ pub record IsMessage (object : List ℕ) (head : Header) (text trailer : List �
   pub after : List ℕ
   pub is_before : IsFiller before
   pub is_header : IsHeader head
-  pub is_info : SpellsInfo head.info info
+  pub is_info : EncodesInfo head.info info
   pub is_gap : IsGap gap
   pub is_text : Are is_text_octet text
   pub is_trailer : IsTrailer trailer
@@ -130,7 +130,7 @@ pub record BeginsWithHeader (octets : List ℕ) (head : Header) : Type 0 where
   pub rest : List ℕ
   pub is_before : IsFiller before
   pub is_header : IsHeader head
-  pub is_info : SpellsInfo head.info info
+  pub is_info : EncodesInfo head.info info
   pub is_gap : IsGap gap
   pub parts : octets ≡ before ++ (soh ∷ fixed_header head ++ (info ++ (gap ++ (stx ∷ rest))))
 
@@ -161,12 +161,12 @@ pub record MessageLanguage (tokens : List OctetOrEnd) : Type 0 where
   pub tokens_are : tokens ≡ with_end object
 
 -- The octets are a viable prefix of a message.
-abbrev pub MessageLivesWith : List ℕ → Type 0
-MessageLivesWith octets = IsAlive MessageLanguage (map Octet octets)
+abbrev pub IsViableMessage : List ℕ → Type 0
+IsViableMessage octets = IsViablePrefix MessageLanguage (map Octet octets)
 
 -- The octets are a viable prefix of a message, and with the next token they are not.
-abbrev pub MessageDiesAt : List ℕ → OctetOrEnd → Type 0
-MessageDiesAt octets token = DiesAt MessageLanguage (map Octet octets) token
+abbrev pub EndsViableMessage : List ℕ → OctetOrEnd → Type 0
+EndsViableMessage octets token = EndsViablePrefix MessageLanguage (map Octet octets) token
 
 -- what follows STX
 abbrev pub after_stx : List ℕ → List ℕ
@@ -186,5 +186,5 @@ story_tokens_of octets = map Octet (text_so_far octets)
     ++ (if list_any (λ b. b == etx) (after_stx octets) then End ∷ [] else [])
 
 -- The text in the octets is a viable prefix of a story.
-abbrev pub StoryLivesIn : List ℕ → Type 0
-StoryLivesIn octets = IsAlive StoryLanguage (story_tokens_of octets)
+abbrev pub HasViableStory : List ℕ → Type 0
+HasViableStory octets = IsViablePrefix StoryLanguage (story_tokens_of octets)

@@ -1,11 +1,11 @@
 -- The states of a reader of messages, which octets reach them, and how a state is saved.
 use Rattle.std.specs.Prelude.{◌≡◌, ℕ, ◌≤◌, ◌||◌, nat_lt, IsTrue, List, [], ◌∷◌, ◌++◌, length, ◌<◌, take, slice_index, Bool, true, false, Option, Some, None, if◌then◌else◌, ◌+◌, IfSome}
-use Rattle.iim_dataset.specs.Format.Octets.{soh, stx, etx, sp, is_digit, is_letter, Rose}
-use Rattle.wire_story.specs.Format.Texts.{AreLines, StoryEvent, delivered}
+use Rattle.iim_dataset.specs.Format.Octets.{soh, stx, etx, sp, is_digit, is_letter, CounterRose}
+use Rattle.wire_story.specs.Format.Texts.{HasLines, StoryEvent, delivered}
 use Rattle.wire_story.specs.States.Reading as story
-use Rattle.wire_message.specs.Format.Messages.{Are, IsField, is_alphanumeric, is_filler_octet, is_text_octet, max_filler, max_source, max_number, max_priority, max_category, max_words, IsHeader, IsTrailer, IsFiller, IsGap, IsMessage, SpellsInfo, fixed_header, has_feed, Header, MessageLivesWith, StoryLivesIn, packed_info}
+use Rattle.wire_message.specs.Format.Messages.{Are, IsField, is_alphanumeric, is_filler_octet, is_text_octet, max_filler, max_source, max_number, max_priority, max_category, max_words, IsHeader, IsTrailer, IsFiller, IsGap, IsMessage, EncodesInfo, fixed_header, has_feed, Header, IsViableMessage, HasViableStory, packed_info}
 use Rattle.wire_message.specs.declared.part.HeaderPart.TheVariants.{Source, Number, Priority, Category, Words}
-use Rattle.wire_message.specs.{Format.Causes.HasCause, declared.part.HeaderPart.HeaderPart}
+use Rattle.wire_message.specs.{Format.Causes.HasMessageCause, declared.part.HeaderPart.HeaderPart}
 use Rattle.wire_message.specs.{declared.part.HeaderTexts.HeaderTexts, declared.fault.MessageCause.MessageCause}
 use Rattle.wire_message.specs.{declared.fault.MessageCause.TheVariants.Sink, declared.fault.MessageFault.MessageFault}
 use Rattle.wire_message.specs.{declared.saved.MessagePart.MessagePart, declared.saved.MessagePlace.MessagePlace}
@@ -16,8 +16,8 @@ use Rattle.wire_message.specs.declared.saved.MessagePart.TheVariants as part
 -- ---- The parts of a header.
 
 -- Each part has only its own octets, and its length is between these two bounds.
-abbrev pub AreParts : (s s' n n' p p' c c' w w' : ℕ) → HeaderTexts → Type 0
-AreParts s s' n n' p p' c c' w w' t = IsField is_letter s s' t.source.items × IsField is_digit n n' t.number.items × IsField is_digit p p' t.priority.items
+abbrev pub HavePartBounds : (s s' n n' p p' c c' w w' : ℕ) → HeaderTexts → Type 0
+HavePartBounds s s' n n' p p' c c' w w' t = IsField is_letter s s' t.source.items × IsField is_digit n n' t.number.items × IsField is_digit p p' t.priority.items
     × IsField is_alphanumeric c c' t.category.items × IsField is_digit w w' t.words.items
 
 -- the octets after SOH up to the part that is being read: the number follows the source
@@ -34,110 +34,110 @@ so_far Words t = t.source.items ++ (t.number.items ++ (sp ∷ (t.priority.items 
 -- What was read has lengths and octets with which a message can continue. In a header the parts
 -- before the one that is being read have at least one octet, and so has the number, which its first
 -- digit begins; those after it are empty.
-abbrev pub IsPlace : Place → Type 0
-IsPlace (Filler count) = count ≤ max_filler
-IsPlace (InHeader Source t) = AreParts 0 max_source 0 0 0 0 0 0 0 0 t
-IsPlace (InHeader Number t) = AreParts 1 max_source 1 max_number 0 0 0 0 0 0 t
-IsPlace (InHeader Priority t) = AreParts 1 max_source 1 max_number 0 max_priority 0 0 0 0 t
-IsPlace (InHeader Category t) = AreParts 1 max_source 1 max_number 1 max_priority 0 max_category 0 0 t
-IsPlace (InHeader Words t) = AreParts 1 max_source 1 max_number 1 max_priority 1 max_category 0 max_words t
-IsPlace (Info h) = IsHeader h
-IsPlace (Gap h count feed) = IsHeader h × (1 ≤ count) × (count ≤ max_filler) × IsTrue (feed || nat_lt count max_filler)
-IsPlace (Text h reader) = IsHeader h × story.IsPlace reader
-IsPlace (Trailer h t) = IsHeader h × IsTrailer t.items
-IsPlace (AfterEnd h t count) = IsHeader h × IsTrailer t.items × (count ≤ max_filler)
+abbrev pub IsMessageState : Place → Type 0
+IsMessageState (Filler count) = count ≤ max_filler
+IsMessageState (InHeader Source t) = HavePartBounds 0 max_source 0 0 0 0 0 0 0 0 t
+IsMessageState (InHeader Number t) = HavePartBounds 1 max_source 1 max_number 0 0 0 0 0 0 t
+IsMessageState (InHeader Priority t) = HavePartBounds 1 max_source 1 max_number 0 max_priority 0 0 0 0 t
+IsMessageState (InHeader Category t) = HavePartBounds 1 max_source 1 max_number 1 max_priority 0 max_category 0 0 t
+IsMessageState (InHeader Words t) = HavePartBounds 1 max_source 1 max_number 1 max_priority 1 max_category 0 max_words t
+IsMessageState (Info h) = IsHeader h
+IsMessageState (Gap h count feed) = IsHeader h × (1 ≤ count) × (count ≤ max_filler) × IsTrue (feed || nat_lt count max_filler)
+IsMessageState (Text h reader) = IsHeader h × story.IsTextState reader
+IsMessageState (Trailer h t) = IsHeader h × IsTrailer t.items
+IsMessageState (AfterEnd h t count) = IsHeader h × IsTrailer t.items × (count ≤ max_filler)
 
 -- The octets are what was read, in order, with this text so far.
-abbrev pub Spells : List ℕ → List ℕ → Place → Type 0
-Spells octets text (Filler count) = IsFiller octets × (length octets ≡ count) × (text ≡ [])
-Spells octets text (InHeader part t) = (before : List ℕ) × IsFiller before × (octets ≡ before ++ (soh ∷ so_far part t)) × (text ≡ [])
-Spells octets text (Info h) = (before : List ℕ) × IsFiller before
+abbrev pub MatchesState : List ℕ → List ℕ → Place → Type 0
+MatchesState octets text (Filler count) = IsFiller octets × (length octets ≡ count) × (text ≡ [])
+MatchesState octets text (InHeader part t) = (before : List ℕ) × IsFiller before × (octets ≡ before ++ (soh ∷ so_far part t)) × (text ≡ [])
+MatchesState octets text (Info h) = (before : List ℕ) × IsFiller before
     × (octets ≡ before ++ (soh ∷ (fixed_header h ++ (sp ∷ h.info)))) × (text ≡ [])
-Spells octets text (Gap h count feed) = (before : List ℕ) × (info : List ℕ) × (gap : List ℕ) × IsFiller before × SpellsInfo h.info info
+MatchesState octets text (Gap h count feed) = (before : List ℕ) × (info : List ℕ) × (gap : List ℕ) × IsFiller before × EncodesInfo h.info info
     × Are is_filler_octet gap × (length gap ≡ count) × (has_feed gap ≡ feed)
     × (octets ≡ before ++ (soh ∷ (fixed_header h ++ (info ++ gap)))) × (text ≡ [])
-Spells octets text (Text h reader) = (before : List ℕ) × (info : List ℕ) × (gap : List ℕ) × IsFiller before × SpellsInfo h.info info
+MatchesState octets text (Text h reader) = (before : List ℕ) × (info : List ℕ) × (gap : List ℕ) × IsFiller before × EncodesInfo h.info info
     × IsGap gap × Are is_text_octet text
     × (octets ≡ before ++ (soh ∷ (fixed_header h ++ (info ++ (gap ++ (stx ∷ text))))))
-Spells octets text (Trailer h t) = (before : List ℕ) × (info : List ℕ) × (gap : List ℕ) × IsFiller before × SpellsInfo h.info info
+MatchesState octets text (Trailer h t) = (before : List ℕ) × (info : List ℕ) × (gap : List ℕ) × IsFiller before × EncodesInfo h.info info
     × IsGap gap × Are is_text_octet text
     × (octets ≡ before ++ (soh ∷ (fixed_header h ++ (info ++ (gap ++ (stx ∷ (text ++ (etx ∷ t.items))))))))
-Spells octets text (AfterEnd h t count) = (message : IsMessage octets h text t.items) × (length message.after ≡ count)
+MatchesState octets text (AfterEnd h t count) = (message : IsMessage octets h text t.items) × (length message.after ≡ count)
 
 -- The text so far is one of a story: a reader of the text is in the state after it, and from ETX on
 -- the text is complete.
-abbrev pub StoryStands : List ℕ → Place → Type 0
-StoryStands text (Text h reader) = story.StandsAt reader text
-StoryStands text (Trailer h t) = AreLines text
-StoryStands text (AfterEnd h t count) = AreLines text
-StoryStands text _ = text ≡ []
+abbrev pub IsStoryState : List ℕ → Place → Type 0
+IsStoryState text (Text h reader) = story.TextReaderHasRead reader text
+IsStoryState text (Trailer h t) = HasLines text
+IsStoryState text (AfterEnd h t count) = HasLines text
+IsStoryState text _ = text ≡ []
 
 -- The octets so far, with this text among them, reach the state.
-pub record LeadsTo (octets text : List ℕ) (place : Place) : Type 0 where
-  pub is_place : IsPlace place
-  pub spelled : Spells octets text place
-  pub story : StoryStands text place
+pub record ReachesMessageState (octets text : List ℕ) (place : Place) : Type 0 where
+  pub is_place : IsMessageState place
+  pub spelled : MatchesState octets text place
+  pub story : IsStoryState text place
 
 -- ---- The state of a reader of messages, and why it rejects an octet.
 
 -- The reader has consumed these octets, with this text among them.
-abbrev pub StandsAt : Option Place → List ℕ → List ℕ → Type 0
-StandsAt reader octets text = (place : Place) × (reader ≡ Some place) × LeadsTo octets text place
+abbrev pub MessageReaderHasRead : Option Place → List ℕ → List ℕ → Type 0
+MessageReaderHasRead reader octets text = (place : Place) × (reader ≡ Some place) × ReachesMessageState octets text place
 
 -- From the state after any octets, a chunk takes the reader to the new state, and adds this to the
 -- text.
-abbrev pub LeadsOn : Option Place → List ℕ → List ℕ → Option Place → Type 0
-LeadsOn old piece more new = (octets text : List ℕ) → StandsAt old octets text → StandsAt new (octets ++ piece) (text ++ more)
+abbrev pub ChunkAdvancesMessage : Option Place → List ℕ → List ℕ → Option Place → Type 0
+ChunkAdvancesMessage old piece more new = (octets text : List ℕ) → MessageReaderHasRead old octets text → MessageReaderHasRead new (octets ++ piece) (text ++ more)
 
 -- From the state after any octets, a chunk reaches some state, and adds this to the text.
-abbrev pub GoesSomewhere : Option Place → List ℕ → List ℕ → Type 0
-GoesSomewhere old piece more = (octets text : List ℕ) → StandsAt old octets text
-    → (place : Place) × LeadsTo (octets ++ piece) (text ++ more) place
+abbrev pub ReachesSomeState : Option Place → List ℕ → List ℕ → Type 0
+ReachesSomeState old piece more = (octets text : List ℕ) → MessageReaderHasRead old octets text
+    → (place : Place) × ReachesMessageState (octets ++ piece) (text ++ more) place
 
 -- The sink received exactly the events delivered of the text that the chunk adds.
-abbrev pub TellsStory : {S : Type 0} → (S → List StoryEvent → S → Type 0) → S → Option Place → List ℕ → Option Place → S → Type 0
-TellsStory goes before old piece new after = (more : List ℕ) × goes before (delivered more) after × LeadsOn old piece more new
+abbrev pub PassesStoryToSink : {S : Type 0} → (S → List StoryEvent → S → Type 0) → S → Option Place → List ℕ → Option Place → S → Type 0
+PassesStoryToSink goes before old piece new after = (more : List ℕ) × goes before (delivered more) after × ChunkAdvancesMessage old piece more new
 
 -- The sink received exactly the events delivered of the text that the octets before a rejected one
 -- add.
-abbrev pub TellsFront : {S : Type 0} → (S → List StoryEvent → S → Type 0) → S → Option Place → List ℕ → S → Type 0
-TellsFront goes before old piece after = (more : List ℕ) × goes before (delivered more) after × GoesSomewhere old piece more
+abbrev pub PassesPrefixToSink : {S : Type 0} → (S → List StoryEvent → S → Type 0) → S → Option Place → List ℕ → S → Type 0
+PassesPrefixToSink goes before old piece after = (more : List ℕ) × goes before (delivered more) after × ReachesSomeState old piece more
 
 -- After any octets so far, these and the chunk are a viable prefix of a message, and their text of
 -- a story.
-abbrev pub LivesOn : Option Place → List ℕ → Type 0
-LivesOn old piece = (octets text : List ℕ) → StandsAt old octets text → MessageLivesWith (octets ++ piece) × StoryLivesIn (octets ++ piece)
+abbrev pub IsViableWithChunk : Option Place → List ℕ → Type 0
+IsViableWithChunk old piece = (octets text : List ℕ) → MessageReaderHasRead old octets text → IsViableMessage (octets ++ piece) × HasViableStory (octets ++ piece)
 
 -- After any octets so far, the octet of the chunk after the first `taken` is rejected for that
 -- cause.
-abbrev pub Refuses : Option Place → List ℕ → MessageFault → Type 0
-Refuses old piece fault = (octets text : List ℕ) → StandsAt old octets text →
-    HasCause fault.cause (octets ++ take fault.taken piece) (slice_index piece fault.taken)
+abbrev pub RejectsMessageOctet : Option Place → List ℕ → MessageFault → Type 0
+RejectsMessageOctet old piece fault = (octets text : List ℕ) → MessageReaderHasRead old octets text →
+    HasMessageCause fault.cause (octets ++ take fault.taken piece) (slice_index piece fault.taken)
 
 -- The failure counter of the sink rose exactly if the sink rejected.
-abbrev pub CountsCause : ℕ → ℕ → MessageCause → Type 0
-CountsCause old new Sink = Rose old new
-CountsCause old new _ = new ≡ old
+abbrev pub SinkCountsMessageCause : ℕ → ℕ → MessageCause → Type 0
+SinkCountsMessageCause old new Sink = CounterRose old new
+SinkCountsMessageCause old new _ = new ≡ old
 
 -- ---- How a call ends.
 
 -- All octets of a chunk were consumed: the octets so far are a viable prefix of a message, and
 -- their text of a story, the sink received exactly the events delivered of the text that they add,
 -- and it did not stop.
-pub record TakesPiece {S : Type 0} (goes : S → List StoryEvent → S → Type 0) (failures : S → ℕ) (old : Option Place) (piece : List ℕ) (new : Option Place) (a b : S) : Type 0 where
-  pub lives : LivesOn old piece
-  pub told : TellsStory goes a old piece new b
-  pub calm : failures b ≡ failures a
+pub record MessageReaderConsumes {S : Type 0} (goes : S → List StoryEvent → S → Type 0) (failures : S → ℕ) (old : Option Place) (piece : List ℕ) (new : Option Place) (a b : S) : Type 0 where
+  pub lives : IsViableWithChunk old piece
+  pub told : PassesStoryToSink goes a old piece new b
+  pub no_failure : failures b ≡ failures a
 
 -- One octet of a chunk was rejected, for its cause. With those before it the octets are a viable
 -- prefix of a message, and their text of a story, and the sink received exactly the events
 -- delivered of their text. Its failure counter rose if it was the one that rejected.
-pub record RefusesOne {S : Type 0} (goes : S → List StoryEvent → S → Type 0) (failures : S → ℕ) (old : Option Place) (piece : List ℕ) (fault : MessageFault) (a b : S) : Type 0 where
+pub record MessageReaderRejects {S : Type 0} (goes : S → List StoryEvent → S → Type 0) (failures : S → ℕ) (old : Option Place) (piece : List ℕ) (fault : MessageFault) (a b : S) : Type 0 where
   pub before : fault.taken < length piece
-  pub lives : LivesOn old (take fault.taken piece)
-  pub refused : Refuses old piece fault
-  pub told : TellsFront goes a old (take fault.taken piece) b
-  pub counted : CountsCause (failures a) (failures b) fault.cause
+  pub lives : IsViableWithChunk old (take fault.taken piece)
+  pub refused : RejectsMessageOctet old piece fault
+  pub told : PassesPrefixToSink goes a old (take fault.taken piece) b
+  pub counted : SinkCountsMessageCause (failures a) (failures b) fault.cause
 
 -- ---- What a reader returns.
 
@@ -160,9 +160,9 @@ is_ended (Some (AfterEnd h t count)) = true
 is_ended _ = false
 
 -- The octets are a message with the header and the trailer that were read, and with a text.
-abbrev pub IsWhole : Option Place → Type 0
-IsWhole reader = (octets text : List ℕ) → StandsAt reader octets text
-    → (head : Header) × (head_read reader ≡ Some head) × IsMessage octets head text (trailer_read reader) × AreLines text
+abbrev pub IsCompleteMessage : Option Place → Type 0
+IsCompleteMessage reader = (octets text : List ℕ) → MessageReaderHasRead reader octets text
+    → (head : Header) × (head_read reader ≡ Some head) × IsMessage octets head text (trailer_read reader) × HasLines text
 
 -- ---- The saved state of a reader of messages.
 
@@ -208,20 +208,20 @@ saved (Trailer h t) = place_with_header part.Trailer 0 0 h t.items
 saved (AfterEnd h t count) = place_with_header part.AfterEnd count 0 h t.items
 
 -- The octets so far, with this text among them, reach the state with this saved form.
-abbrev pub LeadsToSaved : List ℕ → List ℕ → MessagePlace → Type 0
-LeadsToSaved octets text place = (at : Place) × LeadsTo octets text at × (saved at ≡ place)
+abbrev pub ReachesSavedState : List ℕ → List ℕ → MessagePlace → Type 0
+ReachesSavedState octets text place = (at : Place) × ReachesMessageState octets text at × (saved at ≡ place)
 
 -- The reader is in the state with this saved form.
-abbrev pub IsAt : Option Place → MessagePlace → Type 0
-IsAt reader place = (at : Place) × (reader ≡ Some at) × (saved at ≡ place)
+abbrev pub ReaderHasSavedState : Option Place → MessagePlace → Type 0
+ReaderHasSavedState reader place = (at : Place) × (reader ≡ Some at) × (saved at ≡ place)
 
 -- Some `count` octets reach the state of the reader.
-abbrev pub LeadsIn : Option Place → ℕ → Type 0
-LeadsIn reader count = (octets : List ℕ) × (text : List ℕ) × StandsAt reader octets text × (length octets ≡ count)
+abbrev pub IsReachedByLength : Option Place → ℕ → Type 0
+IsReachedByLength reader count = (octets : List ℕ) × (text : List ℕ) × MessageReaderHasRead reader octets text × (length octets ≡ count)
 
 -- The number is at least the least, and at most the greatest if there is one.
-abbrev pub IsOneOf : ℕ → Option ℕ → ℕ → Type 0
-IsOneOf least greatest count = (least ≤ count) × IfSome greatest (λ most. count ≤ most)
+abbrev pub IsPossibleLength : ℕ → Option ℕ → ℕ → Type 0
+IsPossibleLength least greatest count = (least ≤ count) × IfSome greatest (λ most. count ≤ most)
 
 -- the length of SOH and the parts up to the words, with the SP between them
 abbrev pub fixed_octets : Header → ℕ

@@ -1,7 +1,7 @@
 -- How events are packed, and the lines of events.
 use Rattle.std.specs.Prelude.{◌≡◌, ℕ, List, [], ◌∷◌, flat_map, IsTrue}
 use Rattle.std.specs.List.{AllByRecursion}
-use Rattle.wire_story.specs.Format.Texts.{is_line_octet, line_end, packed_text, MakeText, StoryEvent, LineOctet, LineEnd}
+use Rattle.wire_story.specs.Format.Texts.{is_line_octet, line_end, packed_text, LinesMakeText, StoryEvent, LineOctet, LineEnd}
 use Rattle.wire_story.specs.States.Reading.{collect}
 
 -- an octet of a line as itself, the end of a line as CR LF
@@ -14,12 +14,12 @@ abbrev pub packed_events : List StoryEvent → List ℕ
 packed_events events = flat_map packed_event events
 
 -- a line may have the octet
-abbrev pub IsEvent : StoryEvent → Type 0
-IsEvent (LineOctet b) = IsTrue (is_line_octet b)
-IsEvent LineEnd = Unit {0}
+abbrev pub IsStoryEvent : StoryEvent → Type 0
+IsStoryEvent (LineOctet b) = IsTrue (is_line_octet b)
+IsStoryEvent LineEnd = Unit {0}
 
-abbrev pub AreEvents : List StoryEvent → Type 0
-AreEvents events = AllByRecursion IsEvent events
+abbrev pub AreStoryEvents : List StoryEvent → Type 0
+AreStoryEvents events = AllByRecursion IsStoryEvent events
 
 -- the lines of events
 abbrev pub lines_of : List StoryEvent → List (List ℕ)
@@ -28,4 +28,4 @@ lines_of events = collect ([] ∷ []) events
 -- Events are packed as their lines, and these make a text.
 pub record IsPackedAsLines (events : List StoryEvent) : Type 0 where
   pub text : packed_text (lines_of events) ≡ packed_events events
-  pub make : MakeText (lines_of events)
+  pub make : LinesMakeText (lines_of events)

@@ -2,7 +2,7 @@
 -- an octet is rejected.
 use Rattle.std.specs.Prelude.{◌≡◌, ℕ, ◌<◌, ◌≤◌, Bool, not, ◌&&◌, ◌||◌, nat_lt, ◌==◌, IsTrue, List, [], ◌∷◌, ◌++◌, length, replicate, map, if◌then◌else◌, flat_map, ◌+◌, ◌^◌, min, false, codes, decimal}
 use Rattle.std.specs.List.{list_all, sum_by}
-use Rattle.iim_dataset.specs.Format.Octets.{soh, stx, etx, eot, lf, cr, IsAlive, DiesAt, greatest_u64, tab, sp}
+use Rattle.iim_dataset.specs.Format.Octets.{soh, stx, etx, eot, lf, cr, IsViablePrefix, EndsViablePrefix, greatest_u64, tab, sp}
 use Rattle.wire_story.specs.declared.fault.TextCause.{TextCause}
 use Rattle.wire_story.specs.declared.fault.TextFault.{TextFault}
 use Rattle.wire_story.specs.declared.fault.TextCause.TheVariants.{LoneReturn, ControlOctet, Sink}
@@ -33,8 +33,8 @@ IsText x (line ∷ next ∷ lines) = IsLine line
     × IsText rest (next ∷ lines)
 
 -- The octets are a text: some lines make it.
-abbrev pub AreLines : List ℕ → Type 0
-AreLines x = (lines : List (List ℕ)) × IsText x lines
+abbrev pub HasLines : List ℕ → Type 0
+HasLines x = (lines : List (List ℕ)) × IsText x lines
 
 -- A text so far is complete lines with their ends, the current line, and at most two CR that no LF
 -- has followed yet.
@@ -46,12 +46,12 @@ IsTextSoFar x (first ∷ lines) line held = IsLine first
     × IsTextSoFar rest lines line held
 
 -- The octets are a text so far that ends in `held` CR.
-abbrev pub Holds : List ℕ → ℕ → Type 0
-Holds x held = (lines : List (List ℕ)) × (line : List ℕ) × IsTextSoFar x lines line held
+abbrev pub EndsInReturns : List ℕ → ℕ → Type 0
+EndsInReturns x held = (lines : List (List ℕ)) × (line : List ℕ) × IsTextSoFar x lines line held
 
 -- Lines that make a text: at least one, with only octets that a line may have.
-abbrev pub MakeText : List (List ℕ) → Type 0
-MakeText lines = (0 < length lines) × IsTrue (list_all (list_all is_line_octet) lines)
+abbrev pub LinesMakeText : List (List ℕ) → Type 0
+LinesMakeText lines = (0 < length lines) × IsTrue (list_all (list_all is_line_octet) lines)
 
 -- the text of the lines as a packer writes it: each line end is CR LF
 abbrev pub packed_text : List (List ℕ) → List ℕ
@@ -76,12 +76,12 @@ pub record StoryLanguage (tokens : List OctetOrEnd) : Type 0 where
   pub tokens_are : tokens ≡ with_end text
 
 -- The octets are a viable prefix of a story.
-abbrev pub LivesWith : List ℕ → Type 0
-LivesWith octets = IsAlive StoryLanguage (map Octet octets)
+abbrev pub IsViableStory : List ℕ → Type 0
+IsViableStory octets = IsViablePrefix StoryLanguage (map Octet octets)
 
 -- The octets are a viable prefix of a story, and with the next token they are not.
-abbrev pub StoryDiesAt : List ℕ → OctetOrEnd → Type 0
-StoryDiesAt octets token = DiesAt StoryLanguage (map Octet octets) token
+abbrev pub EndsViableStory : List ℕ → OctetOrEnd → Type 0
+EndsViableStory octets token = EndsViablePrefix StoryLanguage (map Octet octets) token
 
 -- an octet of a line, or the end of a line
 pub data StoryEvent : Type 0 where
@@ -90,12 +90,12 @@ pub data StoryEvent : Type 0 where
 
 -- An LF ends a line. A CR gives no event: it belongs to the line end that follows, or no LF has
 -- come yet.
-abbrev pub events_of : ℕ → List StoryEvent
-events_of b = if b == lf then LineEnd ∷ [] else if b == cr then [] else LineOctet b ∷ []
+abbrev pub events_of_octet : ℕ → List StoryEvent
+events_of_octet b = if b == lf then LineEnd ∷ [] else if b == cr then [] else LineOctet b ∷ []
 
 -- the events that are delivered of octets of a text, complete or not
 abbrev pub delivered : List ℕ → List StoryEvent
-delivered x = flat_map events_of x
+delivered x = flat_map events_of_octet x
 
 -- the octets of each line, and the end of a line between each two
 abbrev pub events_of_lines : List (List ℕ) → List StoryEvent
@@ -119,13 +119,13 @@ abbrev pub is_blank : ℕ → Bool
 is_blank b = not (is_word_octet b)
 
 -- 1 if a word begins with the octet: it is of a word, and the one before it in its line is not
-abbrev pub begun_with : Bool → ℕ → ℕ
-begun_with inside b = if is_word_octet b && not inside then 1 else 0
+abbrev pub words_begun_with : Bool → ℕ → ℕ
+words_begun_with inside b = if is_word_octet b && not inside then 1 else 0
 
 -- how many words begin in octets of a line, if the octets before them end inside a word or not
 abbrev pub words_begun : Bool → List ℕ → ℕ
 words_begun inside [] = 0
-words_begun inside (b ∷ xs) = begun_with inside b + words_begun (is_word_octet b) xs
+words_begun inside (b ∷ xs) = words_begun_with inside b + words_begun (is_word_octet b) xs
 
 -- how many words a line has
 abbrev pub words_in : List ℕ → ℕ
@@ -161,10 +161,10 @@ abbrev pub capped : ℕ → ℕ
 capped n = min n greatest_u64
 
 -- how many words begin in the events, if those before them end inside a word or not
-abbrev pub words_told : Bool → List StoryEvent → ℕ
-words_told inside [] = 0
-words_told inside (LineOctet b ∷ events) = begun_with inside b + words_told (is_word_octet b) events
-words_told inside (LineEnd ∷ events) = words_told false events
+abbrev pub words_of_events : Bool → List StoryEvent → ℕ
+words_of_events inside [] = 0
+words_of_events inside (LineOctet b ∷ events) = words_begun_with inside b + words_of_events (is_word_octet b) events
+words_of_events inside (LineEnd ∷ events) = words_of_events false events
 
 -- whether the current line ends inside a word after the events
 abbrev pub inside_after : Bool → List StoryEvent → Bool
@@ -174,7 +174,7 @@ inside_after inside (LineEnd ∷ events) = inside_after false events
 
 -- The words of the events were counted, in 64 bits.
 pub record CountsWords (old : WordsSoFar) (events : List StoryEvent) (new : WordsSoFar) : Type 0 where
-  pub words : old.words < 2 ^ 64 → new.words ≡ capped (old.words + words_told old.inside events)
+  pub words : old.words < 2 ^ 64 → new.words ≡ capped (old.words + words_of_events old.inside events)
   pub inside : new.inside ≡ inside_after old.inside events
 
 abbrev pub number_of_text : TextCause → ℕ

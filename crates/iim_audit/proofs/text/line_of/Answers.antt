@@ -1,10 +1,10 @@
-use Rattle.iim_audit.proofs.Words.{append-nil, ages_of}
+use Rattle.iim_audit.proofs.Words.{append-nil, age_columns}
 use Rattle.iim_audit.proofs.text.line_of.Goals as goal
 
 pub returns : goal.returns
 returns c =
     cc (
-      append-nil (ages_of c.args.row.now),
+      append-nil (age_columns c.args.row.now),
       c.new-line.ensures,
       c.prepend_ages.ensures.octets,
       c.prepend_sizes.ensures.octets,

@@ -1,4 +1,4 @@
-use Rattle.iim_c.proofs.Words.{◌≡◌, ◌+◌, ◌-◌, ◌≤◌, length, drop, refl, ap, sym, ◌∙◌, arith, length-drop, drop-drop, Dataset, split_told}
+use Rattle.iim_c.proofs.Words.{◌≡◌, ◌+◌, ◌-◌, ◌≤◌, length, drop, refl, ap, sym, ◌∙◌, arith, length-drop, drop-drop, Dataset, contents_from}
 use Rattle.iim_c.proofs.TicketFields.{fields_at, next_at, stands_there}
 use Rattle.iim_c.proofs.field.field_in.Goals as goal
 
@@ -6,7 +6,7 @@ pub walking-init : goal.walking-init
 walking-init c = record {
   next = tt;
   finite = tt;
-  at = rw c.fields_start-offset.ensures (fields_at c.args.ticket.now (split_told c.args.parts) c.requires);
+  at = rw c.fields_start-offset.ensures (fields_at c.args.ticket.now (contents_from c.args.parts) c.requires);
   few = omega arith;
   index = (let none : c.args.n - c.args.n ≡ 0 = omega arith in rw none);
 }

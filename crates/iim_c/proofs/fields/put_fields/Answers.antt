@@ -1,15 +1,15 @@
-use Rattle.iim_c.proofs.Words.{◌-◌, length, drop, refl, ap, sym, ◌∙◌, arith, drop-drop, Dataset, split_told}
+use Rattle.iim_c.proofs.Words.{◌-◌, length, drop, refl, ap, sym, ◌∙◌, arith, drop-drop, Dataset, contents_from}
 use Rattle.iim_c.proofs.TicketFields.{fields_at, next_at, stands_there}
-use Rattle.iim_c.proofs.FieldArrays.{none_put, one_put}
+use Rattle.iim_c.proofs.FieldArrays.{no_field_yet, put_if_wanted}
 use Rattle.iim_c.proofs.fields.put_fields.Goals as goal
 
 pub walking-init : goal.walking-init
 walking-init c = record {
   next = tt;
   finite = tt;
-  at = rw c.fields_start-offset.ensures (fields_at c.args.ticket.now (split_told c.args.parts) c.requires);
+  at = rw c.fields_start-offset.ensures (fields_at c.args.ticket.now (contents_from c.args.parts) c.requires);
   rest = refl;
-  put = none_put c.args.ticket.now (split_told c.args.parts) c.args.from _ c.args.datasets.now (omega arith);
+  put = no_field_yet c.args.ticket.now (contents_from c.args.parts) c.args.from _ c.args.datasets.now (omega arith);
   counts = omega arith;
 }
 
@@ -24,7 +24,8 @@ walking-preserved c =
       finite = tt;
       at = next_at c.args.ticket.now c.walking.offset d c.next.new.self at;
       rest = sym (drop-drop 1 c.walking.index c.args.parts.fields) ∙ ap (drop 1) is;
-      put = one_put c.args.ticket.now (split_told c.args.parts) c.args.from c.walking.index c.args.datasets.now c.walking.datasets c.put_from.new.datasets _
+      put = put_if_wanted c.args.ticket.now (contents_from c.args.parts) c.args.from c.walking.index c.args.datasets.now c.walking.datasets
+          c.put_from.new.datasets _
           inv.put (omega arith)
           (record {
             field = d;

@@ -1,54 +1,57 @@
 -- Rows that follow one another.
-use Rattle.iim_c.proofs.Words.{◌+◌, ◌<◌, ◌≤◌, length, drop, arith, length-drop, drop-drop, sym, ap, ◌∙◌, limits_in, ◌≡◌, ℕ, ℤ, List, [], ◌∷◌, ◌++◌, take, set, Some, refl, subst, append-nil, append_assoc, length-take-le, Limits, raised, StandsOn, PieceAudit, InHand, with_more, HasFound, Found, IimAuditRow}
+use Rattle.iim_c.proofs.Words.{◌+◌, ◌<◌, ◌≤◌, length, drop, arith, length-drop, drop-drop, sym, ap, ◌∙◌, limits_in, ◌≡◌, ℕ, ℤ, List, [], ◌∷◌, ◌++◌, take, set, Some, refl, subst, append-nil, append_assoc, length-take-le, Limits, sum_capped, AuditHasConsumed, PieceAudit, CurrentEnvelope, with_more, HasFound, Found, IimAuditRow}
 use Rattle.std.proofs.lemmas.List.{take_rest, length-set, drop-set-lt, take_more_set}
 use Rattle.std.proofs.Common.{take-add}
 use Rattle.std.specs.Option.{option_map}
-use Rattle.iim_audit.specs.Format.{Finds, IsRowOf}
+use Rattle.iim_audit.specs.Format.{FindsRow, IsRowOf}
 use Rattle.iim_audit.specs.declared.pieces.PieceRow.{PieceRow}
-use Rattle.iim_c.specs.Format.Auditing.{AreRows, IsRow, after, TellsRow}
+use Rattle.iim_c.specs.Format.Auditing.{AreRowsOfEnvelopes, IsRow, after, IsRowFor}
 use Rattle.iim_c.specs.declared.finding.Ending.TheVariants.{Full}
 use Rattle.iim_c.proofs.finding.find_rows.Goals as goal
 
 -- The row has what an audit of chunks returns for an envelope.
-abbrev TellsFound : ℕ → PieceRow → IimAuditRow → Type 0
-TellsFound at found row =
-    TellsRow at found.octets found.row (option_map (λ t. t.nanosecond) found.release) (option_map (λ t. t.nanosecond) found.expires) row
+abbrev IsRowOfFound : ℕ → PieceRow → IimAuditRow → Type 0
+IsRowOfFound at found row =
+    IsRowFor at found.octets found.row (option_map (λ t. t.nanosecond) found.release) (option_map (λ t. t.nanosecond) found.expires) row
 
 -- one row more
-more_rows : (limits : Limits) (now : ℤ) (hand : InHand) (octets : List ℕ) (rows : List IimAuditRow) (last : InHand) → AreRows limits now hand octets rows last
+one_more_row : (limits : Limits) (now : ℤ) (hand : CurrentEnvelope) (octets : List ℕ) (rows : List IimAuditRow) (last : CurrentEnvelope)
+    → AreRowsOfEnvelopes limits now hand octets rows last
     → (ended : List ℕ) (row : IimAuditRow)
-    → IsRow limits now (with_more last ended) row → AreRows limits now hand (octets ++ ended) (rows ++ row ∷ []) (after (with_more last ended))
-more_rows limits now hand octets [] last are ended row is =
+    → IsRow limits now (with_more last ended) row → AreRowsOfEnvelopes limits now hand (octets ++ ended) (rows ++ row ∷ []) (after (with_more last ended))
+one_more_row limits now hand octets [] last are ended row is =
     (ended, [], rw are.0 (sym (append-nil ended)), rw are.1 at is, (refl, rw are.1))
-more_rows limits now hand octets (first ∷ rows) last (e, others, are, told, more) ended row is =
-    (e, others ++ ended, rw are (append_assoc e others ended), told, more_rows limits now (after (with_more hand e)) others rows last more ended row is)
+one_more_row limits now hand octets (first ∷ rows) last (e, others, are, told, more) ended row is =
+    (e, others ++ ended, rw are (append_assoc e others ended), told, one_more_row limits now (after (with_more hand e)) others rows last more ended row is)
 
 -- what an audit of chunks returns is a row of its envelope
-is_row : (limits : Limits) (now : ℤ) (hand : InHand) (found : PieceRow) (row : IimAuditRow) → IsRowOf limits now hand.octets found → found.octets ≡ hand.count
-    → TellsFound hand.at found row
+found_is_row : (limits : Limits) (now : ℤ) (hand : CurrentEnvelope) (found : PieceRow) (row : IimAuditRow) → IsRowOf limits now hand.octets found → found.octets
+    ≡ hand.count
+    → IsRowOfFound hand.at found row
     → IsRow limits now hand row
-is_row limits now hand found row is counts tells =
+found_is_row limits now hand found row is counts tells =
     record { value = is.value; envelope = is.envelope; tells = rw (← is.row, ← is.release, ← is.expires, ← counts) tells }
 
 -- and the rows after it
-one_found : (limits : Limits) (now : ℤ) (hand : InHand) (piece : List ℕ) (array : List IimAuditRow) (old new : PieceAudit)
+one_more_is_found : (limits : Limits) (now : ℤ) (hand : CurrentEnvelope) (piece : List ℕ) (array : List IimAuditRow) (old new : PieceAudit)
     → (found : Found) (next : PieceRow) (row : IimAuditRow) (at : ℕ)
     → HasFound limits now hand piece array old found Full → found.rows < length array
-    → ((p : List ℕ) (a : ℕ) → StandsOn old p a → Finds limits now p a (drop found.used piece) new (Some next)) → TellsFound found.at next row
-    → at ≡ raised found.at next.octets
+    → ((p : List ℕ) (a : ℕ) → AuditHasConsumed old p a → FindsRow limits now p a (drop found.used piece) new (Some next)) → IsRowOfFound found.at next row
+    → at ≡ sum_capped found.at next.octets
     → HasFound limits now hand piece (set array found.rows row) new (record { rows = found.rows + 1; used = found.used + next.used; at = at }) Full
-one_found limits now hand piece array old new found next row at had room finds tells at_is =
+one_more_is_found limits now hand piece array old new found next row at had room finds tells at_is =
     let last = had.last in
-    let f : Finds limits now last.octets last.count (drop found.used piece) new (Some next) = finds last.octets last.count had.ends in
+    let f : FindsRow limits now last.octets last.count (drop found.used piece) new (Some next) = finds last.octets last.count had.ends in
     let ended : List ℕ = take next.used (drop found.used piece) in
-    let counts : next.octets ≡ raised last.count (length ended) = f.1 ∙ ap (raised last.count) (sym (length-take-le next.used (drop found.used piece) f.0)) in
+    let counts : next.octets ≡ sum_capped last.count (length ended) = f.1 ∙ ap (sum_capped last.count) (sym (length-take-le next.used
+    (drop found.used piece) f.0)) in
     let told : IsRow limits now (with_more last ended) row =
-    is_row limits now (with_more last ended) next row f.2 counts (subst (λ (n : ℕ). TellsFound n next row) (sym had.at_is) tells) in
-    let more = more_rows limits now hand (take found.used piece) (take found.rows array) last had.rows_are ended row told in
+    found_is_row limits now (with_more last ended) next row f.2 counts (subst (λ (n : ℕ). IsRowOfFound n next row) (sym had.at_is) tells) in
+    let more = one_more_row limits now hand (take found.used piece) (take found.rows array) last had.rows_are ended row told in
     record {
       last = after (with_more last ended);
       rows_are = rw (take-add found.used next.used piece, take_more_set array found.rows row room) more;
-      at_is = ap (raised last.at) (sym counts) ∙ (ap (λ (n : ℕ). raised n next.octets) had.at_is ∙ sym at_is);
+      at_is = ap (sum_capped last.at) (sym counts) ∙ (ap (λ (n : ℕ). sum_capped n next.octets) had.at_is ∙ sym at_is);
       ends = f.3;
     }
 
@@ -65,7 +68,7 @@ envelopes-preserved c =
     let fits : next.used ≤ length (drop found.used piece) = (rw (c.in-Ok-Some.field-0-is, rest) at c.in-Ok-Some.ensures.fits).0 in
     record {
       found = λ p a stands.
-          one_found (limits_in c.args.audit.now.unpacker) c.args.now.nanosecond (record { at = c.args.at; octets = p; count = a }) piece array
+          one_more_is_found (limits_in c.args.audit.now.unpacker) c.args.now.nanosecond (record { at = c.args.at; octets = p; count = a }) piece array
           c.envelopes.audit c.next_row.new.self found next row c.saturating_add.result (inv.found p a stands) room
           (λ q b on. rw (rest, inv.limits, c.in-Ok-Some.field-0-is) at (c.in-Ok-Some.ensures.found q b on)) c.row_for.ensures c.saturating_add.ensures;
       used = omega (arith, fits, length-drop found.used piece, inv.used);

@@ -1,13 +1,14 @@
 use Rattle.iim_c.proofs.Words.{arith, ◌≤◌}
-use Rattle.iim_c.proofs.Tried.{no_bit, one_put}
+use Rattle.iim_c.proofs.Tried.{empty_set_has_no_bit, put_if_wanted}
 use Rattle.iim_c.proofs.next.try_all.Goals as goal
 
 pub loop-next-init : goal.loop-next-init
-loop-next-init c = record { told = λ next below. absurd (omega (arith, below)); rest = λ next above. no_bit next }
+loop-next-init c = record { told = λ next below. absurd (omega (arith, below)); rest = λ next above. empty_set_has_no_bit next }
 
 pub loop-next-preserved : goal.loop-next-preserved
 loop-next-preserved c =
-    one_put c.args.limits c.args.ticket.now c.loop-next.next c.loop-next.bits c.put_bit.new.bits c.in-Some.taken c.loop-next.invariant c.put_bit.ensures.set
+    put_if_wanted c.args.limits c.args.ticket.now c.loop-next.next c.loop-next.bits c.put_bit.new.bits c.in-Some.taken c.loop-next.invariant
+    c.put_bit.ensures.set
     c.put_bit.ensures.same (rw c.in-Some.is at c.in_ok-taken.ensures.tried)
 
 pub returns-clause-tried : goal.returns-clause-tried

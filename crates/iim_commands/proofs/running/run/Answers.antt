@@ -1,9 +1,9 @@
-use Rattle.iim_commands.proofs.Imports.{[], refl, sym, subst, Device, devices, Ran}
+use Rattle.iim_commands.proofs.Imports.{[], refl, sym, subst, Device, devices, RunsJob}
 use Rattle.iim_commands.proofs.Runs.{with_none_held}
 use Rattle.iim_commands.proofs.running.run.Goals as goal
 
 pub returns-in-Story : goal.returns-in-Story
-returns-in-Story g c = rw c.in-Story.is c.write_stories.ensures
+returns-in-Story g c = rw c.in-Story.is c.run_stories.ensures
 
 pub returns-in-Pack : goal.returns-in-Pack
 returns-in-Pack g c =
@@ -12,9 +12,9 @@ returns-in-Pack g c =
       last,
       [],
       leads,
-      subst (λ (d : Device). Ran c.args.request.job old (devices d (g.W.Target.state c.pack.result.1) (g.E.Target.state c.pack.result.2)) c.pack.result.0)
+      subst (λ (d : Device). RunsJob c.args.request.job old (devices d (g.W.Target.state c.pack.result.1) (g.E.Target.state c.pack.result.2)) c.pack.result.0)
           (sym (with_none_held [] (g.R.Source.state last) refl)) (rw c.in-Pack.is packed),
     )
 
 pub returns-in-Audit : goal.returns-in-Audit
-returns-in-Audit g c = rw c.in-Audit.is c.review.ensures
+returns-in-Audit g c = rw c.in-Audit.is c.run_audit.ensures

@@ -21,5 +21,5 @@ loop-at-preserved g c =
             (rw (take_rest piece at) at sent.0)),
         (omega (arith, sent.1.0, out.1.0), omega (arith, sent.1.1, out.1.1)),
       );
-      patience = omega (arith, some, c.in-Ok.ensures.patience, c.loop-at.invariant.patience);
+      retry_limit = omega (arith, some, c.in-Ok.ensures.retry_limit, c.loop-at.invariant.retry_limit);
     }

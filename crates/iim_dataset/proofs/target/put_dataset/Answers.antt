@@ -1,5 +1,5 @@
 use Rattle.std.proofs.Common.{List, ℕ, ◌+◌, ◌++◌, ◌∙◌, length, subst}
-use Rattle.iim_dataset.specs.States.Devices.{Stopped}
+use Rattle.iim_dataset.specs.States.Devices.{WroteOnlyPrefixOf}
 use Rattle.iim_dataset.proofs.StoppedTexts.{stopped_more}
 use Rattle.iim_dataset.proofs.target.put_dataset.Goals as goal
 
@@ -14,5 +14,5 @@ pub returns-in-Err-put-clause-err : goal.returns-in-Err-put-clause-err
 returns-in-Err-put-clause-err g c =
     let n = length c.as_slice-front.result.now + c.in-Err-put.out in
     let tag = c.as_slice-front.ensures.value ∙ c.head_bytes-tag.ensures.canonical in
-    subst (λ (t : List ℕ). Stopped (g.W.Target.state c.args.writer.now) (g.W.Target.state c.put-2.new.writer) (t ++ c.args.octets.now) n) tag
-    (c.texts_join.ensures.stopped _ _ _ c.as_slice-front.result.now c.args.octets.now _ c.in-Ok.ensures.ok c.in-Err-put.ensures.err)
+    subst (λ (t : List ℕ). WroteOnlyPrefixOf (g.W.Target.state c.args.writer.now) (g.W.Target.state c.put-2.new.writer) (t ++ c.args.octets.now) n) tag
+    (c.writes_join.ensures.stopped _ _ _ c.as_slice-front.result.now c.args.octets.now _ c.in-Ok.ensures.ok c.in-Err-put.ensures.err)

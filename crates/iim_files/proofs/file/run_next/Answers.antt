@@ -2,4 +2,4 @@ use Rattle.std.proofs.Common.{refl}
 use Rattle.iim_files.proofs.file.run_next.Goals as goal
 
 pub returns : goal.returns
-returns g c = (c.run_file-ran.result.status, rw c.worsen.ensures c.run_file-ran.ensures, rw c.worsen.ensures refl)
+returns g c = (c.run_file-ran.result.status, rw c.with_greater_status.ensures c.run_file-ran.ensures, rw c.with_greater_status.ensures refl)

@@ -11,7 +11,8 @@ returns-in-Ok-clause-ok g c =
 pub returns-in-Ok-clause-broke : goal.returns-in-Ok-clause-broke
 returns-in-Ok-clause-broke g c =
     let mid = c.write.new.self in
-    IfErr-weaker c.finish.result _ _ (λ refused. end_broke g.W.Target.state c.args.object mid refused.0 c.args.tail.now c.texts_join.ensures c.in-Ok.ensures.ok)
+    IfErr-weaker c.finish.result _ _ (λ refused. end_broke g.W.Target.state c.args.object mid refused.0 c.args.tail.now c.writes_join.ensures
+    c.in-Ok.ensures.ok)
     (of_none (finish_cause mid) _ (may_finish g.W.Target.state c.args.object mid c.args.tail.now c.in-Ok.ensures.ok c.requires.whole) c.finish.ensures.broke)
 
 pub returns-in-Err-clause-broke : goal.returns-in-Err-clause-broke

@@ -26,16 +26,16 @@ pub returns-in-Err-put_lines-clause-fault : goal.returns-in-Err-put_lines-clause
 returns-in-Err-put_lines-clause-fault g c =
     if_none (pack_cause c.args.head.now c.args.lines.now.lines c.args.trailer.now c.args.plan) _
     (inr (lines_broke g.W.Target.state c.args.writer c.args.envelope.now c.args.head.now c.args.lines.now.lines c.args.trailer.now c.args.plan c.in-Ok.packer
-    c.put_lines.new.packer c.given_back.result c.texts_join.ensures
-    c.in-Ok.ensures.ok c.in-Err-put_lines.ensures.broke (c.given_back.ensures.cause ∙ c.in-Err-put_lines.ensures.cause) c.given_back.ensures.writer
-    c.given_back.ensures.written))
+    c.put_lines.new.packer c.write_fault.result c.writes_join.ensures
+    c.in-Ok.ensures.ok c.in-Err-put_lines.ensures.broke (c.write_fault.ensures.cause ∙ c.in-Err-put_lines.ensures.cause) c.write_fault.ensures.writer
+    c.write_fault.ensures.written))
 
 pub returns-in-Ok-finish-clause-ok : goal.returns-in-Ok-finish-clause-ok
 returns-in-Ok-finish-clause-ok g c =
     let again = lines_again c.story_laws.ensures.packed_lines_are_a_text c.texts_are_delivered_as_lines.ensures
     c.story_laws.ensures.texts_are_collected_as_lines c.args.lines.now.lines c.put_lines.ensures.made in
     packs g.W.Target.state c.args.writer c.in-Ok-finish.writer c.args.envelope.now c.args.head.now c.args.lines.now.lines c.args.trailer.now c.args.plan
-    c.in-Ok.packer c.put_lines.new.packer c.texts_join.ensures again
+    c.in-Ok.packer c.put_lines.new.packer c.writes_join.ensures again
     c.in-Ok.ensures.ok c.in-Ok-put_lines.ensures.ok c.in-Ok-finish.ensures.ok
 
 pub returns-in-Err-finish-clause-fault : goal.returns-in-Err-finish-clause-fault
@@ -51,9 +51,9 @@ returns-in-Err-finish-clause-fault g c =
     let cause = of_none (finish_cause c.put_lines.new.packer c.args.trailer.now) _ none c.in-Err-finish.ensures.cause in
     if_none (pack_cause c.args.head.now lines c.args.trailer.now c.args.plan) _
     (inr (finish_broke g.W.Target.state c.args.writer c.args.envelope.now c.args.head.now lines c.args.trailer.now c.args.plan c.in-Ok.packer
-    c.put_lines.new.packer c.in-Err-finish.packer c.given_back-in-Err-finish.result c.texts_join.ensures again
-    c.in-Ok.ensures.ok c.in-Ok-put_lines.ensures.ok broke (c.given_back-in-Err-finish.ensures.cause ∙ cause) c.given_back-in-Err-finish.ensures.writer
-    c.given_back-in-Err-finish.ensures.written))
+    c.put_lines.new.packer c.in-Err-finish.packer c.write_fault-in-Err-finish.result c.writes_join.ensures again
+    c.in-Ok.ensures.ok c.in-Ok-put_lines.ensures.ok broke (c.write_fault-in-Err-finish.ensures.cause ∙ cause) c.write_fault-in-Err-finish.ensures.writer
+    c.write_fault-in-Err-finish.ensures.written))
 
 pub returns-in-Some-clause-order : goal.returns-in-Some-clause-order
 returns-in-Some-clause-order g c = grind (arith, pack_order)

@@ -3,11 +3,11 @@ use Rattle.iim_pack_script.proofs.packing.pack_octets.Goals as goal
 
 pub returns-in-Ok-clause-packed : goal.returns-in-Ok-clause-packed
 returns-in-Ok-clause-packed g c =
-    IfOk-weaker c.pack_told.result _ _ (λ last packs. packs c.args.octets.now c.in-Ok.ensures.script) c.pack_told.ensures.packed
+    IfOk-weaker c.pack_contents.result _ _ (λ last packs. packs c.args.octets.now c.in-Ok.ensures.script) c.pack_contents.ensures.packed
 
 pub returns-in-Ok-clause-unpacked : goal.returns-in-Ok-clause-unpacked
 returns-in-Ok-clause-unpacked g c =
-    IfErr-weaker c.pack_told.result _ _ (λ left unpacks. unpacks c.args.octets.now c.in-Ok.ensures.script) c.pack_told.ensures.unpacked
+    IfErr-weaker c.pack_contents.result _ _ (λ left unpacks. unpacks c.args.octets.now c.in-Ok.ensures.script) c.pack_contents.ensures.unpacked
 
 pub returns-in-Err-clause-unpacked : goal.returns-in-Err-clause-unpacked
 returns-in-Err-clause-unpacked g c =

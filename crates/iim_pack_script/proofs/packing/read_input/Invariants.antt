@@ -1,9 +1,9 @@
-use Rattle.iim_pack_script.proofs.Words.{◌≤◌, ◌+◌, ◌-◌, length, HasGiven, max_script}
+use Rattle.iim_pack_script.proofs.Words.{◌≤◌, ◌+◌, ◌-◌, length, ReadsGave, max_script}
 use Rattle.iim_pack_script.proofs.packing.read_input.Given as goal
 
 abbrev pub invariant-loop-block : goal.invariant-loop-block
 invariant-loop-block g l = record {
-  given : HasGiven (g.R.Source.state l.fn.reader) (g.R.Source.state l.reader) l.script.items;
+  given : ReadsGave (g.R.Source.state l.fn.reader) (g.R.Source.state l.reader) l.script.items;
   few : length l.script.items ≤ max_script + 1;
   leads : g.R.Source.leads l.fn.reader l.reader;
 }

@@ -20,15 +20,15 @@ pub returns-in-Err-put_text-clause-fault : goal.returns-in-Err-put_text-clause-f
 returns-in-Err-put_text-clause-fault g c =
     let lines = text_lines c.args.text.now in
     inr (lines_broke g.W.Target.state c.args.writer c.args.envelope.now c.args.head.now lines c.args.trailer.now c.args.plan c.in-Ok.packer
-    c.put_text.new.packer c.given_back.result c.texts_join.ensures
-    c.in-Ok.ensures.ok c.in-Err-put_text.ensures.broke (c.given_back.ensures.cause ∙ c.in-Err-put_text.ensures.cause) c.given_back.ensures.writer
-    c.given_back.ensures.written)
+    c.put_text.new.packer c.write_fault.result c.writes_join.ensures
+    c.in-Ok.ensures.ok c.in-Err-put_text.ensures.broke (c.write_fault.ensures.cause ∙ c.in-Err-put_text.ensures.cause) c.write_fault.ensures.writer
+    c.write_fault.ensures.written)
 
 pub returns-in-Ok-finish-clause-ok : goal.returns-in-Ok-finish-clause-ok
 returns-in-Ok-finish-clause-ok g c =
     let lines = text_lines c.args.text.now in
     packs g.W.Target.state c.args.writer c.in-Ok-finish.writer c.args.envelope.now c.args.head.now lines c.args.trailer.now c.args.plan c.in-Ok.packer
-    c.put_text.new.packer c.texts_join.ensures
+    c.put_text.new.packer c.writes_join.ensures
     (again c.texts_are_delivered_as_lines.ensures c.args.text.now lines c.requires.text) c.in-Ok.ensures.ok c.in-Ok-put_text.ensures.ok
     c.in-Ok-finish.ensures.ok
 
@@ -41,6 +41,6 @@ returns-in-Err-finish-clause-fault g c =
     let broke = of_none (finish_cause c.put_text.new.packer c.args.trailer.now) _ none c.in-Err-finish.ensures.broke in
     let cause = of_none (finish_cause c.put_text.new.packer c.args.trailer.now) _ none c.in-Err-finish.ensures.cause in
     inr (finish_broke g.W.Target.state c.args.writer c.args.envelope.now c.args.head.now lines c.args.trailer.now c.args.plan c.in-Ok.packer
-    c.put_text.new.packer c.in-Err-finish.packer c.given_back-in-Err-finish.result c.texts_join.ensures
+    c.put_text.new.packer c.in-Err-finish.packer c.write_fault-in-Err-finish.result c.writes_join.ensures
     (again c.texts_are_delivered_as_lines.ensures c.args.text.now lines c.requires.text) c.in-Ok.ensures.ok c.in-Ok-put_text.ensures.ok broke
-    (c.given_back-in-Err-finish.ensures.cause ∙ cause) c.given_back-in-Err-finish.ensures.writer c.given_back-in-Err-finish.ensures.written)
+    (c.write_fault-in-Err-finish.ensures.cause ∙ cause) c.write_fault-in-Err-finish.ensures.writer c.write_fault-in-Err-finish.ensures.written)

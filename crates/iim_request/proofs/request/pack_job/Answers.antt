@@ -7,13 +7,13 @@ pub returns-then-is_max_alone-clause-err : goal.returns-then-is_max_alone-clause
 returns-then-is_max_alone-clause-err c =
     let f = found_of c.args.found.now in
     let alone = c.is_max_alone.ensures.yes c.if-is_max_alone.true in
-    let told = tells_packing f c.get_str.result c.get_str-2.result c.subfile_given-subfile.result c.get_flag-unknown.result c.number_given-max.result
-    c.get_str.ensures c.get_str-2.ensures c.subfile_given-subfile.ensures.given c.get_flag-unknown.ensures.none c.get_flag-unknown.ensures.value
-    c.get_flag-unknown.ensures.other c.number_given-max.ensures.given in (
+    let told = tells_packing f c.get_str.result c.get_str-2.result c.subfile_option-subfile.result c.get_flag-unknown.result c.number_option-max.result
+    c.get_str.ensures c.get_str-2.ensures c.subfile_option-subfile.ensures.given c.get_flag-unknown.ensures.none c.get_flag-unknown.ensures.value
+    c.get_flag-unknown.ensures.other c.number_option-max.ensures.given in (
       refl,
       (
-        c.subfile_given-subfile.result,
-        c.number_given-max.result,
+        c.subfile_option-subfile.result,
+        c.number_option-max.result,
         rw alone.1 at told,
         alone.0,
       ),
@@ -23,8 +23,8 @@ pub returns-clause-ok : goal.returns-clause-ok
 returns-clause-ok c =
     let f = found_of c.args.found.now in (
       refl,
-      tells_packing f c.get_str.result c.get_str-2.result c.subfile_given-subfile.result c.get_flag-unknown.result c.number_given-max.result
-          c.get_str.ensures c.get_str-2.ensures c.subfile_given-subfile.ensures.given c.get_flag-unknown.ensures.none c.get_flag-unknown.ensures.value
-          c.get_flag-unknown.ensures.other c.number_given-max.ensures.given,
+      tells_packing f c.get_str.result c.get_str-2.result c.subfile_option-subfile.result c.get_flag-unknown.result c.number_option-max.result
+          c.get_str.ensures c.get_str-2.ensures c.subfile_option-subfile.ensures.given c.get_flag-unknown.ensures.none c.get_flag-unknown.ensures.value
+          c.get_flag-unknown.ensures.other c.number_option-max.ensures.given,
       c.is_max_alone.ensures.no c.if-is_max_alone.false,
     )

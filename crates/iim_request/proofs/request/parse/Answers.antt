@@ -1,10 +1,10 @@
 use Rattle.std.proofs.Common.{map, string_bytes}
-use Rattle.iim_request.proofs.Requests.{one_asked, others_fault, same_fault}
+use Rattle.iim_request.proofs.Requests.{one_requested, others_fault, same_fault}
 use Rattle.iim_request.proofs.request.parse.Goals as goal
 
 pub returns-in-Ok-clause-ok : goal.returns-in-Ok-clause-ok
 returns-in-Ok-clause-ok c =
-    one_asked (map string_bytes c.args.words.now) c.in-Ok.request c.one_file.result c.in-Ok.ensures.ok c.one_file.ensures.ok
+    one_requested (map string_bytes c.args.words.now) c.in-Ok.request c.one_file.result c.in-Ok.ensures.ok c.one_file.ensures.ok
 
 pub returns-in-Ok-clause-err : goal.returns-in-Ok-clause-err
 returns-in-Ok-clause-err c =

@@ -5,10 +5,10 @@ use Rattle.iim_script.proofs.laws.script_laws.Goals as goal
 pub returns : goal.returns
 returns c = record {
   octets_have_one_next_line = next_once;
-  lines_tell_one_thing = (field_once, one_head, trailer_once);
+  lines_are_unambiguous = (field_once, one_head, trailer_once);
   forms_exclude_one_another = (field_no_head, text_no_trailer);
-  scripts_tell_one_thing = scripts_once;
+  scripts_are_unambiguous = scripts_once;
   scripts_have_no_fault = script_no_fault;
   octets_have_one_fault = faults_once;
-  printed_values_are_scripts = is_script c.record_laws.ensures.datasets_of_envelopes_are_added;
+  printed_values_are_scripts = is_script c.record_laws.ensures.builders_accept_envelopes;
 }

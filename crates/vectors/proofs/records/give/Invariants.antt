@@ -1,6 +1,6 @@
 use Rattle.std.proofs.Common.{◌-◌, length}
-use Rattle.iim_fields.specs.States.Standing.{IsInside}
+use Rattle.iim_fields.specs.States.Standing.{IsInsideDataset}
 use Rattle.vectors.proofs.records.give.Given as goal
 
 abbrev pub invariant-loop-octet : goal.invariant-loop-octet
-invariant-loop-octet l = IsInside l.fields l.fn.head (length l.octets - l.octet-index)
+invariant-loop-octet l = IsInsideDataset l.fields l.fn.head (length l.octets - l.octet-index)

@@ -1,5 +1,5 @@
-use Rattle.iim_fields.specs.States.Standing.{IsBetween}
+use Rattle.iim_fields.specs.States.Standing.{IsBetweenDatasets}
 use Rattle.vectors.proofs.records.pass_datasets.Given as goal
 
 abbrev pub invariant-loop : goal.invariant-loop
-invariant-loop l = IsBetween l.fields
+invariant-loop l = IsBetweenDatasets l.fields

@@ -1,5 +1,5 @@
 use Rattle.std.proofs.Common.{◌≡◌, ℕ, take, slice_index, refl, arith}
-use Rattle.wire_message.proofs.{Names.take-length, Names.TextCause, Names.CountsCause, Names.cause_of, Alike.stands_two}
+use Rattle.wire_message.proofs.{Names.take-length, Names.TextCause, Names.SinkCountsMessageCause, Names.message_cause_of, Alike.stands_two}
 use Rattle.wire_message.proofs.Readings.{all_taken, ends_at, stops_somewhere, refuses_at}
 use Rattle.wire_story.specs.declared.fault.TextCause.TheVariants as text_cause
 use Rattle.wire_story.specs.States.Reading as story
@@ -11,12 +11,12 @@ pub returns-in-Ok-clause-takes : goal.returns-in-Ok-clause-takes
 returns-in-Ok-clause-takes g c = λ on.
     let place = c.requires.place in
     let taken = c.in-Ok.ensures.taken in
-    let old = (c.places_are_reached.ensures c.args.text.now).0 place.1 in
+    let old = (c.text_states_are_reached.ensures c.args.text.now).0 place.1 in
     let leads = all_taken c.args.head.now c.args.text.now c.run.new.self c.args.rest.now taken.leads_on in
     record {
       is_place = (place.0, stands_two c.run.new.self _ (taken.leads_on old.0 old.1));
       told = (c.args.rest.now, taken.told, rw (take-length c.args.rest.now) leads);
-      calm = taken.calm;
+      no_failure = taken.no_failure;
     }
 
 pub returns-then-rest-fault-eq-ETX-clause-ended : goal.returns-then-rest-fault-eq-ETX-clause-ended
@@ -30,11 +30,11 @@ returns-then-rest-fault-eq-ETX-clause-ended g c = λ ended trailer none.
     record {
       is_place = (c.requires.place.0, rw none (refl, omega arith, omega arith));
       told = (take fault.taken rest, e.told, leads);
-      calm = rw control at e.counted;
+      no_failure = rw control at e.counted;
     }
 
 -- The cause of a message counts as the cause of its text does.
-counted_as : (cause : TextCause) (old new : ℕ) → story.CountsCause old new cause → CountsCause old new (cause_of cause)
+counted_as : (cause : TextCause) (old new : ℕ) → story.SinkCountsTextCause old new cause → SinkCountsMessageCause old new (message_cause_of cause)
 counted_as text_cause.Sink old new h = h
 counted_as _ old new h = h
 

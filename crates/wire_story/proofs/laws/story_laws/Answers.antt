@@ -8,7 +8,7 @@ pub returns : goal.returns
 returns c = record {
   texts_have_one_reading = one_text;
   texts_so_far_have_one_reading = one_text_so_far;
-  stories_live_as_texts_so_far = λ x. (λ live. let h = live_held x live in (h.0, holds x h.0 h.1), λ text. live_of x text.0 text.1);
+  stories_are_viable_as_texts_so_far = λ x. (λ live. let h = live_held x live in (h.0, holds x h.0 h.1), λ text. live_of x text.0 text.1);
   stories_end_as_texts = λ x. (ended_lines x, lines_end x);
   texts_end_in_no_return = λ x. (λ text. so_far_of x text.0 text.1, lines_of x);
   texts_so_far_are_delivered_as_lines = delivered_so_far;
@@ -19,6 +19,6 @@ returns c = record {
   packed_lines_are_a_text = packed;
   lines_of_a_text_make_one = made;
   events_are_packed_as_lines = events_packed;
-  octets_lead_to_one_place = one_place;
-  octets_lead_on_alike = alike;
+  octets_determine_the_text_state = one_place;
+  text_states_determine_later_ones = alike;
 }

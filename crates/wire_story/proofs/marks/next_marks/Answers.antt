@@ -1,5 +1,5 @@
 use Rattle.std.proofs.Common.{◌≡◌, ◌+◌, ◌/◌, ◌^◌, ap, sym, ◌∙◌, refl, arith}
-use Rattle.wire_story.proofs.Marked.{CalmTo, calm_block, calm_to, marks_block, mask_small}
+use Rattle.wire_story.proofs.Marked.{IsUnmarkedTo, calm_block, calm_to, marks_block, mask_small}
 use Rattle.wire_story.proofs.marks.next_marks.Goals as goal
 
 pub loop-mask-preserved : goal.loop-mask-preserved
@@ -19,8 +19,8 @@ pub returns : goal.returns
 returns c =
     let i = c.loop-mask.invariant in
     let marks = marks_block c.args.octets.now c.loop-mask.at c.loop-mask.mask i.room i.mask in
-    let found = c.calm_before-calm.ensures in
-    let r : CalmTo c.args.octets.now (c.loop-mask.at + c.calm_before-calm.result.0) c.calm_before-calm.result.1 =
+    let found = c.first_marked-calm.ensures in
+    let r : IsUnmarkedTo c.args.octets.now (c.loop-mask.at + c.first_marked-calm.result.0) c.first_marked-calm.result.1 =
     calm_to (λ k. (c.type_inv.octets k).fits) (record { within = omega (arith, i.room); line = i.line; marks = marks }) found.count found.digits refl in
     record {
       within = r.within;
@@ -28,6 +28,6 @@ returns c =
       marks = r.marks;
       later = omega arith;
       more = λ same.
-          let none : c.calm_before-calm.result.0 ≡ 0 = omega arith in
+          let none : c.first_marked-calm.result.0 ≡ 0 = omega arith in
           omega (arith, found.digits ∙ ap (λ n. (c.loop-mask.mask + 65536) / 2 ^ n) (sym found.count ∙ none));
     }

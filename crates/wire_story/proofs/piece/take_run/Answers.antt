@@ -10,7 +10,7 @@ returns-in-Ok-clause-taken g c =
       leads_on = rw (c.requires.held (omega arith)) (leads_on 0 run 0 (held_in_line run c.requires.line));
       told = subst (λ (es : List StoryEvent). g.S.StorySink.goes c.args.sink.now es c.text.new.self) (sym (delivered_line run c.requires.line))
           c.in-Ok.ensures.ok;
-      calm = c.in-Ok.ensures.calm;
+      no_failure = c.in-Ok.ensures.no_failure;
     }
 
 pub returns-in-Err-clause-refused : goal.returns-in-Err-clause-refused
@@ -32,4 +32,4 @@ returns-in-Err-clause-refused g c =
 
 pub returns-then-run-eq0-clause-taken : goal.returns-then-run-eq0-clause-taken
 returns-then-run-eq0-clause-taken g c =
-    rw c.if-run-eq0.true (record { leads_on = leads_on_none (Some c.args.held); told = g.met.S.StorySink.nothing c.args.sink.now; calm = refl })
+    rw c.if-run-eq0.true (record { leads_on = leads_on_none (Some c.args.held); told = g.met.S.StorySink.nothing c.args.sink.now; no_failure = refl })

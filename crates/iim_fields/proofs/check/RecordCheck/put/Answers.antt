@@ -1,5 +1,5 @@
 use Rattle.std.proofs.Common.{List, [], ◌∷◌, ◌++◌, ℕ, Some, true, sym, ◌∙◌, subst, arith, refl}
-use Rattle.iim_fields.proofs.Words.{same_Some, Dataset, data_of, HasChecked, IsRecordPlace, MayTake, RecordPlace}
+use Rattle.iim_fields.proofs.Words.{same_Some, Dataset, data_of, HasChecked, IsRecordPlace, MayAcceptDataset, RecordPlace}
 use Rattle.iim_fields.proofs.{Checking.place_led, Wholes.took_by}
 use Rattle.iim_fields.proofs.check.RecordCheck.put.Goals as goal
 
@@ -8,7 +8,7 @@ abbrev next : goal.After-take → RecordPlace
 next c = record { order = c.take.new.self; begun = c.in-Some.place.begun }
 
 -- The dataset reaches that state.
-took : (c : goal.After-take) (xs : List ℕ) → MayTake c.args.self.now c.args.head xs → (ds : List Dataset) → HasChecked (Some c.in-Some.place) ds
+took : (c : goal.After-take) (xs : List ℕ) → MayAcceptDataset c.args.self.now c.args.head xs → (ds : List Dataset) → HasChecked (Some c.in-Some.place) ds
     → HasChecked (Some (next c)) (ds ++ data_of c.args.head xs ∷ [])
 took c xs may =
     let between = rw (← (sym c.in-Some.is ∙ c.self.view_is)) at c.requires.between in

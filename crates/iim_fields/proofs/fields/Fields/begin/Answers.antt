@@ -1,11 +1,11 @@
 use Rattle.std.proofs.Common.{List, refl, sym, ◌∙◌}
-use Rattle.iim_fields.proofs.Words.{handed_on, Dataset, StandsAfter, IsHeadFault, limits_of}
+use Rattle.iim_fields.proofs.Words.{handed_on, Dataset, HasReadDatasets, IsHeadFault, limits_of}
 use Rattle.iim_fields.proofs.Stand.{fault_of_record, fault_of_room, stands_in, reading_begun}
 use Rattle.iim_fields.proofs.fields.Fields.begin.Goals as goal
 
 pub returns-in_err-head-clause-fault : goal.returns-in_err-head-clause-fault
 returns-in_err-head-clause-fault c =
-    handed_on (λ fault. (ds : List Dataset) → StandsAfter c.args.self.now ds → IsHeadFault (limits_of c.args.self.now) ds c.args.head fault)
+    handed_on (λ fault. (ds : List Dataset) → HasReadDatasets c.args.self.now ds → IsHeadFault (limits_of c.args.self.now) ds c.args.head fault)
     c.from_residual.result c.in_err-head.field-0.0 c.from_residual.ensures.1
     (λ ds s. fault_of_record (limits_of c.args.self.now) ds c.args.head c.in_err-head.field-0.0
     (c.in_err-head.ensures.fault ds (rw (← c.self.view_is) at s).checked))

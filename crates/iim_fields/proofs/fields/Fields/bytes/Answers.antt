@@ -1,11 +1,11 @@
 use Rattle.std.proofs.Common.{◌≡◌, ◌++◌, sym, subst, refl, ap, ◌∙◌, arith, OnOk}
-use Rattle.iim_fields.proofs.Words.{vec_capacity, begun_octets, fields_of}
+use Rattle.iim_fields.proofs.Words.{vec_capacity, current_octets, fields_of}
 use Rattle.iim_fields.proofs.Stand.{takes_holds, inside_more, reading_more, size_room, stands_more, store_is, taken_in_size, taken_in_store}
 use Rattle.iim_fields.proofs.fields.Fields.bytes.Goals as goal
 
 -- The octets of the dataset in progress grow by these, in the store.
 taken : (c : goal.After-take) → (fields_of c.take.new.self ≡ fields_of c.self.inside.store)
-    × (begun_octets c.take.new.self ++ c.self.inside.size.items ≡ (begun_octets c.self.inside.store ++ c.self.inside.size.items) ++ c.args.octets.now)
+    × (current_octets c.take.new.self ++ c.self.inside.size.items ≡ (current_octets c.self.inside.store ++ c.self.inside.size.items) ++ c.args.octets.now)
 taken c =
     let none = c.self.invariant.in_store c.in-Some.head (sym c.begun.ensures ∙ c.in-Some.is) (sym c.is_kept.ensures ∙ c.if-is_kept.true) in
     taken_in_store c.self.inside.store c.take.new.self c.self.inside.size.items c.args.octets.now none c.take.ensures.octets c.take.ensures.entries
@@ -37,8 +37,8 @@ unwrap-requires c =
     (sym c.is_kept.ensures ∙ c.if-is_kept.false))
 
 -- The octets of the dataset in progress grow by these, in the size.
-extended : (c : goal.After-unwrap) → begun_octets c.self.inside.store ++ c.try_extend_from_slice.new.self.items
-    ≡ (begun_octets c.self.inside.store ++ c.self.inside.size.items) ++ c.args.octets.now
+extended : (c : goal.After-unwrap) → current_octets c.self.inside.store ++ c.try_extend_from_slice.new.self.items
+    ≡ (current_octets c.self.inside.store ++ c.self.inside.size.items) ++ c.args.octets.now
 extended c = taken_in_size c.self.inside.store c.self.inside.size.items _ c.args.octets.now
     (subst (λ r. OnOk r (c.try_extend_from_slice.new.self.items ≡ c.self.inside.size.items ++ c.args.octets.now)) c.unwrap.ensures
     c.try_extend_from_slice.ensures.ok)

@@ -1,5 +1,5 @@
 use Rattle.std.proofs.Common.{List, ℕ, ◌++◌, sym, ap, refl, ◌∙◌}
-use Rattle.iim_fields.proofs.{Words.handed_on, Words.Dataset, Words.Head, Words.data_of, Words.IsValueFault, Words.StandsIn, Stand.Kept.Passed}
+use Rattle.iim_fields.proofs.{Words.handed_on, Words.Dataset, Words.Head, Words.data_of, Words.IsValueFault, Words.IsReadingDataset, Stand.Kept.Passed}
 use Rattle.iim_fields.proofs.Stand.{ends_within, closed_subfile, closes_in, stands_closed, refused_value, somewhere_closed, kept_in_store, reading_kept, reading_between, entry_room, in_store_alone}
 use Rattle.iim_fields.proofs.fields.Fields.close.Goals as goal
 
@@ -28,7 +28,7 @@ returns-in_err-number-clause-fault c =
     let begun = sym c.begun.ensures ∙ c.in-Some.is in
     let closes = closes_in (rw (← c.self.view_is) at c.requires) begun in
     let none = c.self.invariant.in_size c.in-Some.head begun (sym c.is_kept.ensures ∙ c.if-not-is_kept.true) in
-    handed_on (λ fault. (ds : List Dataset) (h : Head) (taken : List ℕ) → StandsIn c.args.self.now ds h taken → IsValueFault ds (data_of h taken) fault)
+    handed_on (λ fault. (ds : List Dataset) (h : Head) (taken : List ℕ) → IsReadingDataset c.args.self.now ds h taken → IsValueFault ds (data_of h taken) fault)
     c.from_residual.result c.in_err-number.field-0.0 c.from_residual.ensures.1
     (refused_value c.self.invariant c.self.view_is closes.0 c.if-head-eq-OBJECT.false (c.as_slice.ensures.value
     ∙ sym (ap (λ (ys : List ℕ). ys ++ c.self.inside.size.items) none)) c.in_err-number.ensures.fault)
@@ -61,7 +61,7 @@ returns-in_err-number-2-clause-fault c =
     let begun = sym c.begun.ensures ∙ c.in-Some.is in
     let closes = closes_in (rw (← c.self.view_is) at c.requires) begun in
     let none = c.self.invariant.in_store c.in-Some.head begun (sym c.is_kept.ensures ∙ c.if-not-is_kept.false) in
-    handed_on (λ fault. (ds : List Dataset) (h : Head) (taken : List ℕ) → StandsIn c.args.self.now ds h taken → IsValueFault ds (data_of h taken) fault)
+    handed_on (λ fault. (ds : List Dataset) (h : Head) (taken : List ℕ) → IsReadingDataset c.args.self.now ds h taken → IsValueFault ds (data_of h taken) fault)
     c.from_residual-in_err-number-2.result c.in_err-number-2.field-0.0 c.from_residual-in_err-number-2.ensures.1
     (refused_value c.self.invariant c.self.view_is closes.0 c.if-head-eq-OBJECT.false (c.begun-2.ensures
     ∙ sym (in_store_alone c.self.inside.store c.self.inside.size.items none)) c.in_err-number-2.ensures.fault)

@@ -1,5 +1,5 @@
 use Rattle.std.proofs.Common.{◌≡◌, false, true, sym, subst, ◌∙◌, refl}
-use Rattle.iim_fields.proofs.{Words.IsEnded, Finish.whole_where_ended, Finish.ended_where_whole, Finish.ended_store}
+use Rattle.iim_fields.proofs.{Words.RecordReaderHasEnded, Finish.whole_where_ended, Finish.ended_where_whole, Finish.ended_store}
 use Rattle.iim_fields.proofs.fields.Fields.envelope.Goals as goal
 
 pub returns-then-not-is_ended-clause-whole : goal.returns-then-not-is_ended-clause-whole
@@ -7,7 +7,7 @@ returns-then-not-is_ended-clause-whole c ds s = (
   λ none. absurd cc,
   λ sections.
       let ended : false ≡ true = sym c.if-not-is_ended.true
-      ∙ c.is_ended.ensures.1 (subst IsEnded (sym c.self.view_is) (ended_where_whole _ ds s.between s.checked sections)) in absurd cc,
+      ∙ c.is_ended.ensures.1 (subst RecordReaderHasEnded (sym c.self.view_is) (ended_where_whole _ ds s.between s.checked sections)) in absurd cc,
 )
 
 pub invariant_of-result : goal.invariant_of-result
@@ -17,6 +17,6 @@ invariant_of-result c =
 
 pub returns-clause-whole : goal.returns-clause-whole
 returns-clause-whole c ds s = (
-  λ some. whole_where_ended _ ds (subst IsEnded c.self.view_is (c.is_ended.ensures.0 c.if-not-is_ended.false)) s.checked,
+  λ some. whole_where_ended _ ds (subst RecordReaderHasEnded c.self.view_is (c.is_ended.ensures.0 c.if-not-is_ended.false)) s.checked,
   λ sections. refl,
 )

@@ -1,11 +1,11 @@
 use Rattle.std.proofs.Common.{◌≡◌, false, true, sym, subst, ◌∙◌}
-use Rattle.iim_fields.proofs.{Words.IsEnded, Finish.whole_where_ended, Finish.ended_where_whole, Finish.ended_store}
+use Rattle.iim_fields.proofs.{Words.RecordReaderHasEnded, Finish.whole_where_ended, Finish.ended_where_whole, Finish.ended_store}
 use Rattle.iim_fields.proofs.fields.Fields.into_envelope.Goals as goal
 
 pub returns-then-not-is_ended-clause-refused : goal.returns-then-not-is_ended-clause-refused
 returns-then-not-is_ended-clause-refused c ds s sections =
     let ended : false ≡ true = sym c.if-not-is_ended.true
-    ∙ c.is_ended.ensures.1 (subst IsEnded (sym c.self.view_is) (ended_where_whole _ ds s.between s.checked sections)) in absurd cc
+    ∙ c.is_ended.ensures.1 (subst RecordReaderHasEnded (sym c.self.view_is) (ended_where_whole _ ds s.between s.checked sections)) in absurd cc
 
 pub invariant_of-result : goal.invariant_of-result
 invariant_of-result c =
@@ -13,4 +13,4 @@ invariant_of-result c =
     (c.is_ended.ensures.0 c.if-not-is_ended.false)
 
 pub returns-clause-whole : goal.returns-clause-whole
-returns-clause-whole c ds s = whole_where_ended _ ds (subst IsEnded c.self.view_is (c.is_ended.ensures.0 c.if-not-is_ended.false)) s.checked
+returns-clause-whole c ds s = whole_where_ended _ ds (subst RecordReaderHasEnded c.self.view_is (c.is_ended.ensures.0 c.if-not-is_ended.false)) s.checked

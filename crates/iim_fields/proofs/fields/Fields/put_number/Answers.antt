@@ -1,9 +1,9 @@
 use Rattle.std.proofs.Common.{ℕ, List, refl}
-use Rattle.iim_fields.proofs.{Words.data_of, Words.MayTake, Words.Admits, Wholes.number_stands, Wholes.reading_whole, Wholes.may_take}
+use Rattle.iim_fields.proofs.{Words.data_of, Words.MayAcceptDataset, Words.AdmitsDataset, Wholes.number_stands, Wholes.reading_whole, Wholes.may_take}
 use Rattle.iim_fields.proofs.fields.Fields.put_number.Goals as goal
 
 -- The check may accept the dataset.
-may : (c : goal.After-put) (xs : List ℕ) → Admits c.args.self.now c.args.head xs → MayTake c.self.inside.check c.args.head xs
+may : (c : goal.After-put) (xs : List ℕ) → AdmitsDataset c.args.self.now c.args.head xs → MayAcceptDataset c.self.inside.check c.args.head xs
 may c xs admits = may_take c.self.invariant c.self.view_is c.requires.between admits
 
 pub put-requires-clause-admitted : goal.put-requires-clause-admitted

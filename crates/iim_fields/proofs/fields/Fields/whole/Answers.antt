@@ -1,5 +1,5 @@
 use Rattle.std.proofs.Common.{◌≡◌, List, [], ◌∷◌, ◌++◌, ap, subst, sym, ◌∙◌, arith, refl}
-use Rattle.iim_fields.proofs.Words.{HasStored, fields_of, vec_capacity, and_from, and_left, and_right, Dataset, data_of, StandsAfter, FieldsPlace, place_of}
+use Rattle.iim_fields.proofs.Words.{HasStored, fields_of, vec_capacity, and_from, and_left, and_right, Dataset, data_of, HasReadDatasets, FieldsPlace, reader_view}
 use Rattle.iim_fields.proofs.Stand.{keeps_holds, store_is, takes_holds}
 use Rattle.iim_fields.proofs.Wholes.{kept_whole, none_between, none_where, octets_within, reading_whole, stands_whole, whole_exact}
 use Rattle.iim_fields.proofs.fields.Fields.whole.Goals as goal
@@ -35,9 +35,10 @@ stored c =
     c.keep.ensures.octets c.keep.ensures.entries
 
 -- The reader is in the state after the dataset.
-stands : (c : goal.After-keep) (f : FieldsPlace) → place_of c.self.inside.check c.self.inside.limits c.self.inside.store c.self.inside.size.items ≡ f
-    → (ds : List Dataset) → StandsAfter f ds
-    → StandsAfter (place_of c.whole.new.self c.self.inside.limits c.keep.new.self c.self.inside.size.items) (ds ++ data_of c.args.head c.args.octets.now ∷ [])
+stands : (c : goal.After-keep) (f : FieldsPlace) → reader_view c.self.inside.check c.self.inside.limits c.self.inside.store c.self.inside.size.items ≡ f
+    → (ds : List Dataset) → HasReadDatasets f ds
+    → HasReadDatasets (reader_view c.whole.new.self c.self.inside.limits c.keep.new.self c.self.inside.size.items)
+    (ds ++ data_of c.args.head c.args.octets.now ∷ [])
 stands c f view =
     let keeps = sym c.is_kept.ensures ∙ c.if-not-is_kept.false in
     let fits = none_where _ (sym c.has_room.ensures ∙ c.if-not-has_room.false) in

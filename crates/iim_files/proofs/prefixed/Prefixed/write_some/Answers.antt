@@ -1,14 +1,14 @@
 use Rattle.std.proofs.Common.{◌≡◌, ◌+◌, ◌<◌, ◌≤◌, List, ℕ, ap, append-nil, arith, inl, length, refl, sym, take, true, ◌∙◌}
 use Rattle.std.proofs.lemmas.List.{length-take-le}
 use Rattle.iim_files.specs.Format.{prefixed}
-use Rattle.iim_files.proofs.Writing.{GoesOut, appended_by, cut_out, few_out, keeps_none, unbroken_or}
+use Rattle.iim_files.proofs.Writing.{IsWrittenWithPrefix, appended_by, cut_out, few_out, keeps_none, unbroken_or}
 use Rattle.iim_files.proofs.prefixed.Prefixed.write_some.Goals as goal
 
-pub whole_in-whole-requires : goal.whole_in-whole-requires
-whole_in-whole-requires g c =
+pub count_complete-whole-requires : goal.count_complete-whole-requires
+count_complete-whole-requires g c =
     let s = c.args.self.now in
-    few_out s.prefix.now s.fresh c.args.piece.now c.lay_out-taken.result.0 c.in-Err.out c.as_slice.result.now
-    (c.as_slice.ensures ∙ c.lay_out-taken.ensures.laid) c.in-Err.ensures.err.0
+    few_out s.prefix.now s.fresh c.args.piece.now c.append_prefixed-taken.result.0 c.in-Err.out c.as_slice.result.now
+    (c.as_slice.ensures ∙ c.append_prefixed-taken.ensures.laid) c.in-Err.ensures.err.0
 
 pub returns-then-whole-eq0-clause-err : goal.returns-then-whole-eq0-clause-err
 returns-then-whole-eq0-clause-err g c =
@@ -16,32 +16,32 @@ returns-then-whole-eq0-clause-err g c =
     let p = s.prefix.now in
     let piece = c.args.piece.now in
     let block = c.as_slice.result.now in
-    let is = c.as_slice.ensures ∙ c.lay_out-taken.ensures.laid in
+    let is = c.as_slice.ensures ∙ c.append_prefixed-taken.ensures.laid in
     let out = c.in-Err.out in
     let stopped = c.in-Err.ensures.err in
-    let whole = c.whole_in-whole in
-    let goes : GoesOut p s.fresh (take whole.result.0 piece) whole.result.1 (take out block) = record {
-      is = cut_out p s.fresh piece c.lay_out-taken.result.0 out block is stopped.0 ∙ whole.ensures.parts;
+    let whole = c.count_complete-whole in
+    let goes : IsWrittenWithPrefix p s.fresh (take whole.result.0 piece) whole.result.1 (take out block) = record {
+      is = cut_out p s.fresh piece c.append_prefixed-taken.result.0 out block is stopped.0 ∙ whole.ensures.parts;
       at = λ some. sym whole.ensures.begins ∙ whole.ensures.front some;
     } in
     let counts : s.count + out ≡ s.count + length (take out block) = ap (λ n. s.count + n) (sym (length-take-le out block (omega (arith, stopped.0)))) in
     let grown = appended_by p s.count s.cut s.fresh s.broken c.if-self.false (g.W.Target.state s.writer).octets (g.W.Target.state c.put.new.writer).octets
     (take whole.result.0 piece) whole.result.1 (take out block) (s.count + out) whole.result.2 true stopped.1 goes whole.ensures.begins refl counts in
     let kept = keeps_none _ _ whole.result.0 piece c.if-whole-eq0.true grown in
-    let same = c.refuse-then-whole-eq0.ensures.same in
-    rw c.refuse-then-whole-eq0.ensures.fault (
+    let same = c.count_failure-then-whole-eq0.ensures.same in
+    rw c.count_failure-then-whole-eq0.ensures.fault (
       rw (same.0, same.1, same.2, same.3, same.4, same.5) kept,
-      (c.refuse-then-whole-eq0.ensures.counted, refl),
+      (c.count_failure-then-whole-eq0.ensures.counted, refl),
     )
 
 pub returns-in-Ok-clause-ok : goal.returns-in-Ok-clause-ok
 returns-in-Ok-clause-ok g c =
     let s = c.args.self.now in
     let p = s.prefix.now in
-    let taken = c.lay_out-taken in
+    let taken = c.append_prefixed-taken in
     let text = take taken.result.0 c.args.piece.now in
     let block = c.as_slice.result.now in
-    let goes : GoesOut p s.fresh text 0 block = record {
+    let goes : IsWrittenWithPrefix p s.fresh text 0 block = record {
       is = c.as_slice.ensures ∙ taken.ensures.laid ∙ sym (append-nil (prefixed p s.fresh text));
       at = λ some. absurd (omega (arith, some));
     } in
@@ -58,12 +58,12 @@ returns-else-whole-eq0-clause-ok g c =
     let p = s.prefix.now in
     let piece = c.args.piece.now in
     let block = c.as_slice.result.now in
-    let is = c.as_slice.ensures ∙ c.lay_out-taken.ensures.laid in
+    let is = c.as_slice.ensures ∙ c.append_prefixed-taken.ensures.laid in
     let out = c.in-Err.out in
     let stopped = c.in-Err.ensures.err in
-    let whole = c.whole_in-whole in
-    let goes : GoesOut p s.fresh (take whole.result.0 piece) whole.result.1 (take out block) = record {
-      is = cut_out p s.fresh piece c.lay_out-taken.result.0 out block is stopped.0 ∙ whole.ensures.parts;
+    let whole = c.count_complete-whole in
+    let goes : IsWrittenWithPrefix p s.fresh (take whole.result.0 piece) whole.result.1 (take out block) = record {
+      is = cut_out p s.fresh piece c.append_prefixed-taken.result.0 out block is stopped.0 ∙ whole.ensures.parts;
       at = λ some. sym whole.ensures.begins ∙ whole.ensures.front some;
     } in
     let counts : s.count + out ≡ s.count + length (take out block) = ap (λ n. s.count + n) (sym (length-take-le out block (omega (arith, stopped.0)))) in (

@@ -2,7 +2,7 @@ use Rattle.iim_pack.proofs.Orders.{finish_order}
 use Rattle.iim_pack.proofs.Words.{length, ap, sym, ◌∙◌, arith, if_none}
 use Rattle.iim_object.specs.States.Writing as object
 use Rattle.iim_pack.specs.States.Packing.{finish_cause}
-use Rattle.iim_pack.proofs.{Endings.ends, Finishings.may_end, Finishings.finished, Finishings.unfinished, Beginnings.begun_ends}
+use Rattle.iim_pack.proofs.{Endings.ends, Finishings.may_end, Finishings.finished, Finishings.unfinished, Beginnings.packed_ends}
 use Rattle.iim_pack.proofs.packer.Packer.finish.Goals as goal
 
 pub end_object-requires-clause-fits : goal.end_object-requires-clause-fits
@@ -23,7 +23,7 @@ returns-in-Ok-clause-ok g c =
     rw (← c.self.view_is)
     (finished g.W.Target.state c.self.inside.before old c.args.trailer.now c.in-Ok.writer c.story_laws.ensures.events_are_packed_as_lines
     c.message_laws.ensures.canonical_objects_are_messages may
-    (ends g.W.Target.state old last _ c.in-Ok.writer c.texts_join.ensures lengthens finishes))
+    (ends g.W.Target.state old last _ c.in-Ok.writer c.writes_join.ensures lengthens finishes))
 
 pub returns-in-Err-clause-broke : goal.returns-in-Err-clause-broke
 returns-in-Err-clause-broke g c =
@@ -34,7 +34,7 @@ returns-in-Err-clause-broke g c =
     (rw (c.as_slice.ensures.value ∙ octets) at c.in-Err.ensures.broke)))
 
 pub returns-in-Ok-clause-begun : goal.returns-in-Ok-clause-begun
-returns-in-Ok-clause-begun g c = begun_ends g.W.Target.state c.args.self c.args.trailer.now c.in-Ok.writer c.texts_join.ensures (returns-in-Ok-clause-ok g c)
+returns-in-Ok-clause-begun g c = packed_ends g.W.Target.state c.args.self c.args.trailer.now c.in-Ok.writer c.writes_join.ensures (returns-in-Ok-clause-ok g c)
 
 pub returns-then-is_failed-clause-order : goal.returns-then-is_failed-clause-order
 returns-then-is_failed-clause-order g c = grind (arith, finish_order)

@@ -2,7 +2,7 @@ use Rattle.std.proofs.Common.{arith}
 use Rattle.iim_pack.proofs.Orders.{line_end_order}
 use Rattle.iim_pack.proofs.Words.{[], ◌∷◌, sym, ◌∙◌, on_ok_weaker, on_err_weaker, if_none, LineEnd, line_end_cause}
 use Rattle.iim_object.specs.States.Writing as object
-use Rattle.iim_pack.proofs.{Goings.of_none, Goings.lengthened, Goings.broken, Goings.may_write, Beginnings.begun_on}
+use Rattle.iim_pack.proofs.{Goings.of_none, Goings.lengthened, Goings.broken, Goings.may_write, Beginnings.packed_on}
 use Rattle.iim_pack.proofs.packer.Packer.line_end.Goals as goal
 
 pub returns-clause-ok : goal.returns-clause-ok
@@ -15,7 +15,7 @@ pub returns-clause-broke : goal.returns-clause-broke
 returns-clause-broke g c =
     let old = c.self.inside.object in
     let may = may_write old 2 2 (sym c.is_failed.ensures ∙ c.if-is_failed.false)
-    (rw (c.plan.ensures, c.total.ensures.total) at (sym c.passes_plan.ensures ∙ c.if-passes_plan.false)) in
+    (rw (c.plan.ensures, c.total.ensures.total) at (sym c.exceeds_plan.ensures ∙ c.if-exceeds_plan.false)) in
     if_none (line_end_cause c.args.self.now) _
     (rw (← c.self.view_is)
     (on_err_weaker c.write.result (broken g.W.Target.state c.self.inside.before old c.write.new.self (LineEnd ∷ []) c.lines_are_packed_as_their_events.ensures)
@@ -23,10 +23,10 @@ returns-clause-broke g c =
 
 pub returns-clause-begun : goal.returns-clause-begun
 returns-clause-begun g c =
-    on_ok_weaker c.write.result (begun_on g.W.Target.state c.args.self.now _ (LineEnd ∷ []) c.texts_join.ensures) (returns-clause-ok g c)
+    on_ok_weaker c.write.result (packed_on g.W.Target.state c.args.self.now _ (LineEnd ∷ []) c.writes_join.ensures) (returns-clause-ok g c)
 
 pub returns-then-is_failed-clause-order : goal.returns-then-is_failed-clause-order
 returns-then-is_failed-clause-order g c = grind (arith, line_end_order)
 
-pub returns-then-passes_plan-clause-order : goal.returns-then-passes_plan-clause-order
-returns-then-passes_plan-clause-order g c = grind (arith, line_end_order)
+pub returns-then-exceeds_plan-clause-order : goal.returns-then-exceeds_plan-clause-order
+returns-then-exceeds_plan-clause-order g c = grind (arith, line_end_order)

@@ -8,7 +8,7 @@ use Rattle.iim_pack.proofs.packer.Packer.start.Goals as goal
 pub returns-in-Err-put_fields-clause-fault : goal.returns-in-Err-put_fields-clause-fault
 returns-in-Err-put_fields-clause-fault g c =
     if_none (start_cause c.args.head.now c.args.plan) _
-    (rw c.unbegun-in-Err-put_fields.ensures
+    (rw c.start_fault-in-Err-put_fields.ensures
     (inr (fields_broke g.W.Target.state c.args.writer c.args.envelope.now c.args.head.now c.args.plan (record {
       cause = causes.Write;
       writer = c.put_fields.new.writer;
@@ -21,9 +21,9 @@ returns-in-Ok-open_object-clause-ok g c =
     let front = c.as_slice-front.ensures.value ∙ c.head_text-text.ensures.octets in
     let opens = rw (c.in-Ok.ensures, front) at c.in-Ok-open_object.ensures.ok in
     started state c.args.writer c.put_fields.new.writer c.args.envelope.now c.args.head.now c.args.plan c.in-Ok-put_fields.before c.in-Ok-open_object.object
-    c.texts_join.ensures
+    c.writes_join.ensures
     c.put_fields.ensures.envelope c.head_text-text.ensures.header c.in-Ok-put_fields.ensures.ok c.in-Ok-put_fields.ensures.all
-    c.in-Ok-put_fields.ensures.patience opens
+    c.in-Ok-put_fields.ensures.retry_limit opens
 
 pub returns-in-Err-open_object-clause-fault : goal.returns-in-Err-open_object-clause-fault
 returns-in-Err-open_object-clause-fault g c =
@@ -32,19 +32,19 @@ returns-in-Err-open_object-clause-fault g c =
     let front = c.as_slice-front.ensures.value ∙ c.head_text-text.ensures.octets in
     let halts = rw (c.in-Ok.ensures, front) at c.in-Err-open_object.ensures.err in
     if_none (start_cause c.args.head.now c.args.plan) _
-    (rw c.unbegun-in-Err-open_object.ensures
+    (rw c.start_fault-in-Err-open_object.ensures
     (inr (object_broke state c.args.writer c.put_fields.new.writer c.args.envelope.now c.args.head.now c.args.plan c.in-Ok-put_fields.before fault
     (record {
       cause = fault.cause;
       writer = fault.writer;
       written = c.in-Ok-put_fields.before + fault.written;
-    }) c.texts_join.ensures c.in-Ok-put_fields.ensures.ok c.in-Ok-put_fields.ensures.all c.in-Ok-put_fields.ensures.patience halts refl refl refl)))
+    }) c.writes_join.ensures c.in-Ok-put_fields.ensures.ok c.in-Ok-put_fields.ensures.all c.in-Ok-put_fields.ensures.retry_limit halts refl refl refl)))
 
 pub returns-in-Ok-open_object-clause-begun : goal.returns-in-Ok-open_object-clause-begun
 returns-in-Ok-open_object-clause-begun g c = (returns-in-Ok-open_object-clause-ok g c).begun
 
-pub returns-then-passes_plan-clause-order : goal.returns-then-passes_plan-clause-order
-returns-then-passes_plan-clause-order g c = grind (arith, start_order)
+pub returns-then-exceeds_plan-clause-order : goal.returns-then-exceeds_plan-clause-order
+returns-then-exceeds_plan-clause-order g c = grind (arith, start_order)
 
 pub returns-in-Ok-open_object-clause-order : goal.returns-in-Ok-open_object-clause-order
 returns-in-Ok-open_object-clause-order g c = grind (arith, start_order)

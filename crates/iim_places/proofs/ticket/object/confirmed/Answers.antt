@@ -3,4 +3,4 @@ use Rattle.iim_places.proofs.ObjectPlaces.{value_refused}
 use Rattle.iim_places.proofs.ticket.object.confirmed.Goals as goal
 
 pub returns-in-Err-clause-none : goal.returns-in-Err-clause-none
-returns-in-Err-clause-none c = value_refused c.lower_laws.ensures.tokens c.args.object (Confirmed c.args.size) c.in-Err.field-0 c.in-Err.ensures.refused
+returns-in-Err-clause-none c = value_refused c.layer_lemmas.ensures.tokens c.args.object (Confirmed c.args.size) c.in-Err.field-0 c.in-Err.ensures.refused

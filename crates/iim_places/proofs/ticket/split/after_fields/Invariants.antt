@@ -1,5 +1,5 @@
-use Rattle.iim_places.specs.Restoring.{FieldsBefore}
+use Rattle.iim_places.specs.Restoring.{FieldsPrecede}
 use Rattle.iim_places.proofs.ticket.split.after_fields.Given as goal
 
 abbrev pub invariant-loop : goal.invariant-loop
-invariant-loop l = FieldsBefore l.counter l.octets l.rest
+invariant-loop l = FieldsPrecede l.counter l.octets l.rest

@@ -1,13 +1,13 @@
-use Rattle.iim_unpack.proofs.Words.{Head, List, TellsWhole, subst, sym, ℕ, ◌≡◌}
+use Rattle.iim_unpack.proofs.Words.{Head, List, ConsumesWhole, subst, sym, ℕ, ◌≡◌}
 use Rattle.iim_dataset.specs.declared.sink.Step.TheVariants.{Last, More}
 use Rattle.iim_unpack.specs.declared.parts.Parts.{Parts}
 use Rattle.iim_unpack.proofs.Closing.{answered}
 use Rattle.iim_unpack.proofs.parts.Parts.whole.Goals as goal
 
 -- by the dataset's number and count
-of_head : (old new : Parts) (h : Head) (xs : List ℕ) (rec : ℕ) → h.rec ≡ rec → TellsWhole old (record { rec = rec; set = h.set; count = h.count }) xs new
-    → TellsWhole old h xs new
-of_head old new h xs rec is t = subst (λ (n : ℕ). TellsWhole old (record { rec = n; set = h.set; count = h.count }) xs new) (sym is) t
+of_head : (old new : Parts) (h : Head) (xs : List ℕ) (rec : ℕ) → h.rec ≡ rec → ConsumesWhole old (record { rec = rec; set = h.set; count = h.count }) xs new
+    → ConsumesWhole old h xs new
+of_head old new h xs rec is t = subst (λ (n : ℕ). ConsumesWhole old (record { rec = n; set = h.set; count = h.count }) xs new) (sym is) t
 
 pub returns-in-9-clause-taken : goal.returns-in-9-clause-taken
 returns-in-9-clause-taken g c =

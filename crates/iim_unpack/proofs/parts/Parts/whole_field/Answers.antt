@@ -10,6 +10,6 @@ returns-clause-takes c =
 pub returns-clause-whole : goal.returns-clause-whole
 returns-clause-whole c is =
     let w = c.whole.ensures in
-    whole_went c.lower_laws.ensures
+    whole_went c.layer_lemmas.ensures
     (record { between = c.requires.takes.fields; count = c.requires.count; limits = w.bounds.limits; stands = (w.took is).stands; message = refl })
     (w.kept is) refl

@@ -10,7 +10,7 @@ pub returns-in-Ok-clause-taken : goal.returns-in-Ok-clause-taken
 returns-in-Ok-clause-taken g c =
     let run = c.args.octets.now in
     let some : IsSome c.pass_octets.new.object = subst (λ (o : Option State). IsSome o) (sym c.in-Ok.ensures.same) c.put_subfile.ensures.takes_calls in (
-      rw c.in-Ok.ensures.same (subfile_went g.met.S.StorySink.nothing g.met.S.StorySink.joined c.lower_laws.ensures c.args.self.now c.args.head
+      rw c.in-Ok.ensures.same (subfile_went g.met.S.StorySink.nothing g.met.S.StorySink.joined c.layer_lemmas.ensures c.args.self.now c.args.head
           c.whole_subfile.new.self c.put_subfile.new.self (record {
             eight = c.requires.subfile;
             takes = c.requires.takes;
@@ -26,7 +26,7 @@ pub returns-in-Err-clause-stopped : goal.returns-in-Err-clause-stopped
 returns-in-Err-clause-stopped g c =
     let run = c.args.octets.now in
     let f = c.in-Err.fault in
-    rw c.halt_on.ensures (subfile_stopped g.met.S.StorySink.nothing g.met.S.StorySink.joined c.lower_laws.ensures c.args.self.now c.args.head
+    rw c.rejection_on.ensures (subfile_stopped g.met.S.StorySink.nothing g.met.S.StorySink.joined c.layer_lemmas.ensures c.args.self.now c.args.head
     c.whole_subfile.new.self c.put_subfile.new.self (record {
       eight = c.requires.subfile;
       takes = c.requires.takes;

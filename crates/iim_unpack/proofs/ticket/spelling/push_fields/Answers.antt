@@ -7,7 +7,7 @@ pub loop-rec-init : goal.loop-rec-init
 loop-rec-init g c = record {
   done = [];
   parts = sym c.kept-kept.ensures;
-  put = rw (append-nil, ← c.kept_count.ensures) c.push_number.ensures;
+  put = rw (append-nil, ← c.stored_count.ensures) c.push_number.ensures;
 }
 
 pub loop-rec-preserved : goal.loop-rec-preserved

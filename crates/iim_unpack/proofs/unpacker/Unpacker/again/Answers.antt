@@ -1,5 +1,5 @@
 use Rattle.std.proofs.Common.{refl}
-use Rattle.iim_unpack.proofs.Feeding.{stands_new}
+use Rattle.iim_unpack.proofs.Feeding.{new_has_consumed}
 use Rattle.iim_unpack.proofs.unpacker.Unpacker.again.Goals as goal
 
 pub returns-clause-stands : goal.returns-clause-stands
@@ -7,7 +7,7 @@ returns-clause-stands c =
     let tags = c.new-self-inside.ensures in
     let object = c.new-self-inside-2.ensures in
     let message = c.new-self-inside-3.ensures in
-    (stands_new c.lower_laws.ensures _ refl refl refl tags.stands tags.takes_calls tags.between c.again.ensures.stands
+    (new_has_consumed c.layer_lemmas.ensures _ refl refl refl tags.stands tags.takes_calls tags.between c.again.ensures.stands
     object.stands message.stands object.takes_calls message.takes_calls).0
 
 pub invariant_of-self : goal.invariant_of-self
@@ -15,5 +15,5 @@ invariant_of-self c =
     let tags = c.new-self-inside.ensures in
     let object = c.new-self-inside-2.ensures in
     let message = c.new-self-inside-3.ensures in
-    λ none. (stands_new c.lower_laws.ensures _ refl refl refl tags.stands tags.takes_calls tags.between c.again.ensures.stands
+    λ none. (new_has_consumed c.layer_lemmas.ensures _ refl refl refl tags.stands tags.takes_calls tags.between c.again.ensures.stands
     object.stands message.stands object.takes_calls message.takes_calls).1

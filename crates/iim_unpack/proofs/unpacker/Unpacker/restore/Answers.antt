@@ -1,27 +1,27 @@
-use Rattle.iim_unpack.proofs.Words.{Split, heads_within, split_told, ticket_at}
-use Rattle.iim_places.proofs.PlacesTold.{limit_told, no_ticket}
+use Rattle.iim_unpack.proofs.Words.{Contents, heads_within, contents_from, ticket_at}
+use Rattle.iim_places.proofs.PlacesOfTickets.{limit_reported, no_ticket}
 use Rattle.iim_unpack.proofs.unpacker.Unpacker.restore.Goals as goal
 
 pub returns-in_default-clause-fault : goal.returns-in_default-clause-fault
 returns-in_default-clause-fault c =
-    let s : Split = split_told c.in_ok-parts.parts in
+    let s : Contents = contents_from c.in_ok-parts.parts in
     let splits = c.in_ok-parts.ensures.parts in (
       (s, splits),
       no_ticket c.place_laws.ensures.places_are_possible_by_layers c.place_laws.ensures.small_places_were_possible
-          c.place_laws.ensures.tickets_of_places_are_split c.place_laws.ensures.tickets_have_one_split c.args.ticket.now s splits c.in_default.ensures.none,
+          c.place_laws.ensures.place_tickets_have_contents c.place_laws.ensures.contents_are_unique c.args.ticket.now s splits c.in_default.ensures.none,
     )
 
 pub returns-in-Some-limit_fault-clause-fault : goal.returns-in-Some-limit_fault-clause-fault
 returns-in-Some-limit_fault-clause-fault c =
-    let s : Split = split_told c.in_ok-parts.parts in
+    let s : Contents = contents_from c.in_ok-parts.parts in
     let at = c.in-Some.ensures.some.at in
     let is = ticket_at c.place_laws.ensures.places_are_possible_by_layers c.place_laws.ensures.small_places_were_possible c.args.ticket.now s at.place
     c.in_ok-parts.ensures.parts at.parts at.leads c.in-Some.ensures.some.small in
-    limit_told c.args.limits c.args.ticket.now s c.in-Some.readers at is c.in-Some-limit_fault.fault c.in-Some-limit_fault.ensures.some
+    limit_reported c.args.limits c.args.ticket.now s c.in-Some.readers at is c.in-Some-limit_fault.fault c.in-Some-limit_fault.ensures.some
 
 pub returns-in-Err-clause-fault : goal.returns-in-Err-clause-fault
 returns-in-Err-clause-fault c =
-    let s : Split = split_told c.in_ok-parts.parts in
+    let s : Contents = contents_from c.in_ok-parts.parts in
     let at = c.in-Some.ensures.some.at in
     let is = ticket_at c.place_laws.ensures.places_are_possible_by_layers c.place_laws.ensures.small_places_were_possible c.args.ticket.now s at.place
     c.in_ok-parts.ensures.parts at.parts at.leads c.in-Some.ensures.some.small in

@@ -8,14 +8,14 @@ loop-left-init c =
       within = omega arith;
       line = refl;
       marks = c.requires;
-    }) c.calm_before-first.ensures.count c.calm_before-first.ensures.digits (omega arith)
+    }) c.first_marked-first.ensures.count c.first_marked-first.ensures.digits (omega arith)
 
 pub loop-left-preserved : goal.loop-left-preserved
 loop-left-preserved c =
-    calm_after (λ k. (c.type_inv.octets k).fits) c.loop-left.invariant c.if-left-eq1.false (sym c.may_stand.ensures ∙ c.if-not-may_stand.false)
-    c.calm_before-next.ensures.count c.calm_before-next.ensures.digits refl
+    calm_after (λ k. (c.type_inv.octets k).fits) c.loop-left.invariant c.if-left-eq1.false (sym c.may_be_in_line.ensures ∙ c.if-not-may_be_in_line.false)
+    c.first_marked-next.ensures.count c.first_marked-next.ensures.digits refl
 
 pub loop-left-smaller : goal.loop-left-smaller
 loop-left-smaller c =
     let next = loop-left-preserved c in
-    omega (arith, next.within, some_left (drop (c.loop-left.at + (1 + c.calm_before-next.result.0)) c.args.octets.now) _ next.marks)
+    omega (arith, next.within, some_left (drop (c.loop-left.at + (1 + c.first_marked-next.result.0)) c.args.octets.now) _ next.marks)

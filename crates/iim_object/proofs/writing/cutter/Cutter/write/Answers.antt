@@ -10,7 +10,7 @@ loop-at-init g c = record {
   within = omega arith;
   room = c.requires;
   same_room = refl;
-  lengthened = goes_nowhere g.W.Target.state (writing_of c.args.self.now) c.texts_join.ensures
+  lengthened = goes_nowhere g.W.Target.state (writing_of c.args.self.now) c.writes_join.ensures
       (may_write (writing_of c.args.self.now) (length c.args.octets.now) (sym c.write_cause.ensures ∙ c.in_default.is));
 }
 
@@ -21,12 +21,12 @@ loop-at-preserved g c =
     let more = (rw (take_rest xs at) at c.in-Ok.ensures.ok.2) in
     record {
       within = omega (arith, ap length (take_rest xs at), length-drop at xs, c.in-Ok.ensures.ok.1, c.loop-at.invariant.within);
-      room = c.take_front.ensures.room;
-      same_room = c.take_front.ensures.same_room ∙ c.loop-at.invariant.same_room;
+      room = c.consume_prefix.ensures.room;
+      same_room = c.consume_prefix.ensures.same_room ∙ c.loop-at.invariant.same_room;
       lengthened = rw (take-add at c.in-Ok.taken xs)
-          (leads_on g.W.Target.state (writing_of c.args.self.now) (writing_of c.loop-at.self) (writing_of c.take_front.new.self) (take at xs)
+          (leads_on g.W.Target.state (writing_of c.args.self.now) (writing_of c.loop-at.self) (writing_of c.consume_prefix.new.self) (take at xs)
           (take c.in-Ok.taken (drop at xs))
-          c.texts_join.ensures c.loop-at.invariant.lengthened more);
+          c.writes_join.ensures c.loop-at.invariant.lengthened more);
     }
 
 pub returns-in-Err-clause-broke : goal.returns-in-Err-clause-broke
@@ -37,5 +37,5 @@ returns-in-Err-clause-broke g c =
     let here = (rw (take_rest xs at) at c.in-Err.ensures.err.1) in
     if_none (write_cause a (length xs)) _
     (rw (take-append-drop at xs) at
-    (breaks_later g.W.Target.state a (writing_of c.loop-at.self) (writing_of c.take_front.new.self) (take at xs) (drop at xs) c.texts_join.ensures
+    (breaks_later g.W.Target.state a (writing_of c.loop-at.self) (writing_of c.consume_prefix.new.self) (take at xs) (drop at xs) c.writes_join.ensures
     c.loop-at.invariant.lengthened here))

@@ -1,12 +1,12 @@
-use Rattle.iim_object.proofs.Words.{◌≡◌, ◌≤◌, ◌-◌, length, take, Lengthens, HasRoom, writing_of}
+use Rattle.iim_object.proofs.Words.{◌≡◌, ◌≤◌, ◌-◌, length, take, WriterAccepts, CutterHasCapacity, writing_of}
 use Rattle.iim_object.proofs.writing.cutter.Cutter.write.Given as goal
 
 abbrev pub invariant-loop-at : goal.invariant-loop-at
 invariant-loop-at g l = record {
   within : l.at ≤ length l.octets;
-  room : HasRoom l.self;
+  room : CutterHasCapacity l.self;
   same_room : l.self.held.room ≡ l.fn.self.held.room;
-  lengthened : Lengthens (g.W.Target.state) (writing_of l.fn.self) (writing_of l.self) (take l.at l.octets);
+  lengthened : WriterAccepts (g.W.Target.state) (writing_of l.fn.self) (writing_of l.self) (take l.at l.octets);
 }
 
 abbrev pub decreases-loop-at : goal.decreases-loop-at

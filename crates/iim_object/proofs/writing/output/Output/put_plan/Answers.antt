@@ -7,10 +7,10 @@ returns-in-Err-clause-err g c = cuts_more _ _ _ _ _ (rw c.mode_of.ensures at c.i
 pub returns-in-Err-put_number-clause-err : goal.returns-in-Err-put_number-clause-err
 returns-in-Err-put_number-clause-err g c =
     let first = (rw c.mode_of.ensures at c.in-Ok.ensures.ok) in
-    cuts_later _ _ _ _ _ _ c.texts_join.ensures first (cuts_more _ _ _ _ _ c.in-Err-put_number.ensures.err)
+    cuts_later _ _ _ _ _ _ c.writes_join.ensures first (cuts_more _ _ _ _ _ c.in-Err-put_number.ensures.err)
 
 pub returns-clause-err : goal.returns-clause-err
 returns-clause-err g c =
     let first = (rw c.mode_of.ensures at c.in-Ok.ensures.ok) in
-    on_err c.put_size.result _ _ (λ q. cuts_later _ _ _ _ _ _ c.texts_join.ensures first
-    (cuts_later _ _ _ _ _ _ c.texts_join.ensures c.in-Ok-put_number.ensures.ok q)) c.put_size.ensures.err
+    on_err c.put_size_number.result _ _ (λ q. cuts_later _ _ _ _ _ _ c.writes_join.ensures first
+    (cuts_later _ _ _ _ _ _ c.writes_join.ensures c.in-Ok-put_number.ensures.ok q)) c.put_size_number.ensures.err

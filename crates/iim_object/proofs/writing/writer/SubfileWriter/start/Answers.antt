@@ -1,10 +1,10 @@
-use Rattle.iim_object.proofs.Words.{◌≡◌, [], refl, sym, ap, ◌∙◌, arith, append-nil, length, canonical_stream, plan_datasets, octets_out, Plan}
+use Rattle.iim_object.proofs.Words.{◌≡◌, [], refl, sym, ap, ◌∙◌, arith, append-nil, length, canonical_stream, plan_datasets, octets_written, Plan}
 use Rattle.iim_object.specs.States.Writing.{plan_octets}
 use Rattle.iim_object.proofs.PlanParts.{plan_length}
 use Rattle.iim_object.proofs.writing.writer.SubfileWriter.start.Goals as goal
 
 -- Nothing but record 7 was written.
-only_plan : (plan : Plan) → plan_octets plan ≡ octets_out plan []
+only_plan : (plan : Plan) → plan_octets plan ≡ octets_written plan []
 only_plan plan = ap canonical_stream (sym (append-nil (plan_datasets plan.subfile plan.size)))
 
 pub invariant_of-result : goal.invariant_of-result

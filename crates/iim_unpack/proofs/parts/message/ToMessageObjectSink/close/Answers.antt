@@ -1,5 +1,5 @@
 use Rattle.std.proofs.Common.{refl}
-use Rattle.iim_unpack.proofs.Carrying.{message_refuses_end, tells_message_end}
+use Rattle.iim_unpack.proofs.Carrying.{message_refuses_end, message_emits_end}
 use Rattle.iim_unpack.proofs.parts.message.ToMessageObjectSink.close.Goals as goal
 
 pub returns-in-Ok-clause-ok : goal.returns-in-Ok-clause-ok
@@ -8,7 +8,7 @@ returns-in-Ok-clause-ok g c =
     let h = c.in-Ok.ensures in (
       refl,
       refl,
-      λ some. rw h.unchanged (tells_message_end g.S.StorySink.goes g.S.StorySink.failures a.message.now a.sink.now some
+      λ some. rw h.unchanged (message_emits_end g.S.StorySink.goes g.S.StorySink.failures a.message.now a.sink.now some
           (g.met.S.StorySink.nothing a.sink.now) h.whole),
     )
 

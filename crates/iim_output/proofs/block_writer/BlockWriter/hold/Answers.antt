@@ -1,9 +1,0 @@
-use Rattle.std.proofs.Common.{refl}
-use Rattle.iim_output.proofs.Holding.{holds, puts_of_put}
-use Rattle.iim_output.proofs.block_writer.BlockWriter.hold.Goals as goal
-
-pub returns-clause-put : goal.returns-clause-put
-returns-clause-put g c = holds g.W.Target.state c.texts_join.ensures _ _ c.args.text.now refl c.take.ensures refl
-
-pub returns-clause-puts : goal.returns-clause-puts
-returns-clause-puts g c = puts_of_put g.W.Target.state _ _ c.args.text.now (returns-clause-put g c) refl

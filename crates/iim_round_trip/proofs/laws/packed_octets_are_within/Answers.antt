@@ -1,5 +1,0 @@
-use Rattle.iim_round_trip.proofs.Packed.{within}
-use Rattle.iim_round_trip.proofs.laws.packed_octets_are_within.Goals as goal
-
-pub returns : goal.returns
-returns c = within c.packed_octets_are_admitted.ensures c.packed_subfiles_are_few.ensures

@@ -1,9 +1,0 @@
-use Rattle.std.proofs.Common.{arith}
-use Rattle.wire_story.proofs.Fronts.{end_taken, end_refused}
-use Rattle.wire_story.proofs.piece.take_end.Goals as goal
-
-pub returns-in-Ok-clause-taken : goal.returns-in-Ok-clause-taken
-returns-in-Ok-clause-taken g c = end_taken c.requires (omega (arith, c.requires.few)) c.in-Ok.ensures.ok c.in-Ok.ensures.calm
-
-pub returns-in-Err-clause-refused : goal.returns-in-Err-clause-refused
-returns-in-Err-clause-refused g c = end_refused c.requires (omega (arith, c.requires.few)) c.in-Err.ensures.front c.in-Err.ensures.counted
