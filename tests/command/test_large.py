@@ -9,7 +9,7 @@ import pytest
 import rules
 from envelopes import SMALLEST_FIELDS, SMALLEST_HEAD
 from speed import shapes
-from support.running import Argument, Command, RunsJob
+from support.running import Argument, Command, Ran
 from support.streams import NOON, SHOWN, SMALLEST, STORY, TEXT
 
 TOO_MANY = b"too many envelopes\n"
@@ -19,10 +19,10 @@ def expect(
     run: Command, words: Sequence[Argument], octets: bytes, output: bytes, errors: bytes = b""
 ) -> None:
     """Check the long output of a run that succeeds."""
-    expect_same(run(words, octets), RunsJob(0, output, errors))
+    expect_same(run(words, octets), Ran(0, output, errors))
 
 
-def expect_same(got: RunsJob, want: RunsJob) -> None:
+def expect_same(got: Ran, want: Ran) -> None:
     """Check a run with a long output, without the comparison that pytest would print."""
     sizes = got.status, len(got.output), len(got.errors), got.errors[-100:]
     assert sizes == (want.status, len(want.output), len(want.errors), want.errors[-100:])
@@ -48,19 +48,19 @@ def accepted(count: int, length: int = 114) -> bytes:
 @pytest.mark.xdist_group("large")
 def test_lists_at_most_a_million_envelopes(run: Command, million: Path) -> None:
     lines = accepted(1_000_000)
-    expect_same(run(["check", million]), RunsJob(0, lines, b""))
+    expect_same(run(["check", million]), Ran(0, lines, b""))
     row = b"%d TST 00000001 20240301 priority - size 14 subfiles 1 words 0/0 age - "
     rows = [row % number + b"repeats 1 copy free\n" for number in range(1, 1_000_001)]
     rows[0] = rows[0].replace(b"repeats 1", b"repeats -")
     report = b"".join(rows) + b"1000000 envelopes, 999999 repeated, 0 held\n"
-    expect_same(run(["audit", million, *NOON]), RunsJob(0, report, b""))
+    expect_same(run(["audit", million, *NOON]), Ran(0, report, b""))
     with million.open("ab") as to:
         to.write(SMALLEST)
-    expect_same(run(["check", million]), RunsJob(1, lines + TOO_MANY, b""))
+    expect_same(run(["check", million]), Ran(1, lines + TOO_MANY, b""))
     with million.open("r+b") as to:
         to.seek(114 * 1_000_000)
         to.write(STORY)
-    want = RunsJob(1, b"\n" * 1_000_000 + TEXT[:-1], lines + TOO_MANY)
+    want = Ran(1, b"\n" * 1_000_000 + TEXT[:-1], lines + TOO_MANY)
     expect_same(run(["story", million]), want)
     assert run(["audit", million, *NOON]) == (1, TOO_MANY, b"")
 

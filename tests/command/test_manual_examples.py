@@ -11,7 +11,7 @@ from typing import Any, Callable
 import pytest
 
 from support.manual import example
-from support.running import SECONDS, Command, RunsJob, in_shell, read_in_time, write, write_program
+from support.running import SECONDS, Command, Ran, in_shell, read_in_time, write, write_program
 from support.streams import ACCEPTED, MARKER, SMALLEST, STORY, head, sized, with_fields
 
 
@@ -68,7 +68,7 @@ def test_example_checks_many_files(run: Command, folder: Path) -> None:
     assert in_shell(run, folder, script)[1:] == (want + b"e.iim: cannot read\n", b"")
 
 
-def in_parallel(run: Command, folder: Path, words: str) -> RunsJob:
+def in_parallel(run: Command, folder: Path, words: str) -> Ran:
     """Run an example that uses GNU parallel."""
     if not shutil.which("parallel"):
         pytest.skip("GNU parallel is not there")

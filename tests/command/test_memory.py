@@ -11,7 +11,7 @@ from typing import Sequence
 import pytest
 
 from support.preloaded import loaded, run_refused
-from support.running import SECONDS, TOP, Argument, Command, RunsJob, write
+from support.running import SECONDS, TOP, Argument, Command, Ran, write
 from support.streams import NOON, SCRIPT, SHOWN, SMALLEST, STORY, split, with_fields
 
 
@@ -103,7 +103,7 @@ def prefixes(name: str, output: bytes) -> list[bytes]:
     return [b"".join(parts[:count]) for count in range(len(parts) + 1)]
 
 
-def is_out_of_memory(name: str, got: RunsJob, want: RunsJob) -> bool:
+def is_out_of_memory(name: str, got: Ran, want: Ran) -> bool:
     """Check whether a run has reported a failed allocation, after a prefix of a good run."""
     before, reported, after = got.errors.rpartition(b"out of memory\n")
     is_reported = bool(reported) and not after and want.errors.startswith(before)

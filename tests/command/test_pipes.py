@@ -9,7 +9,7 @@ from typing import Any
 import pytest
 
 from support.preloaded import loaded, run_counted
-from support.running import SECONDS, Command, RunsJob, read_in_time
+from support.running import SECONDS, Command, Ran, read_in_time
 from support.streams import ACCEPTED, MARKER, NOON, SHOWN, SMALLEST, STORY, STORY_ACCEPTED, TEXT
 from support.streams import head, sized
 
@@ -49,7 +49,7 @@ def test_prints_a_line_once_complete(run: Command) -> None:
 
 def with_pause(
     run: Command, name: str, first: bytes, want: tuple[bytes, bytes], rest: bytes
-) -> RunsJob:
+) -> Ran:
     """Run a command that must write this output and these errors before it gets the rest."""
     with run.start(name, **PIPES) as process:
         try:
@@ -61,7 +61,7 @@ def with_pause(
             output, errors = process.communicate(rest, timeout=SECONDS)
         finally:
             process.kill()
-    return RunsJob(process.returncode, want[0] + output, want[1] + errors)
+    return Ran(process.returncode, want[0] + output, want[1] + errors)
 
 
 def test_flushes_before_it_reads_on(run: Command) -> None:
@@ -85,7 +85,7 @@ class Counted:
         """Compile what counts writes."""
         self.run, self.library = run, loaded(folder, "writes")
 
-    def __call__(self, *words: str, octets: bytes = b"") -> tuple[RunsJob, bytes]:
+    def __call__(self, *words: str, octets: bytes = b"") -> tuple[Ran, bytes]:
         """Return what a run returned, and a byte for each write: '1' output, '2' errors."""
         return run_counted(self.library, [self.run.path, *words], octets, SECONDS)
 

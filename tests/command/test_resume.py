@@ -6,7 +6,7 @@ from typing import Sequence
 
 import pytest
 
-from support.running import Command, RunsJob, write
+from support.running import Command, Ran, write
 from support.streams import SMALLEST, STORY, TEXT, with_fields
 
 FORM = "the octets have not the form of a ticket"
@@ -21,7 +21,7 @@ class Receiver:
         """Begin without a saved state."""
         self.program, self.file = program, file
 
-    def __call__(self, octets: bytes) -> RunsJob:
+    def __call__(self, octets: bytes) -> Ran:
         """Run it on these bytes, from its saved state."""
         return self.program(["resume", self.file], octets)
 

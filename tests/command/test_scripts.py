@@ -6,13 +6,13 @@ from pathlib import Path
 
 import pytest
 
-from support.running import Command, RunsJob, write
+from support.running import Command, Ran, write
 from support.streams import SCRIPT, SMALLEST, dataset
 
 
-def refused(line: int, cause: str) -> RunsJob:
+def refused(line: int, cause: str) -> Ran:
     """Return what `pack` prints of a script with a fault in this line."""
-    return RunsJob(1, b"", f"refused: script line {line} cause {cause}\n".encode())
+    return Ran(1, b"", f"refused: script line {line} cause {cause}\n".encode())
 
 
 def with_lines(lines: list[bytes]) -> bytes:
@@ -61,7 +61,7 @@ LIMITS = [
 def test_limits_the_datasets_of_a_script(run: Command) -> None:
     for lines, want in LIMITS:
         fields = b"".join(dataset(2, 200, line[6:]) for line in lines)
-        packed = RunsJob(0, SMALLEST[:62] + fields + SMALLEST[62:], b"")
+        packed = Ran(0, SMALLEST[:62] + fields + SMALLEST[62:], b"")
         assert run(["pack"], with_lines(lines)) == (want or packed)
 
 
@@ -96,7 +96,7 @@ LENGTHS = [
 
 @pytest.mark.parametrize("length, consumed, want", LENGTHS)
 def test_reads_at_most_one_octet_past_the_limit(
-    run: Command, tmp_path: Path, length: int, consumed: int, want: RunsJob
+    run: Command, tmp_path: Path, length: int, consumed: int, want: Ran
 ) -> None:
     file = write(tmp_path / "long.script", b"")
     os.truncate(file, length)

@@ -8,7 +8,7 @@ from typing import Any, Sequence
 
 import pytest
 
-from support.running import Argument, Command, RunsJob, as_streams, in_pipe, read_in_time
+from support.running import Argument, Command, Ran, as_streams, in_pipe, read_in_time
 from support.running import SECONDS, usage_error, write
 from support.streams import ACCEPTED, MARKER, SHOWN, SMALLEST, STORY, TEXT, escaped
 
@@ -151,13 +151,13 @@ def test_flushes_a_file_before_the_next_name(run: Command, folder: Path) -> None
 
 def with_processor_time(
     arguments: Sequence[Argument], octets: bytes, folder: Path
-) -> tuple[float, RunsJob]:
+) -> tuple[float, Ran]:
     """Run a program, and return the seconds of a processor that it used."""
     before = resource.getrusage(resource.RUSAGE_CHILDREN)
     ran = subprocess.run(arguments, cwd=folder, timeout=SECONDS, **as_streams({}, octets))
     after = resource.getrusage(resource.RUSAGE_CHILDREN)
     used = after.ru_utime + after.ru_stime - before.ru_utime - before.ru_stime
-    return used, RunsJob(ran.returncode, ran.stdout, ran.stderr)
+    return used, Ran(ran.returncode, ran.stdout, ran.stderr)
 
 
 @pytest.mark.xdist_group("measured")

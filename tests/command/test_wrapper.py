@@ -11,7 +11,7 @@ from typing import Optional
 import pytest
 
 from support.repositories import BUILDS, BUILT_BY_GATE, PROMPT, Repository, is_running, wait_until
-from support.running import SECONDS, TOP, Command, RunsJob, usage_error, write_program
+from support.running import SECONDS, TOP, Command, Ran, usage_error, write_program
 from support.streams import COMMANDS, NOON, SCRIPT, SMALLEST
 
 
@@ -209,7 +209,7 @@ def test_signal_ends_the_build_of_the_wrapper(made: Repository, signal: str, sta
     made.expect("one", 2)
 
 
-def at_once(made: Repository, *words: str) -> RunsJob:
+def at_once(made: Repository, *words: str) -> Ran:
     """Return what `./iimwire` prints for arguments that need no build."""
     got = made.run("iimwire", *words)
     assert made.builds() == 0, words

@@ -11,7 +11,7 @@ import tempfile
 from pathlib import Path
 from typing import Any, Optional, Sequence, Tuple
 
-from support.running import SECONDS, Argument, RunsJob, as_streams
+from support.running import SECONDS, Argument, Ran, as_streams
 
 TESTS = Path(__file__).resolve().parent.parent
 
@@ -32,7 +32,7 @@ def loaded(folder: Path, name: str) -> Path:
 
 def run_counted(
     library: Path, arguments: Sequence[Argument], octets: bytes = b"", seconds: Optional[int] = None
-) -> Tuple[RunsJob, bytes]:
+) -> Tuple[Ran, bytes]:
     """Run a program; also return a byte for each write: '1' to the output, '2' to the errors."""
     with tempfile.TemporaryFile() as writes:
         at = writes.fileno()
@@ -40,12 +40,12 @@ def run_counted(
         options: dict[str, Any] = {"timeout": seconds, "input": octets, "capture_output": True}
         ran = subprocess.run(arguments, env=env, pass_fds=[at], **options)
         writes.seek(0)
-        return RunsJob(ran.returncode, ran.stdout, ran.stderr), writes.read()
+        return Ran(ran.returncode, ran.stdout, ran.stderr), writes.read()
 
 
 def run_refused(
     library: Path, refused: str, arguments: Sequence[Argument], **streams: Any
-) -> Tuple[RunsJob, bytes]:
+) -> Tuple[Ran, bytes]:
     """Run a program while an allocation fails.
 
     `refused` is the number of the request that fails (0: none). If a '+' follows, all later
@@ -58,4 +58,4 @@ def run_refused(
         env = {**os.environ, **variables}
         ran = subprocess.run(arguments, env=env, pass_fds=[at], timeout=SECONDS, **options)
         requests.seek(0)
-        return RunsJob(ran.returncode, ran.stdout, ran.stderr), requests.read()
+        return Ran(ran.returncode, ran.stdout, ran.stderr), requests.read()

@@ -8,7 +8,7 @@ import time
 from pathlib import Path
 from typing import Any, Callable, Mapping, Optional
 
-from support.running import SECONDS, TOP, Argument, RunsJob, as_streams, write_program
+from support.running import SECONDS, TOP, Argument, Ran, as_streams, write_program
 
 # Replaces `rt`: its program prints the source as it was when the build began, and the
 # arguments. Files control it: `slow` and `paused` make it wait, `edit` changes the source, `wrong`
@@ -97,11 +97,11 @@ class Repository:
         options = as_streams({"stdin": subprocess.DEVNULL, **streams}, b"")
         return subprocess.Popen(arguments, env=env, **options)
 
-    def run(self, program: str, *arguments: str) -> RunsJob:
+    def run(self, program: str, *arguments: str) -> Ran:
         """Run a program of the repository."""
         with self.start(self.top / program, *arguments) as process:
             output, errors = process.communicate(timeout=SECONDS)
-        return RunsJob(process.returncode, output, errors)
+        return Ran(process.returncode, output, errors)
 
     def builds(self) -> int:
         """Return how often the command was built, each time after its library."""

@@ -18,7 +18,7 @@ SECONDS = 300
 Argument = Union[str, bytes, "os.PathLike[str]", "os.PathLike[bytes]"]
 
 
-class RunsJob(NamedTuple):
+class Ran(NamedTuple):
     """What a run returned: its status, its output and its errors.
 
     A stream that was given to the run is empty here.
@@ -53,17 +53,17 @@ class Command:
 
     def __call__(
         self, arguments: Sequence[Argument] = (), octets: bytes = b"", **streams: Any
-    ) -> RunsJob:
+    ) -> Ran:
         """Run the program on these arguments and bytes of standard input."""
         options = as_streams(streams, octets)
         ran = subprocess.run([self.path, *arguments], timeout=SECONDS, **options)
-        return RunsJob(ran.returncode, ran.stdout or b"", ran.stderr or b"")
+        return Ran(ran.returncode, ran.stdout or b"", ran.stderr or b"")
 
     def start(self, *arguments: Argument, **streams: Any) -> subprocess.Popen[bytes]:
         """Start the program with a pipe as its standard input."""
         return subprocess.Popen([self.path, *arguments], stdin=subprocess.PIPE, **streams)
 
-    def until_read_fails(self, arguments: Sequence[Argument], octets: bytes) -> RunsJob:
+    def until_read_fails(self, arguments: Sequence[Argument], octets: bytes) -> Ran:
         """Run the program on a standard input that returns these bytes and then fails."""
         reader, writer = os.pipe()
         try:
@@ -81,7 +81,7 @@ class Command:
         octets: bytes = b"",
         full: str = "stdout",
         stdin: Optional[int] = None,
-    ) -> RunsJob:
+    ) -> Ran:
         """Run the program with a file of this capacity as its output, or as its errors (`full`)."""
         python = [sys.executable, "-I", "-S", "-c", LIMITED, str(capacity)]
         limited: list[Argument] = [*python, self.path, *arguments]
@@ -91,8 +91,8 @@ class Command:
             to.seek(0)
             written = to.read()
         if full == "stdout":
-            return RunsJob(ran.returncode, written, ran.stderr)
-        return RunsJob(ran.returncode, ran.stdout, written)
+            return Ran(ran.returncode, written, ran.stderr)
+        return Ran(ran.returncode, ran.stdout, written)
 
 
 def write(path: Path, octets: bytes) -> Path:
@@ -111,7 +111,7 @@ def write_program(path: Path, script: str) -> Path:
     return path
 
 
-def in_shell(run: Command, folder: Path, script: str, options: str = "") -> RunsJob:
+def in_shell(run: Command, folder: Path, script: str, options: str = "") -> Ran:
     """Run a script of bash in a directory, with the program as `iimwire` on the path."""
     programs = folder / "bin"
     programs.mkdir(exist_ok=True)
@@ -121,10 +121,10 @@ def in_shell(run: Command, folder: Path, script: str, options: str = "") -> Runs
     arguments = ["bash", "-c", f"{options}{script}"]
     streams = as_streams({"stdin": subprocess.DEVNULL}, b"")
     ran = subprocess.run(arguments, cwd=folder, env=env, timeout=SECONDS, **streams)
-    return RunsJob(ran.returncode, ran.stdout, ran.stderr)
+    return Ran(ran.returncode, ran.stdout, ran.stderr)
 
 
-def in_pipe(run: Command, folder: Path, script: str) -> RunsJob:
+def in_pipe(run: Command, folder: Path, script: str) -> Ran:
     """Run a script of bash in which a pipe has the status of its first failure."""
     return in_shell(run, folder, script, "set -o pipefail; ")
 

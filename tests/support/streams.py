@@ -6,7 +6,7 @@ from __future__ import annotations
 
 from typing import NamedTuple, Optional
 
-from support.running import RunsJob
+from support.running import Ran
 
 
 def dataset(record: int, number: int, octets: bytes) -> bytes:
@@ -110,9 +110,9 @@ def with_fields(*fields: tuple[int, bytes]) -> bytes:
     return SMALLEST[:62] + added + SMALLEST[62:]
 
 
-def checked(line: str) -> RunsJob:
+def checked(line: str) -> Ran:
     """Return what `check` prints if this is the line of its first and only envelope."""
-    return RunsJob(0 if line.startswith("accepted") else 1, f"1 {line}\n".encode(), b"")
+    return Ran(0 if line.startswith("accepted") else 1, f"1 {line}\n".encode(), b"")
 
 
 def size_of(octets: int) -> bytes:

@@ -24,7 +24,7 @@ from support.bindings.streams import made, with_id
 # A line of the program: a row, or the sums.
 Row = Dict[str, Any]
 # The status of a run, its rows, its sums or `None`, and its errors.
-WritesAudit = Tuple[int, List[Row], Any, str]
+Audited = Tuple[int, List[Row], Any, str]
 
 # Imports the modules of the program, for lines that change them before it runs.
 MODULES = (
@@ -51,7 +51,7 @@ rows.blocks_of = dies
 """
 
 
-def archive(words: Sequence[Name], python: str = sys.executable, **more: Any) -> WritesAudit:
+def archive(words: Sequence[Name], python: str = sys.executable, **more: Any) -> Audited:
     """Run iim-archive, and return the status, its rows, the line of totals, and the errors."""
     more.setdefault("env", environment())
     status, output, errors = run([python, *ARCHIVE[1:], "--now", NOW, *words], **more)
@@ -193,7 +193,7 @@ def poisoned_tree(folder: Name) -> str:
     return str(folder)
 
 
-def expect_one_lost(got: WritesAudit, folder: str) -> None:
+def expect_one_lost(got: Audited, folder: str) -> None:
     """Check that the one file was lost, and no other."""
     status, rows, sums, _ = got
     assert status == 3
@@ -276,7 +276,7 @@ class Started:
         assert self.process.stdout is not None
         self.output.extend(self.process.stdout)
 
-    def ended(self) -> WritesAudit:
+    def ended(self) -> Audited:
         """Wait for the end, and return what `archive` returns."""
         assert self.process.stderr is not None
         errors = self.process.stderr.read()
