@@ -12,7 +12,7 @@ from pages.items import TOP
 # words.
 COLUMNS, COLUMNS_OF_A_ROW, LINES, WORDS = 100, 160, 8, 15
 # The most lines of all these pages together, without generated pages and parts of pages.
-MOST_LINES = 3920
+MOST_LINES = 3930
 GENERATED = re.compile(r"^<!-- tests/.*?^<!-- the end.*?$\n?", re.M | re.S)
 
 # Words for which the field has a better one.
