@@ -10,7 +10,7 @@ pub returns-in-Ok : goal.returns-in-Ok
 returns-in-Ok c =
     put_new_restores (limits_for c.args.limits) c.limits.result c.args.ticket.now c.args.at c.args.handle.now.owner.home c.put_new.new.handle.owner.home
     c.in-Ok.unpacker c.put_new.result c.status_answer-in-Ok.result
-    (closed_none c.args.handle.now.owner.home (sym c.if-handle.false ∙ c.args.handle.now.owned)) c.limits.ensures c.in-Ok.ensures.put_new_restores
+    (closed_none c.args.handle.now.owner.home (sym c.if-handle.false ∙ c.args.handle.now.owned)) c.limits.ensures c.in-Ok.ensures.restored
     c.in-Ok.ensures.room c.status_answer-in-Ok.ensures c.put_new.ensures
 
 pub returns-in-Err : goal.returns-in-Err
