@@ -19,7 +19,7 @@ from support.packages import PYTHON, SECONDS, WHEEL, Packages, run
 from support.running import TOP
 
 # The least number of tests that run against each, and the most seconds of them.
-LEAST, MOST = 40, 120
+LEAST, MOST = 40, 900
 # What pytest and the tests import, which a root of Debian has not: that of this machine.
 DEBIAN = Path("/usr/lib/python3/dist-packages")
 MODULES = "pytest _pytest pluggy iniconfig packaging attr attrs xdist execnet hypothesis "
