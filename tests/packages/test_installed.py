@@ -22,8 +22,8 @@ from support.running import TOP
 LEAST, MOST = 40, 900
 # What pytest and the tests import, which a root of Debian has not: that of this machine.
 DEBIAN = Path("/usr/lib/python3/dist-packages")
-MODULES = "pytest _pytest pluggy iniconfig packaging attr attrs xdist execnet hypothesis "
-MODULES += "sortedcontainers pytest_timeout"
+MODULES = "pytest _pytest pluggy iniconfig packaging attr xdist execnet hypothesis "
+MODULES += "sortedcontainers"
 ROOM = "/tmp/tested"
 
 
@@ -85,14 +85,13 @@ def test_rejects_a_package_from_elsewhere(packages: Packages, tmp_path: Path) ->
 def test_debian_passes_tests_of_the_package(root: Root) -> None:
     with root.installed("python3-iim", "iimwire"), root.folder(ROOM) as folder:
         installed.copy_tests(TOP, folder / "tests")
-        for name in MODULES.split():
-            for path in DEBIAN.glob(f"{name}*"):
-                to = folder / "modules" / path.name
-                if path.is_dir():
-                    shutil.copytree(path, to, ignore=shutil.ignore_patterns("__pycache__"))
-                else:
-                    to.parent.mkdir(exist_ok=True)
-                    shutil.copy(path, to)
+        for path in {path for name in MODULES.split() for path in DEBIAN.glob(f"{name}*")}:
+            to = folder / "modules" / path.name
+            if path.is_dir():
+                shutil.copytree(path, to, ignore=shutil.ignore_patterns("__pycache__"))
+            else:
+                to.parent.mkdir(exist_ok=True)
+                shutil.copy(path, to)
         words = " ".join(installed.words_of_pytest("/usr/bin/iimwire"))
         paths = f"PYTHONDONTWRITEBYTECODE=1 PYTHONPATH={ROOM}/tests/tests:{ROOM}/modules"
         where = f"{installed.DIRECTORY}=/usr/lib/python3/dist-packages/iim"
