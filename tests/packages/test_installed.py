@@ -22,8 +22,8 @@ from support.running import TOP
 LEAST, MOST = 40, 900
 # What pytest and the tests import, which a root of Debian has not: that of this machine.
 DEBIAN = Path("/usr/lib/python3/dist-packages")
-MODULES = "pytest _pytest pluggy iniconfig packaging attr xdist execnet hypothesis "
-MODULES += "sortedcontainers"
+MODULES = "py py.py py-* pytest pytest-7* _pytest pluggy* iniconfig* packaging* attr* xdist "
+MODULES += "pytest_xdist* execnet* hypothesis* _hypothesis* sortedcontainers* pytest_timeout*"
 ROOM = "/tmp/tested"
 
 
@@ -85,7 +85,7 @@ def test_rejects_a_package_from_elsewhere(packages: Packages, tmp_path: Path) ->
 def test_debian_passes_tests_of_the_package(root: Root) -> None:
     with root.installed("python3-iim", "iimwire"), root.folder(ROOM) as folder:
         installed.copy_tests(TOP, folder / "tests")
-        for path in {path for name in MODULES.split() for path in DEBIAN.glob(f"{name}*")}:
+        for path in {path for name in MODULES.split() for path in DEBIAN.glob(name)}:
             to = folder / "modules" / path.name
             if path.is_dir():
                 shutil.copytree(path, to, ignore=shutil.ignore_patterns("__pycache__"))
