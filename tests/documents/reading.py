@@ -117,6 +117,13 @@ def names_of_tests() -> Set[str]:
     return {*names, *(f"test_{name}" for name in names)}
 
 
+def first_match(pattern: str, text: str, flags: int = 0) -> re.Match[str]:
+    """Return the first match of a regular expression, which must be there."""
+    found = re.search(pattern, text, flags)
+    assert found, f"{pattern} is not there"
+    return found
+
+
 def one_of(*paths: str) -> str:
     """Return the path of the first of these files that is there."""
     return next(f"{TOP}/{path}" for path in paths if os.path.isfile(f"{TOP}/{path}"))

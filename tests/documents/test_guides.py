@@ -5,7 +5,7 @@ import glob
 import os
 import re
 
-from documents.reading import anchors
+from documents.reading import anchors, first_match
 from pages.items import TOP, text_of
 from pages import prose
 from speed import tables
@@ -23,7 +23,7 @@ def test_has_the_tables_that_are_measured() -> None:
 def test_shows_the_relay_that_is_proved() -> None:
     """Compare the guide to the relay with the crate that is proved."""
     page, relay = text_of(f"{TOP}/docs/guide/relay.md"), f"{TOP}/crates/relay_copy"
-    line = re.search(r"^relay_copy: .*$", text_of(f"{TOP}/crates.txt"), re.M)[0]
+    line = first_match(r"^relay_copy: .*$", text_of(f"{TOP}/crates.txt"), re.M)[0]
     assert re.findall(r"^echo '(.*)' >> crates.txt$", page, re.M) == [
         line.replace("relay_copy", "my_relay")
     ]
@@ -39,11 +39,11 @@ def test_shows_the_relay_that_is_proved() -> None:
     assert [
         code for indent, code in shown if re.sub(f"^{indent}", "", code, flags=re.M) not in source
     ] == []
-    invariants = re.search(r"^  ```\n(  use .*?)^  ```", page, re.M | re.S)[1]
+    invariants = first_match(r"^  ```\n(  use .*?)^  ```", page, re.M | re.S)[1]
     kept = re.sub(r"^(?=.)", "  ", text_of(f"{relay}/proofs/relay/Invariants.antt"), flags=re.M)
     assert invariants == kept.replace("relay_copy", "my_relay")
     # (what it says that the prover refuses is a wrong body of the example)
-    wrong = re.search(r"put `(.*?)` in the place", page)[1]
+    wrong = first_match(r"put `(.*?)` in the place", page)[1]
     assert f"new:             {wrong}" in text_of(f"{relay}/wrong-bodies.edits")
 
 
@@ -110,7 +110,7 @@ def test_has_a_security_policy_of_this_release() -> None:
         "what-is-proved-and-what-is-not",
     }
     assert sorted(wanted - anchors(path)) == []
-    release = re.search(
+    release = first_match(
         r'^const RELEASE: .* = "(\d+)";$',
         text_of(f"{TOP}/crates/iim_request/src/commands.rt"),
         re.M,

@@ -4,6 +4,7 @@ from __future__ import annotations
 import re
 from typing import Collection, Iterator, List, Tuple
 
+from documents.reading import first_match
 from pages.items import TOP, text_of
 from pages import cited, refusals, theorem
 from pages import definitions as definition_pages
@@ -15,13 +16,13 @@ MOST_TO_BELIEVE, MOST_OF_ALL = 900, 1300
 
 def defined_in(path: str) -> Iterator[Tuple[cited.Definition, List[Tuple[str, str]]]]:
     """Yield the definitions of a page in order: file and name, and the anchors that it links."""
-    file = None
+    file = ""
     for heading in re.split(
         r"^#{3,4} (?=From `|`)",
         text_of(f"{TOP}/{path}").partition("\n## Types of the sources\n")[0],
         flags=re.M,
     )[1:]:
-        named = re.match(r"From `([\w/]+)`|`(.+?)`", heading)
+        named = first_match(r"^(?:From `([\w/]+)`|`(.+?)`)", heading)
         file = named[1] or file
         if named[2]:
             yield (file, named[2]), re.findall(

@@ -81,7 +81,7 @@ def is_error(crate: str, name: str) -> bool:
     return (
         "Debug" in traits
         and "Error" in traits
-        and ("Display" in traits or derived and "Error" in derived[1])
+        and ("Display" in traits or (derived is not None and "Error" in derived[1]))
     )
 
 
@@ -100,7 +100,7 @@ def test_has_an_error_for_each_fault() -> None:
 
 def parts_by_type() -> Tuple[Dict[str, Set[str]], Set[str]]:
     """Return the parts of each type and trait, and the names of public functions and clauses."""
-    parts = collections.defaultdict(set)
+    parts: Dict[str, Set[str]] = collections.defaultdict(set)
     code = "\n".join(
         text_of(path) for crate in items.promising() for path in items.sources_of(crate)
     )

@@ -6,9 +6,9 @@ import os
 import re
 import subprocess
 import sys
-from typing import Iterator, List, Tuple
+from typing import Dict, Iterator, List, Tuple
 
-from documents.reading import one_of, read_roff
+from documents.reading import first_match, one_of, read_roff
 from pages import causes
 from pages.items import TOP, cells_of, text_of
 
@@ -57,7 +57,7 @@ def test_names_the_samples_of_each_cause() -> None:
     """Compare the samples that causes name with those of samples/README.md."""
     rows = [cells for _, cells in cells_of(f"{TOP}/samples/README.md") if "damaged/" in cells[0]]
     wanted = sorted(
-        (int(re.search(r"cause (\d+)", cells[2])[1]), cells[0].strip("`")) for cells in rows
+        (int(first_match(r"cause (\d+)", cells[2])[1]), cells[0].strip("`")) for cells in rows
     )
     named = [
         (cause.number, path)
@@ -90,11 +90,12 @@ def options_in_the_page(name: str, section: str) -> List[str]:
 
 def test_names_all_options_in_the_manuals() -> None:
     """Compare the options of the Python programs with their manual pages."""
-    for words, section in (
-        ([], '"OPTIONS OF A RUN"'),
-        (["query"], '"OPTIONS OF QUERY"'),
-        (["report"], '"OPTIONS OF REPORT"'),
-    ):
+    sections: Dict[Tuple[str, ...], str] = {
+        (): '"OPTIONS OF A RUN"',
+        ("query",): '"OPTIONS OF QUERY"',
+        ("report",): '"OPTIONS OF REPORT"',
+    }
+    for words, section in sections.items():
         # (of the three, the page has --help once)
         named = {*options_in_the_page("iim-archive", section), "--help"}
         assert (words, sorted(named)) == (words, options_of("iim.archive", *words))
@@ -133,6 +134,7 @@ def test_finds_the_manuals_by_apropos() -> None:
         **{name: f"packages/python/{name}.1" for name in ("iim-archive", "iim-explain")},
     }
     for name, path in pages.items():
-        line = re.search(r"^\.SH NAME\n(.*)\n\.SH SYNOPSIS$", text_of(f"{TOP}/{path}"), re.M)[1]
+        text = text_of(f"{TOP}/{path}")
+        line = first_match(r"^\.SH NAME\n(.*)\n\.SH SYNOPSIS$", text, re.M)[1]
         assert (name, read_roff(line).partition(" - ")[0]) == (name, name)
         assert (name, [word for word in ("IPTC", "newswire") if word not in line]) == (name, [])

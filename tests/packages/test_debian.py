@@ -15,7 +15,7 @@ from support.running import TOP
 # All of these change the one root.
 pytestmark = pytest.mark.xdist_group("debian")
 SAMPLES = "/usr/share/doc/iimwire/samples"
-ROOM = "/tmp/tried"
+ROOM = "/srv/tried"
 
 
 def test_installs_the_command_by_one_command(root: Root) -> None:

@@ -24,7 +24,7 @@ LEAST, MOST = 40, 900
 DEBIAN = Path("/usr/lib/python3/dist-packages")
 MODULES = "py py.py py-* pytest pytest-7* _pytest pluggy* iniconfig* packaging* attr* xdist "
 MODULES += "pytest_xdist* execnet* hypothesis* _hypothesis* sortedcontainers* pytest_timeout*"
-ROOM = "/tmp/tested"
+ROOM = "/srv/tested"
 
 
 def expect_passed(output: str, began: float) -> None:

@@ -10,7 +10,7 @@ from __future__ import annotations
 import collections
 import re
 import textwrap
-from typing import Dict, Iterable, Iterator, List, Tuple
+from typing import Callable, Dict, Iterable, Iterator, List, Tuple
 
 from pages import cited
 from pages.cited import Definition
@@ -106,12 +106,13 @@ def headings(definitions: Iterable[Definition]) -> Dict[Definition, str]:
     """
     listed = list(definitions)
     titles: Dict[Definition, str] = {}
-    for title in (
+    forms: List[Callable[[str, str], str]] = [
         lambda file, name: f"`{name}`",
         lambda file, name: f"`{name}` of `{file.split('/')[0]}`",
         lambda file, name: f"`{name}` of `{file.split('/')[0]}`, a {kind_of(name)}",
         lambda file, name: f"`{name}` of `{file}`",
-    ):
+    ]
+    for title in forms:
         found = collections.Counter(
             anchor(each) for each in [*titles.values(), *READ_FIRST, *READ_NEXT]
         )

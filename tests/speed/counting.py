@@ -1,14 +1,18 @@
-"""What is counted of a run, and is the same in each: instructions, by valgrind, and writes."""
+"""Count what is the same in each run: instructions, by valgrind, and writes."""
+from __future__ import annotations
+
 import os
 import re
 import subprocess
 import tempfile
+from pathlib import Path
+from typing import Dict, List
 
 from support import preloaded
 
 
-def callgrind(words):
-    """What callgrind writes of a run."""
+def callgrind(words: List[str]) -> str:
+    """Return what callgrind writes of a run."""
     with tempfile.TemporaryDirectory() as folder:
         out = os.path.join(folder, "out")
         subprocess.run(
@@ -21,14 +25,18 @@ def callgrind(words):
             return file.read()
 
 
-def instructions(words):
-    """How many instructions a run has."""
-    return int(re.search(r"^(?:totals|summary): (\d+)$", callgrind(words), re.M)[1])
+def instructions(words: List[str]) -> int:
+    """Return the number of instructions of a run."""
+    found = re.search(r"^(?:totals|summary): (\d+)$", callgrind(words), re.M)
+    assert found, "callgrind wrote no sum"
+    return int(found[1])
 
 
-def functions(words):
-    """The instructions of each function's own in a run."""
-    names, found, function, is_call = {}, {}, None, False
+def functions(words: List[str]) -> Dict[str, int]:
+    """Return the instructions of each function in a run, without those that it calls."""
+    names: Dict[str, str] = {}
+    found: Dict[str, int] = {}
+    function, is_call = "", False
     for line in callgrind(words).splitlines():
         named = re.match(r"(c?)fn=\((\d+)\)(?: (.*))?$", line)
         if named:
@@ -46,8 +54,8 @@ def functions(words):
     return {names[function]: count for function, count in found.items()}
 
 
-def writes(library, words):
-    """How many writes a run makes, to the output and to the errors."""
+def writes(library: Path, words: List[str]) -> int:
+    """Return the number of writes of a run, to its output and its errors."""
     (status, _, errors), counted = preloaded.run_counted(library, words)
     if status:
         raise subprocess.CalledProcessError(status, words, stderr=errors)

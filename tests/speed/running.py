@@ -1,10 +1,13 @@
 """The programs that are measured, and what running them takes."""
+from __future__ import annotations
+
 import glob
 import os
 import resource
 import subprocess
 import sys
 import tempfile
+from typing import List, Optional, Sequence, Tuple
 
 from speed.shapes import TOP
 
@@ -12,9 +15,10 @@ HERE = os.path.dirname(os.path.realpath(__file__))
 LIBRARY = f"{TOP}/bindings/out/libiim.a"
 
 
-def command(named):
-    """The program that is measured, and what it is called: where none is named, this repository's
-    own command, which is proved.
+def command(named: Optional[str]) -> Tuple[str, str]:
+    """Return the program that is measured, and its description.
+
+    If none is named, it is the proved command of this repository.
     """
     if named:
         return os.path.abspath(named), "another build, which may not be proved"
@@ -24,8 +28,8 @@ def command(named):
     return f"{TOP}/crates/iimwire/out/iimwire", "the proved command"
 
 
-def compiled(folder, name, words):
-    """A program that is compiled here, or None where its compiler isn't there."""
+def compiled(folder: str, name: str, words: List[str]) -> Optional[str]:
+    """Return a program that is compiled here, or None if its compiler is missing."""
     try:
         subprocess.run([*words, "-o", f"{folder}/{name}"], check=True)
     except FileNotFoundError:
@@ -34,8 +38,8 @@ def compiled(folder, name, words):
     return f"{folder}/{name}"
 
 
-def plain(folder, name):
-    """The reader or the packer in plain Rust, for the same kind of processor as the command."""
+def plain(folder: str, name: str) -> Optional[str]:
+    """Compile the reader or the packer in plain Rust for the processor of the command."""
     words = [
         "rustc",
         "--edition",
@@ -50,9 +54,10 @@ def plain(folder, name):
     return compiled(folder, name, words)
 
 
-def feeder(folder):
-    """What feeds a file to the library for C, or None where that isn't built of the sources that
-    are here.
+def feeder(folder: str) -> Optional[str]:
+    """Compile the program that feeds a file to the C library.
+
+    Return None if the library is older than the sources.
     """
     sources = [f"{TOP}/crates.txt", *glob.glob(f"{TOP}/crates/*/src/**/*.rt", recursive=True)]
     if not os.path.exists(LIBRARY) or os.path.getmtime(LIBRARY) < max(
@@ -71,36 +76,37 @@ def feeder(folder):
     )
 
 
-def words_of(program, name, path, *more):
-    """The words that run a command of the program, or None where there is no program."""
+def words_of(program: Optional[str], name: str, path: str, *more: str) -> Optional[List[str]]:
+    """Return the words that run a command of the program, or None if there is no program."""
     now = ["--now", "2024-03-01T12:00:00Z"] if name == "audit" else []
     return [program, name, path, *more, *now] if program else None
 
 
-def printed(words):
-    """The output and the errors of a run."""
+def printed(words: List[str]) -> Tuple[bytes, bytes]:
+    """Return the output and the errors of a run."""
     ran = subprocess.run(words, capture_output=True, check=True)
     return ran.stdout, ran.stderr
 
 
-def seconds(words):
-    """The processor time of a run."""
+def seconds(words: List[str]) -> float:
+    """Return the processor time of a run."""
     before = resource.getrusage(resource.RUSAGE_CHILDREN)
     subprocess.run(words, stdout=subprocess.DEVNULL, stderr=subprocess.DEVNULL, check=True)
     after = resource.getrusage(resource.RUSAGE_CHILDREN)
     return after.ru_utime + after.ru_stime - before.ru_utime - before.ru_stime
 
 
-def least(turns, runs):
-    """The least processor time of each run, of N turns in which each has its own; None of
-    what is None.
-    """
-    taken = [[words and seconds(words) for words in runs] for _ in range(turns)]
-    return [words and min(each) for words, each in zip(runs, zip(*taken))]
+def least(turns: int, runs: Sequence[Optional[List[str]]]) -> List[Optional[float]]:
+    """Return the least processor time of each run, with all runs in each turn; None for None."""
+    taken = [[seconds(words) if words else None for words in runs] for _ in range(turns)]
+    return [
+        None if each[0] is None else min(time for time in each if time is not None)
+        for each in zip(*taken)
+    ]
 
 
-def peak(words):
-    """The most octets that a run had in memory.
+def peak(words: List[str]) -> int:
+    """Return the most octets that a run had in memory.
 
     GNU time is asked, a small process: what is forked begins with its parent's count.
     """
@@ -110,8 +116,8 @@ def peak(words):
         return int(told.read()) * 1024
 
 
-def processor():
-    """What this machine's processor is called."""
+def processor() -> str:
+    """Return the name of the processor."""
     with open("/proc/cpuinfo", encoding="utf-8") as file:
         names = [line.partition(":")[2].strip() for line in file if line.startswith("model name")]
     return names[0] if names else "an unknown processor"

@@ -1,6 +1,9 @@
 """The shapes of envelopes and of scripts that are measured."""
+from __future__ import annotations
+
 import os
 import random
+from typing import List, Tuple
 
 import rules
 from envelopes import SMALLEST, SMALLEST_FIELDS, SMALLEST_HEAD, STORY, STORY_FIELDS, STORY_HEAD
@@ -18,18 +21,18 @@ PLACES = [
 OBJECT = rules.object_of(SMALLEST_HEAD, [b""], b"")
 
 
-def keywords(octets):
-    """The smallest envelope with 400 keywords of N octets."""
+def keywords(octets: int) -> bytes:
+    """Return the smallest envelope with 400 keywords of that many octets."""
     return rules.packed([*SMALLEST_FIELDS, *[(2, 25, b"k" * octets)] * 400], OBJECT, 1024)
 
 
-def prose(lines, header, subfile):
-    """An envelope with N lines of prose, in subfiles of M octets."""
+def prose(lines: int, header: List[Tuple[int, int, bytes]], subfile: int) -> bytes:
+    """Return an envelope with that many lines of prose, in subfiles of that many octets."""
     return rules.packed(header, rules.object_of(STORY_HEAD, [PROSE] * lines, b""), subfile)
 
 
-def short_lines(end):
-    """An envelope whose text is 340,000 lines of one octet, each ended by these octets."""
+def short_lines(end: bytes) -> bytes:
+    """Return an envelope whose text is 340,000 lines of one octet, each ended by these octets."""
     head, tail = rules.object_of(STORY_HEAD, [b""], b"").split(b"\2")
     return rules.packed(SMALLEST_FIELDS, head + b"\2" + (b"x" + end) * 340_000 + tail, 32_768)
 
@@ -68,9 +71,10 @@ def script(line: bytes, lines: int) -> bytes:
         return sample.read() + (line + b"\n") * lines
 
 
-def write_numbered(path, envelopes, is_mixed):
-    """Writes N of the smallest envelope, numbered from 0, in the order of their numbers or,
-    always the same way, in none.
+def write_numbered(path: str, envelopes: int, is_mixed: bool) -> None:
+    """Write copies of the smallest envelope, numbered from 0.
+
+    Mixed ones are shuffled, the same way each time.
     """
     octets, numbers = bytearray(SMALLEST), list(range(envelopes))
     if is_mixed:

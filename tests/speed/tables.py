@@ -4,8 +4,11 @@ The page has a place for each part that is measured, between two marked lines. T
 writes what was measured, and nobody else: `tests/documents` holds each place to its tables, but for
 the numbers.
 """
+from __future__ import annotations
+
 import re
 import textwrap
+from typing import Collection, Dict, Iterable, Iterator, List, Optional, Sequence, Tuple, Union
 
 from speed.shapes import AUDITS, SCRIPTS, SHAPES, TOP
 
@@ -32,7 +35,7 @@ MEMORY = {
     "a script of prose, 16 MB": ("a script of prose", 16),
 }
 # Of each part its tables: the names of their columns, and those of their rows.
-PARTS = {
+PARTS: Dict[str, List[Tuple[List[str], Collection[str]]]] = {
     "counts": [([*BESIDE, "writes of check", "of story"], SHAPES), ([*PACKED, "writes"], SCRIPTS)],
     "times": [(BESIDE, SHAPES), (PACKED, SCRIPTS)],
     "audits": [(["Envelopes", "check", "audit", "ratio", "memory of the audit"], AUDITS)],
@@ -40,17 +43,18 @@ PARTS = {
 }
 
 
-def line(cells):
+def line(cells: Iterable[str]) -> str:
+    """Return a row of a table."""
     return f"| {' | '.join(cells)} |"
 
 
-def heading(columns):
-    """The lines above the rows of a table."""
+def heading(columns: Sequence[str]) -> List[str]:
+    """Return the lines above the rows of a table."""
     return [line(columns), "|" + "---|" * len(columns)]
 
 
-def row(name, numbers):
-    """A row: of each number the cell, a fraction with two digits."""
+def row(name: str, numbers: Iterable[Optional[Union[int, float]]]) -> str:
+    """Return a row with a cell for each number, a fraction with two digits."""
     return line(
         [
             name,
@@ -66,12 +70,12 @@ def row(name, numbers):
     )
 
 
-def marks(part):
-    """The lines that enclose a part of the page."""
+def marks(part: str) -> Tuple[str, str]:
+    """Return the lines that enclose a part of the page."""
     return f"<!-- tests/speed/measure {part} -->\n", f"<!-- the end of {part} -->\n"
 
 
-def put(part, lines):
+def put(part: str, lines: List[str]) -> None:
     """Write the lines of a part into the page, the first one in at most 100 columns."""
     begin, end = marks(part)
     with open(PAGE, encoding="utf-8") as file:
@@ -88,9 +92,10 @@ def put(part, lines):
         )
 
 
-def faults(page):
-    """What is wrong with the places of the parts in the text of a page: each has a line of what was
-    measured, and its tables of numbers.
+def faults(page: str) -> Iterator[str]:
+    """Yield what is wrong with the places of the parts in the text of a page.
+
+    Each has a line of what was measured, and its tables of numbers.
     """
     for part, tables in PARTS.items():
         begin, end = marks(part)
