@@ -1,33 +1,39 @@
 #!/usr/bin/env python3
-"""Measure archive.py on generated files, and compare it with `iimwire audit`.
+"""Measure iim-archive on generated files, and compare it with `iimwire audit`.
 
   bindings/python/measure.py [TURNS [PROGRAM]]    [default: 3 turns, crates/iimwire/out/iimwire]
 
 There are two trees: 4,000 files of one envelope, and 40 files of 200 envelopes, each of which is a
 task. Each envelope has 22 datasets and a story of 4 KB. A turn is a complete run with its start and
-its output. A line has the best elapsed time and the least processor time of all processes of a turn,
-which does not depend on other work of the machine. `iimwire audit` is one process per file. `again`
-is a second run over the same, unchanged tree.
+its output. A line has the best elapsed time and the least processor time of all processes of a
+turn, which does not depend on other work of the machine. `iimwire audit` is one process per file.
+`again` is a second run over the same, unchanged tree.
 
   bindings/python/measure.py --rows N     pass N generated rows through the process that writes
   bindings/python/measure.py --files N    index N files of one envelope, of three sizes, twice
 
 The gate does not run this.
 """
+from __future__ import annotations
+
 import contextlib
 import os
 import subprocess
 import sys
 import tempfile
 import time
+from typing import Callable, Iterator, List, Optional, Tuple
 
 sys.dont_write_bytecode = True
 HERE = os.path.dirname(os.path.realpath(__file__))
 TOP = os.path.dirname(os.path.dirname(HERE))
 COMMAND = f"{TOP}/crates/iimwire/out/iimwire"
-sys.path[:0] = [HERE, f"{TOP}/tests"]
+PACKAGE = f"{HERE}/src"
+ENVIRONMENT = {**os.environ, "PYTHONPATH": PACKAGE}
+ARCHIVE = [sys.executable, "-m", "iim.archive"]
+sys.path[:0] = [PACKAGE, f"{TOP}/tests"]
 
-import rules
+import rules  # noqa: E402
 
 WORKERS = 1, 2, 4
 NOW = "2024-03-01T12:00:00Z"
@@ -43,7 +49,7 @@ SMALL = [
 HEAD = [b"TST", b"0007", b"4", b"ECO", b"910", b""]
 
 
-def envelope(number):
+def envelope(number: int) -> bytes:
     """Return an envelope of 22 datasets and a story of 4 KB."""
     first = [
         (1, 0, b"\0\4"),
@@ -62,12 +68,12 @@ def envelope(number):
     lines = [b"Word by word it goes on to the end of a line of wire copy." for _ in range(70)]
     return rules.packed(
         first + second,
-        rules.object_of([b"TST", b"0007", b"4", b"ECO", b"910", b""], lines, b""),
+        rules.object_of(HEAD, lines, b""),
         32_768,
     )
 
 
-def make(folder, files, envelopes):
+def make(folder: str, files: int, envelopes: int) -> None:
     """Write files of `envelopes` envelopes each, a hundred in each directory."""
     for at in range(files):
         os.makedirs(f"{folder}/{at // 100:04}", exist_ok=True)
@@ -75,7 +81,9 @@ def make(folder, files, envelopes):
             to.writelines(envelope(at * envelopes + each) for each in range(envelopes))
 
 
-def seconds(words, turns, before=None):
+def seconds(
+    words: List[str], turns: int, before: Optional[Callable[[], None]] = None
+) -> Tuple[float, float]:
     """Return the least elapsed and processor time of a command, in seconds, over some turns.
 
     Args:
@@ -88,7 +96,7 @@ def seconds(words, turns, before=None):
         if before is not None:
             before()
         began = time.monotonic()
-        process = subprocess.Popen(words, stdout=subprocess.DEVNULL)
+        process = subprocess.Popen(words, stdout=subprocess.DEVNULL, env=ENVIRONMENT)
         _, status, usage = os.wait4(process.pid, 0)
         taken.append(time.monotonic() - began)
         used.append(usage.ru_utime + usage.ru_stime)
@@ -97,53 +105,47 @@ def seconds(words, turns, before=None):
     return min(taken), min(used)
 
 
-def remove(index):
+def remove(index: str) -> None:
     """Remove an index."""
     for end in "", "-wal", "-shm", ".lock":
         with contextlib.suppress(FileNotFoundError):
             os.remove(index + end)
 
 
-def compare(turns, command):
+def runs_over(
+    tree: str, index: str, batch: int, command: str
+) -> Iterator[Tuple[str, List[str], Optional[Callable[[], None]]]]:
+    """Yield the runs over a tree: name, words, and what is called before each turn."""
+    archive = [*ARCHIVE, "--now", NOW, "--batch", str(batch)]
+    into = [*archive, "--into", index]
+    audit = f"find {tree} -type f -print0 | xargs -0 -n 1 {command} audit --now {NOW}"
+    yield "iimwire audit", ["sh", "-c", audit], None
+    yield "rows printed", [*archive, tree], None
+    yield "index", [*into, tree], lambda: remove(index)
+    yield "again", [*into, tree], None
+    for count in WORKERS:
+        words = [*into, "--workers", str(count), tree]
+        yield f"index, --workers {count}", words, lambda: remove(index)
+
+
+def compare(turns: int, command: str) -> None:
     """Measure both trees in each way."""
     print(
-        f"{'files':>6} {'envelopes':>9} {'way':<22} {'seconds':>8} {'processor':>9} {'us a file':>9} {'us an envelope':>14} {'ratio':>6}"
+        f"{'files':>6} {'envelopes':>9} {'way':<22} {'seconds':>8} {'processor':>9} "
+        f"{'us a file':>9} {'us an envelope':>14} {'ratio':>6}"
     )
     for files, envelopes, batch in (4_000, 1, 128), (40, 200, 1):
         with tempfile.TemporaryDirectory() as folder:
             tree, index = f"{folder}/tree", f"{folder}/index"
             make(tree, files, envelopes)
-            archive = [sys.executable, f"{HERE}/archive.py", "--now", NOW, "--batch", str(batch)]
-            into = [*archive, "--into", index]
-            runs = [
-                (
-                    "iimwire audit",
-                    [
-                        "sh",
-                        "-c",
-                        f"find {tree} -type f -print0 | xargs -0 -n 1 {command} audit --now {NOW}",
-                    ],
-                    None,
-                ),
-                ("rows printed", [*archive, tree], None),
-                ("index", [*into, tree], lambda: remove(index)),
-                ("again", [*into, tree], None),
-                *(
-                    (
-                        f"index, --workers {count}",
-                        [*into, "--workers", str(count), tree],
-                        lambda: remove(index),
-                    )
-                    for count in WORKERS
-                ),
-            ]
-            least = None
-            for way, words, before in runs:
+            least = 0.0
+            for way, words, before in runs_over(tree, index, batch, command):
                 took, used = seconds(words, turns, before)
                 least = least or used
                 a_file, an_envelope = used / files * 1e6, used / files / envelopes * 1e6
                 print(
-                    f"{files:6} {files * envelopes:9} {way:<22} {took:8.2f} {used:9.3f} {a_file:9.1f} {an_envelope:14.1f} {used / least:6.2f}",
+                    f"{files:6} {files * envelopes:9} {way:<22} {took:8.2f} {used:9.3f} "
+                    f"{a_file:9.1f} {an_envelope:14.1f} {used / least:6.2f}",
                     flush=True,
                 )
 
@@ -152,10 +154,10 @@ def compare(turns, command):
 # one.
 WRITER = """
 import argparse, marshal, random, re, sys, time
-import archive, archive_index, archive_rows
+from iim.archive import index as indexes, progress, rows as archive_rows, updating
 path, rows = sys.argv[1], int(sys.argv[2])
-index = archive_index.Index(path)
-kept = archive.Kept(index, argparse.Namespace(name="*", into=path), archive.Silence())
+index = indexes.Index(path)
+kept = updating.Update(index, argparse.Namespace(name="*", into=path), progress.Silence())
 chance, wrote = random.Random(1), 0.0
 for first in range(0, rows, 2_000):
     files = []
@@ -165,8 +167,10 @@ for first in range(0, rows, 2_000):
             at = (file - 1) * 200 + nth
             at = at if at % 100 else chance.randrange(at + 1)
             date = f"2024{at // 3_000_000 % 12 + 1:02}{at // 100_000 % 28 + 1:02}"
-            of_file += file, nth + 1, nth * 4700, 4700, "TST", "%08d" % (at % 10**8), date, "5", 4200, 2, 910, 905, 1_709_290_800, None, None
-        files.append((file, b"/archive/%06d/%02d.iim" % (file // 100, file % 100), 940_000, 1, 940_000, "accepted", None, of_file, None))
+            of_file += file, nth + 1, nth * 4700, 4700, "TST", "%08d" % (at % 10**8), date
+            of_file += "5", 4200, 2, 910, 905, 1_709_290_800, None, None
+        name = b"/archive/%06d/%02d.iim" % (file // 100, file % 100)
+        files.append((file, name, 940_000, 1, 940_000, "accepted", None, of_file, None))
     block = marshal.dumps(files, archive_rows.FORM)
     began = time.process_time()
     kept.add(marshal.loads(block))
@@ -181,27 +185,28 @@ with open("/proc/self/status") as status:
 """
 
 
-def write_rows(rows):
+def write_rows(rows: int) -> None:
     """Measure the process that writes on generated rows, and then the query of the repeats."""
     with tempfile.TemporaryDirectory() as folder:
         index = f"{folder}/index"
         subprocess.run(
             [sys.executable, "-c", WRITER, index, str(rows)],
             check=True,
-            env={**os.environ, "PYTHONPATH": HERE},
+            env=ENVIRONMENT,
         )
         print(f"size: {os.path.getsize(index) / 1e6:,.0f} MB")
         began = time.monotonic()
-        words = [sys.executable, f"{HERE}/archive.py", "query", "--repeats", "--csv", index]
-        with subprocess.Popen(words, stdout=subprocess.PIPE) as query:
-            count = sum(1 for _ in query.stdout) - 1
+        words = [*ARCHIVE, "query", "--repeats", "--csv", index]
+        with subprocess.Popen(words, stdout=subprocess.PIPE, env=ENVIRONMENT) as query:
+            count = len(list(query.stdout or ())) - 1
             _, _, usage = os.wait4(query.pid, 0)
         print(
-            f"repeats: {count:,} in {time.monotonic() - began:.1f} seconds, memory {usage.ru_maxrss / 1000:.0f} MB"
+            f"repeats: {count:,} in {time.monotonic() - began:.1f} seconds, "
+            f"memory {usage.ru_maxrss / 1000:.0f} MB"
         )
 
 
-def index_files(files):
+def index_files(files: int) -> None:
     """Measure the index of real files of three sizes, and a second run."""
     with tempfile.TemporaryDirectory() as folder:
         tree, index = f"{folder}/tree", f"{folder}/index"
@@ -215,18 +220,21 @@ def index_files(files):
             with open(f"{tree}/{at // 1000:04}/{at % 1000:03}.iim", "wb") as to:
                 to.write(sizes[at % 3].replace(b"00000001", b"%08d" % (at - at % 50)))
         for way in "index", "again":
-            words = [sys.executable, f"{HERE}/archive.py", "--now", NOW, "--into", index, tree]
+            words = [*ARCHIVE, "--now", NOW, "--into", index, tree]
             began = time.monotonic()
-            process = subprocess.Popen(words)
+            process = subprocess.Popen(words, env=ENVIRONMENT)
             _, status, usage = os.wait4(process.pid, 0)
             used = usage.ru_utime + usage.ru_stime
             print(
-                f"{way}: {time.monotonic() - began:.1f} seconds, {used / files * 1e6:.1f} us of a processor a file, {usage.ru_maxrss / 1000:.0f} MB",
+                f"{way}: {time.monotonic() - began:.1f} seconds, "
+                f"{used / files * 1e6:.1f} us of a processor a file, "
+                f"{usage.ru_maxrss / 1000:.0f} MB",
                 flush=True,
             )
 
 
-def main():
+def main() -> None:
+    """Measure what the arguments ask for."""
     words = sys.argv[1:]
     if words[:1] == ["--rows"]:
         write_rows(int(words[1]))

@@ -1,11 +1,16 @@
 """Settings of Sphinx for the site. `docs/build` copies this file to the pages that it lays out."""
+from __future__ import annotations
+
 import os
 import re
 import sys
+from typing import Any, Dict, Iterator, List, Optional, Tuple
 
 from pygments.lexers.rust import RustLexer
 from pygments.token import Error, Text
-from sphinx.ext.napoleon import Config, GoogleDocstring
+from sphinx.application import Sphinx
+from sphinx.ext.napoleon import Config
+from sphinx.ext.napoleon.docstring import GoogleDocstring
 
 # (the place of the Python package in the repository, from `docs/build`)
 sys.path.insert(0, os.environ["IIM_PYTHON"])
@@ -50,33 +55,40 @@ html_copy_source = False
 html_show_sourcelink = False
 html_last_updated_fmt = None
 # Everything that a page loads is on the site.
-html_theme_options = {"footer_icons": [], "top_of_page_button": None}
+html_theme_options: Dict[str, object] = {"footer_icons": [], "top_of_page_button": None}
 
 
 class Rattle(RustLexer):
     """Colours Rattle as Rust: what Rust does not have is plain text."""
 
-    def get_tokens_unprocessed(self, text, stack=("root",)):
+    def get_tokens_unprocessed(
+        self, text: str, stack: Tuple[str, ...] = ("root",)
+    ) -> Iterator[Tuple[int, Any, str]]:
         """Yield the tokens of a text."""
         for at, token, value in super().get_tokens_unprocessed(text, stack):
             yield at, Text if token is Error else token, value
 
 
-def convert(app, what, name, obj, options, lines):
+def convert(
+    app: Sphinx, what: str, name: str, obj: object, options: object, lines: List[str]
+) -> None:
     """Convert a docstring in the style of Google, and examples in that of a module."""
     if what == "module":
         text = "\n".join(lines)
         lines[:] = re.sub(r"(?<=\n\n)(?=    )(?<!    \n\n)", "::\n\n", text).split("\n")
     elif what not in ("attribute", "data", "property"):
-        lines[:] = GoogleDocstring(lines, Config(napoleon_use_ivar=True), app, what, name).lines()
+        config: Any = Config(napoleon_use_ivar=True)
+        lines[:] = GoogleDocstring(lines, config, app, what, name).lines()
 
 
-def skip(app, what, name, obj, skipped, options):
+def skip(
+    app: Sphinx, what: str, name: str, obj: object, skipped: bool, options: object
+) -> Optional[bool]:
     """Skip the fields of a named tuple, which the docstring of its type describes."""
     return True if str(getattr(obj, "__doc__", "")).startswith("Alias for field number") else None
 
 
-def setup(app):
+def setup(app: Sphinx) -> None:
     """Set the language of the examples, and of docstrings."""
     app.add_lexer("rust", Rattle)
     app.connect("autodoc-process-docstring", convert)

@@ -82,7 +82,9 @@ def test_rejects_a_clause_that_no_contract_has() -> None:
 def test_judges_a_right_body_in_its_copy_alone() -> None:
     """Check that a correct body is judged in its copy of the function alone."""
     body = next(
-        body for body in wrong_bodies.bodies("iim_dataset") if body.function == "place::has_data_remaining"
+        body
+        for body in wrong_bodies.bodies("iim_dataset")
+        if body.function == "place::has_data_remaining"
     )
     (right_one,) = right.copies([body, body])
     # (in the function itself it would be proved whatever becomes of a copy)

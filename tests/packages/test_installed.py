@@ -28,8 +28,8 @@ ROOM = "/srv/tested"
 
 
 def expect_passed(output: str, began: float) -> None:
-    """Check the closing line of the tests."""
-    counts = re.fullmatch(r"(\d+) passed, 0 failed", output.splitlines()[-1])
+    """Check the closing line of the tests. Those of open files are skipped without /proc."""
+    counts = re.fullmatch(r"(\d+) passed, 0 failed(?:, \d+ skipped)?", output.splitlines()[-1])
     assert counts and int(counts[1]) >= LEAST, output[-2000:]
     assert time.monotonic() - began < MOST
 

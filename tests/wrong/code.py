@@ -109,7 +109,7 @@ def place(path: str, text: str, old: str, new: str) -> Optional[Place]:
 
 
 def span(text: str, name: str, number: int) -> Tuple[int, int]:
-    """Where a function stands with its attributes, of those of its name the one after this number."""
+    """Return where a function of a name with this index begins and ends, with its attributes."""
     _, start, _, end = [each for each in functions(text) if each[0] == name][number]
     lines = text[:start].split("\n")
     first = len(lines) - 1

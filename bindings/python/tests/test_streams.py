@@ -21,6 +21,8 @@ NOW = "2024-03-01T12:00:00Z"
 def open_files() -> Set[str]:
     """Return the paths of the files that this process has open."""
     links = Path("/proc/self/fd")
+    if not links.exists():
+        pytest.skip("/proc is not there")
     return {os.readlink(link) for link in links.iterdir() if link.is_symlink()}
 
 

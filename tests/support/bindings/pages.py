@@ -11,7 +11,7 @@ from support.bindings.running import text_of
 
 @functools.lru_cache(maxsize=None)
 def tables() -> Dict[Tuple[int, int], Tuple[str, bool]]:
-    """Return the rows of docs/reference/format.md by numbers: the name, and whether the dataset repeats."""
+    """Return the rows of format.md by numbers: the name, and whether the dataset repeats."""
     row = r"^\| (\d+):(\d+) \| ([^|]+) \| [^|]+ \| [^|]+ \| [^|]+ \| (yes|no) \|$"
     rows = re.findall(row, text_of(TOP / "docs" / "reference" / "format.md"), re.M)
     return {

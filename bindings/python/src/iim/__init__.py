@@ -17,8 +17,8 @@ an encoding to `text(encoding)`.
 
 Errors: invalid input raises `RefusedError`, which has the layer, the dataset, the offset of the
 byte and the cause. Input that ends inside an envelope raises its subclass `TruncatedError`. Both
-are `IimError`. docs/reference/causes.md lists all causes, docs/reference/format.md describes the format, and
-docs/guide/python.md has complete programs; the package python3-iim has all three in
+are `IimError`. docs/reference/causes.md lists all causes, docs/reference/format.md describes the
+format, and docs/guide/python.md has complete programs; the package python3-iim has all three in
 /usr/share/doc/python3-iim.
 
 Threads: any number of threads may call the functions of this module and read the same `Envelope` or
