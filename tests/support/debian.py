@@ -67,7 +67,7 @@ class Root:
 
     def files(self) -> list[str]:
         """Return all files that an installation must remove again."""
-        found = self.run("find . -xdev ! -name __pycache__ ! -name '*.pyc'").splitlines()
+        found = self.run("find . -xdev ! -name __pycache__ ! -name '*.pyc' -print0").split("\0")
         return sorted(path for path in found if not path.startswith(CHANGING))
 
     @contextlib.contextmanager
@@ -79,7 +79,8 @@ class Root:
             yield
         finally:
             self.run(f"apt-get purge -y --autoremove {' '.join(names)}")
-        assert sorted(set(self.files()) ^ set(before)) == []
+        left = sorted(set(self.files()) ^ set(before))
+        assert left == [], left
         assert self.run(FIND_OURS) == ""
 
 
