@@ -10,8 +10,8 @@ from xml.etree import ElementTree
 
 # An undocumented or misnamed parameter, member or function is an error.
 SETTINGS = """\
-INPUT = {header}
-OUTPUT_DIRECTORY = {folder}
+INPUT = "{header}"
+OUTPUT_DIRECTORY = "{folder}"
 GENERATE_HTML = NO
 GENERATE_LATEX = NO
 GENERATE_XML = YES

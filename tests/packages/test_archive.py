@@ -24,6 +24,8 @@ def test_has_the_same_files_in_the_archive(packages: Packages) -> None:
         as_in_the_archive(path): (packages.unpacked(name) / path, source)
         for name, files in files_of_packages().items()
         for path, source in files.items()
+        # (by this file Debian lists the documents of all packages)
+        if not path.startswith("usr/share/doc-base/")
     }
     own = ["COPYRIGHT", "Makefile", "PROVENANCE", "README", "iimwire.spdx.json"]
     assert files_in(folder) == sorted([*files, *own])
