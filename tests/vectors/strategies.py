@@ -27,7 +27,7 @@ ANY = frozenset(range(256))
 
 
 def examples(count: int) -> settings:
-    """Return settings for so many examples in the gate, and in proportion in other profiles."""
+    """Return settings for a number of examples in the gate, in proportion in other profiles."""
     return settings(max_examples=max(1, count * settings.default.max_examples // 100))
 
 

@@ -13,7 +13,7 @@ from typing import Dict, List, Optional, Sequence, Tuple
 from wrong import prover, rounds, sources, store, verdicts
 from wrong.proofs import AllProved
 
-# A round of so many mutants is never parted: what each round takes besides them would be more
+# A round of this many mutants is never parted: what each round takes besides them would be more
 # than theirs.
 LEAST = 16
 # No more mutants than these are in one check, but those of one round: it holds all of them

@@ -98,7 +98,7 @@ def edit(body: sources.Body) -> str:
 
 
 def tried(crate: str) -> Dict[str, str]:
-    """The mutants of a crate that `rt ci` tries: of each its file, and what stands there."""
+    """Return the mutants of a crate that `rt ci` tries: the text of each file."""
     return {
         f"crates/{crate}/must-fail/{body.word}.edit": edit(body)
         for body in sources.bodies(crate)
@@ -119,8 +119,9 @@ def there() -> Dict[str, str]:
 
 
 def write(names: Union[str, Tuple[str, ...]]) -> List[str]:
-    """Writes those of the files whose names begin so, removes what else stands there, and returns
-    the names of those that changed.
+    """Write the files whose names have this prefix, and remove all others with it.
+
+    Return the names of those that changed.
     """
     found, right = there(), wanted()
     changed = [

@@ -2,7 +2,7 @@
 under another name.
 
 A copy has a copy of its function's proof. The function itself stays right, and so nothing that
-calls it is proved again. A method of a trait's impl can't be copied: such a mutant stands in
+calls it is proved again. A method of a trait's impl can't be copied: such a mutant replaces
 the function itself.
 """
 from __future__ import annotations
@@ -59,8 +59,8 @@ def copied(body: sources.Body, text: str, at: code.Place, named: str) -> Optiona
 
 def copied_proof(body: sources.Body, text: str, named: str) -> Dict[str, str]:
     """The files of proof of a function for its copy of that name, without answers for clauses that
-    the copy lacks. A body that is written whole has none: it stands on what the right function
-    says.
+    the copy lacks. A body that is written whole has none: it uses the contract of the right
+    function.
     """
     if body.whole:
         return {}

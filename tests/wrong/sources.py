@@ -41,7 +41,7 @@ class Unread(Exception):
 @dataclass
 class Body:
     """A mutant: what it is, and its pairs of a file, the text there, and what takes its place;
-    or the file of its function and all that stands in its braces. Or the right body in the place of
+    or the file of its function and all that is in its braces. Or the right body in the place of
     one.
     """
 
@@ -133,8 +133,9 @@ def bodies(crate: str) -> List[Body]:
 
 
 def order_of_crates() -> Dict[str, Tuple[List[str], bool]]:
-    """The crates in the order of crates.txt, lowest first: of each the libraries that it stands on,
-    and whether C links it.
+    """Return the crates in the order of crates.txt, lowest first.
+
+    Each has the libraries that it depends on, and whether C links it.
     """
     found = {}
     for line in text_of(f"{TOP}/crates.txt").splitlines():

@@ -149,7 +149,7 @@ def passing(body: Body) -> Tuple[str, ...]:
 
 
 def judge(body: Body, function: str, found: Dict[str, Heard]) -> Tuple[str, str]:
-    """What a mutant comes to that stands in this function, and what the prover names."""
+    """Return the verdict on a mutant of this function, and what the prover names."""
     if body.clause.startswith("lemma "):
         return by_lemma(body.clause, found)
     heard = whose(found, function)
