@@ -1,4 +1,4 @@
-//! A caller of `iim_audit`.
+//! An example caller of `iim_audit`.
 
 ghost use Rattle.std.specs.Prelude.{◌≡◌, List, None, IfOk};
 ghost use Rattle.iim_audit.specs.Format.{IsAudited, printed_report};
@@ -12,7 +12,7 @@ use iim_unpack::Intake;
 use jiff::Timestamp;
 use std::alloc::Global;
 
-/// Returns the text of the report of an input's envelopes, at the instant `now`.
+/// Returns the text of the report on the envelopes of an input, at the instant `now`.
 pub(crate) fn report_of<R: Source>(
     alloc: Global,
     intake: &mut Intake<R>,

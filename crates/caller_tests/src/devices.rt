@@ -1,11 +1,11 @@
-//! A caller of `iim_dataset`.
+//! An example caller of `iim_dataset`.
 
 ghost use Rattle.std.specs.Prelude.{◌≡◌, ℕ, List, length, IfOk};
 ghost use Rattle.std.specs.Io.KnownBytes.{Consumes, Appends};
 
 use iim_dataset::{BLOCK, IoFault, Source, Target, put, take};
 
-/// Copies the octets of one read, at most a block. Returns their number.
+/// Copies the octets of one read, at most a block, to a target. Returns their number.
 pub fn pass_on<R: Source, W: Target>(from: &mut R, to: &mut W) -> Result<usize, IoFault>
     ensures { IfOk result (λ count. (octets : List ℕ) × (length octets ≡ count)
         × Consumes (R.state from.old).octets (R.state from.new).octets octets

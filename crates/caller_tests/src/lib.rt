@@ -1,8 +1,8 @@
-//! Callers of the libraries that no example uses: one module for each, which the library's page
-//! `CALLING.md` shows.
+//! Example callers of the libraries that no program in `examples` uses. Each library has one module
+//! here, which the library's page `CALLING.md` shows.
 //!
-//! The caller with a type of `jiff` is in a private module: a crate with such a type in its public
-//! items is built over all of `jiff`.
+//! The caller with a type of `jiff` is in a private module, because a crate with such a type in its
+//! public items must load all of `jiff` when it is proved.
 #![tactic(auto)]
 
 mod audits;

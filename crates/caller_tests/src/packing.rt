@@ -1,4 +1,4 @@
-//! A caller of `iim_pack`.
+//! An example caller of `iim_pack`.
 
 ghost use Rattle.std.specs.Prelude.{ℕ, List, [], map, IfOk};
 ghost use Rattle.iim_dataset.specs.States.Devices.{WroteAllOf};
@@ -13,7 +13,7 @@ use iim_pack::Packer;
 use std::alloc::Global;
 use wire_message::MessageHead;
 
-/// Packs an envelope whose story has one line, without a trailer. Returns the writer.
+/// Packs an envelope whose story has one line and whose message has no trailer. Returns the writer.
 pub fn pack_line<W: Target + Drop>(
     alloc: Global,
     envelope: &Envelope,

@@ -1,4 +1,4 @@
-//! A caller of `iim_round_trip`.
+//! An example caller of `iim_round_trip`.
 
 ghost use Rattle.std.specs.Prelude.{IfSome};
 ghost use Rattle.iim_round_trip.specs.Format.Stories.{ReturnsPackedStory};
@@ -8,8 +8,8 @@ use iim_fields::Limits;
 use iim_round_trip::{Story, unpack_story};
 use std::alloc::Global;
 
-/// Returns the envelope that was packed, with its lines and sizes and its length, if the chunks
-/// begin with it.
+/// Unpacks the envelope at the start of the chunks. Returns it with its lines, its sizes and its
+/// length, or `None` if it is rejected.
 pub fn unpacked(alloc: Global, limits: Limits, pieces: &[&[u8]]) -> Option<Story>
     ensures { IfSome result (ReturnsPackedStory limits (stream_of pieces.now)) }
 {

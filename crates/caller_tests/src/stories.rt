@@ -1,4 +1,4 @@
-//! A caller of `wire_story`.
+//! An example caller of `wire_story`.
 
 ghost use Rattle.std.specs.Prelude.{◌≡◌, ℕ, List, IfSome};
 ghost use Rattle.wire_story.specs.Format.Texts.{IsText, words, capped};

@@ -1,4 +1,4 @@
-//! Tests of reports, of audits whose reader fails, and of the largest number of envelopes.
+//! Tests reports, audits whose reader fails, and the largest number of envelopes.
 
 ghost use Rattle.std.specs.Prelude.{◌<◌};
 
@@ -15,7 +15,7 @@ use std::io::Read;
 use trials::{TrialReader, Trouble as DeviceTrouble};
 use worked::SMALLEST;
 
-/// The smallest envelope, urgent and with a time: 1:60 and 1:80 are before and after 1:70.
+/// The smallest envelope with a priority and a time: 1:60 and 1:80 are added before and after 1:70.
 const TIMED: &[u8] =
     b"\x1c\x01\x00\x00\x02\x00\x04\x1c\x01\x14\x00\x02\x00\x02\x1c\x01\x16\x00\x02\x00\x01\
 \x1c\x01\x1e\x00\x03TST\x1c\x01\x28\x00\x0800000001\x1c\x01\x3c\x00\x015\x1c\x01\x46\x00\x0820240301\
@@ -31,7 +31,7 @@ fn noon() -> Result<Timestamp, Trouble> {
     }
 }
 
-/// Returns the report of a reader's input.
+/// Returns the report on the input of a reader.
 fn report_of<R: Source + Drop>(
     alloc: Global,
     reader: R,
@@ -48,7 +48,7 @@ fn rows_of(answer: Result<Report, AuditFault>) -> Result<usize, AuditFault> {
     }
 }
 
-/// Checks the row of the urgent envelope. Each check has a number, which the error reports.
+/// Checks the row of the envelope above. Each check has a number, which an error reports.
 fn expect_row(row: &AuditRow) -> Result<(), Trouble> {
     let id = [row.id.service(), row.id.number(), row.id.date_sent()];
     right_at(1, id == [b"TST".as_slice(), b"00000001", b"20240301"])?;
@@ -60,7 +60,7 @@ fn expect_row(row: &AuditRow) -> Result<(), Trouble> {
     right_at(6, row.copy == CopyState::Free)
 }
 
-/// Checks that there is one row, that of the urgent envelope.
+/// Checks that there is one row, which is that of the envelope above.
 fn expect_rows(rows: &[AuditRow]) -> Result<(), Trouble> {
     match rows {
         [row] => expect_row(row),
@@ -75,8 +75,8 @@ fn returns_one_row_for_an_envelope(alloc: Global) -> Result<(), Trouble> {
     }
 }
 
-/// Returns the result of an audit of octets, from a reader of one octet a call that has this
-/// trouble after `good` calls.
+/// Audits octets with a reader that returns one octet in each call, and fails as `trouble` says
+/// after `good` calls. Returns the number of rows, or the error.
 fn troubled(
     alloc: Global,
     octets: &[u8],
@@ -88,7 +88,7 @@ fn troubled(
     rows_of(report_of(alloc, reader, now))
 }
 
-/// Checks that an audit of two envelopes whose reader fails returns the error at the envelope that
+/// Checks the error of an audit of two envelopes whose reader fails: it must name the envelope that
 /// was being read.
 fn expect_failures(alloc: Global, octets: &[u8]) -> Result<(), Trouble> {
     let now = noon()?;
@@ -100,7 +100,8 @@ fn expect_failures(alloc: Global, octets: &[u8]) -> Result<(), Trouble> {
     Ok(())
 }
 
-/// Checks that a million interruptions in a row are an error, and that one fewer are not.
+/// Checks that a million consecutive interruptions are an error, and that one interruption fewer is
+/// not.
 fn expect_interruptions(alloc: Global, octets: &[u8]) -> Result<(), Trouble> {
     let now = noon()?;
     let fault = AuditFault {
@@ -121,7 +122,7 @@ fn audits_report_failed_reads(alloc: Global) -> Result<(), Trouble> {
     expect_interruptions(alloc, &octets)
 }
 
-/// Reads an envelope `left` times, with a different number each time.
+/// A reader that returns an envelope `left` times, with a different number each time.
 #[derive(Drop)]
 struct Again {
     before: &'static [u8],
@@ -130,7 +131,7 @@ struct Again {
 }
 
 impl Again {
-    /// Creates a reader of the smallest envelope, `left` times.
+    /// Creates a reader that returns the smallest envelope `left` times.
     fn new(left: u32) -> Again {
         Again {
             before: SMALLEST.get(..34).unwrap_or(&[]),
@@ -140,7 +141,7 @@ impl Again {
     }
 }
 
-/// Returns the digit of a number with this place value.
+/// Returns the decimal digit of `number` at the place with the value `place`.
 fn digit(number: u32, place: u32) -> u8
     requires { 0 < place }
 {

@@ -1,5 +1,5 @@
-//! Tests of the commands with interrupted readers and writers, and with an output that accepts no
-//! octets.
+//! Tests the commands with readers and writers that are interrupted, and with an output that
+//! accepts no octets.
 
 use crate::outcome::{Trouble, right, right_at};
 use crate::told::Told;
@@ -15,7 +15,7 @@ use std::io;
 use trials::{TrialReader, TrialWriter, Trouble as DeviceTrouble};
 use worked::STORY;
 
-/// The script of the smallest envelope, which has 114 octets.
+/// The script of the smallest envelope, whose packed form has 114 octets.
 const SCRIPT: &[u8] =
     b"1:00 \\x00\\x04\n1:20 \\x00\\x02\n1:22 \\x00\\x01\n1:30 TST\n1:40 00000001\n\
     1:70 20240301\n2:00 \\x00\\x04\nmessage X 1 4 N 0\ntext\n";
@@ -24,16 +24,16 @@ const TEXT: &[u8] = b"Rates stay.\nNo change.\n";
 
 const LINE: &[u8] = b"1 accepted 246 octets\n";
 
-/// The least number of interruptions in a row that is an error.
+/// The number of consecutive interruptions that is an error.
 const TOO_MANY: u32 = 1_000_000;
 
-/// The greatest number of interruptions that is not an error.
+/// The greatest number of consecutive interruptions that is not an error.
 const BORNE: DeviceTrouble = DeviceTrouble::Interruptions(TOO_MANY - 1);
 
-/// The least number of interruptions that is an error.
+/// A trouble with the number of consecutive interruptions that is an error.
 const FAULT: DeviceTrouble = DeviceTrouble::Interruptions(TOO_MANY);
 
-/// The expected result and output of a command, and the lines that it prints to the errors.
+/// The expected result of a command, its output, and the lines in its error output.
 #[derive(Clone, Copy)]
 struct Want {
     answer: Result<u8, CommandFault>,
@@ -41,7 +41,7 @@ struct Want {
     lines: &'static [u8],
 }
 
-/// Nothing is written, because a read failed.
+/// The expected result if a read fails: nothing is written.
 const UNREAD: Want = Want {
     answer: Err(CommandFault::CannotRead),
     octets: b"",
@@ -60,7 +60,7 @@ const TOLD: Want = Want {
     lines: LINE,
 };
 
-/// Expects these octets to be written before a write fails.
+/// The expected result if a write fails after these octets.
 const fn cut(octets: &'static [u8]) -> Want {
     Want {
         answer: Err(CommandFault::CannotWrite),
@@ -69,7 +69,7 @@ const fn cut(octets: &'static [u8]) -> Want {
     }
 }
 
-/// The number of successful calls of a reader or writer, and its trouble afterwards.
+/// The number of successful calls of a reader or writer, and what goes wrong afterwards.
 type Calls = (u64, DeviceTrouble);
 
 const CALM: Calls = (0, DeviceTrouble::Interruptions(0));
@@ -95,7 +95,7 @@ fn is_checked<const N: usize>(
     is_met(answer, output.octets(), b"", want)
 }
 
-/// Returns the result of `story` of the envelope.
+/// Runs `story` on the envelope, and returns the result.
 fn told(
     alloc: Global,
     output: &mut TrialWriter<256>,
@@ -113,8 +113,8 @@ fn is_told(alloc: Global, output: Calls, errors: Calls, want: Want) -> bool {
     is_met(answer, output.octets(), errors.octets(), want)
 }
 
-/// Returns the result of `pack` of the script, and the numbers of octets that it writes to the
-/// output and to the errors.
+/// Runs `pack` on the script. Returns the result, and the lengths of the output and of the error
+/// output in octets.
 fn packed(alloc: Global, input: Calls) -> (Result<u8, CommandFault>, usize, usize) {
     let request = PackRequest {
         subfile: 1024,
@@ -127,8 +127,8 @@ fn packed(alloc: Global, input: Calls) -> (Result<u8, CommandFault>, usize, usiz
     (answer, output.octets().len(), errors.octets().len())
 }
 
-/// Checks whether `check` and `pack` behave as expected with trouble after 50 successful reads.
-/// `octets` is the number of octets that `pack` writes.
+/// Checks whether `check` and `pack` behave as expected if `trouble` occurs after 50 successful
+/// reads. `octets` is the expected length of the output of `pack`.
 fn reads_past(alloc: Global, trouble: DeviceTrouble, want: Want, octets: usize) -> bool {
     let input = (50, trouble);
     is_checked(alloc, input, writer(CALM), want) && packed(alloc, input) == (want.answer, octets, 0)

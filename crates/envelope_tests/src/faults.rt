@@ -1,5 +1,5 @@
-//! Tests the errors of the upper layers: each is an error of std, has a number and a name, and is
-//! printed.
+//! Tests the errors of the upper layers: each implements the `Error` of std, has a number and a
+//! name, and can be printed.
 
 use iim_audit::{AuditCause, AuditFault};
 use iim_fields::FieldCause;
@@ -20,7 +20,7 @@ const MISSING: Refusal = Refusal {
     cause: Cause::Field(FieldCause::Missing),
 };
 
-/// Prints a number, a name and their error.
+/// Prints a number, a name and the error that has them.
 fn print_cause<E: Error>(
     rt: &impl Print,
     number: u8,

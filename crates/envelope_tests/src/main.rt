@@ -1,13 +1,14 @@
 //! Tests the public functions that unpack and pack complete envelopes, and prints the results.
 //!
-//! The functions that allocate are first ([`memory`]); with the argument `memory` only these are
-//! tested. Then follow the unpacker and the audit with readers that fail and sinks that count, the
-//! packer and the commands with readers and writers that fail, round trips, and lemmas; and last
-//! the tests of the layers below (`layer_tests`). The file `stdout` has the expected lines.
+//! The functions that allocate are tested first ([`memory`]); with the argument `memory` only these
+//! are tested. Then come the unpacker and the audit with readers that fail and sinks that count
+//! calls, the packer and the commands with readers and writers that fail, round trips, and lemmas.
+//! Last come the tests of the layers below (`layer_tests`). The file `stdout` has the expected
+//! lines.
 //!
-//! All tests are in one program: each proved program first reads all that it links, and a separate
-//! test would be proved twice. Tests of octets alone are in `crates/vectors`, and tests with the
-//! operating system in `tests/command`.
+//! All tests are in one program, because proving any program takes a fixed time for the crates that
+//! it uses, and a separate test would be proved twice. Tests of octets alone are in
+//! `crates/vectors`, and tests with the operating system are in `tests/command`.
 #![tactic(auto)]
 
 mod audits;
@@ -56,7 +57,7 @@ fn tell_layers(rt: &HostRuntime) -> Result<(), End> {
     Ok(())
 }
 
-/// Tests the functions that allocate, and then runs all tests, if these are requested, too.
+/// Tests the functions that allocate and, without the argument `memory`, runs all other tests.
 fn tell(rt: &HostRuntime) -> Result<(), End> {
     memory::tell_all(rt)?;
     if asks_for_memory(rt) {

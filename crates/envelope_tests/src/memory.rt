@@ -1,9 +1,9 @@
-//! Calls each function of the libraries that allocates, and after it those that do not allocate,
-//! and prints each result.
+//! Calls each function of the libraries that allocates, followed by calls that do not allocate, and
+//! prints each result.
 //!
-//! A function whose allocation fails must report that, and leave its arguments unchanged. Then it
-//! is called again, and must return the same as without the failure. `tests/command` runs these
-//! calls once for each allocation, and lets that one fail.
+//! A function whose allocation fails must report the failure, and leave its arguments unchanged.
+//! The test then repeats the call, which must return the same result as without the failure.
+//! `tests/command` runs this program once for each allocation, and makes that allocation fail.
 
 mod auditing;
 mod calls;

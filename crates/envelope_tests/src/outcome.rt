@@ -3,19 +3,19 @@
 use std::alloc::AllocError;
 use std::{fmt, io};
 
-/// The reason why a call or a test did not have the expected result.
+/// Why a call or a test did not have the expected result.
 #[derive(Clone, Copy)]
 pub enum Trouble {
     /// An allocation failed, and nothing else changed.
     OutOfMemory,
     /// An allocation failed at the envelope with this number, and nothing else changed.
     OutOfMemoryAt(u64),
-    /// The allocation of the lines failed at the octet with this offset. Then the number of lines,
-    /// and of their octets.
+    /// The allocation of the lines failed at the octet with this offset. The other numbers are
+    /// those of the lines, and of their octets.
     StoppedAt(u64, usize, usize),
-    /// Anything else, in the row or after the calls of this number.
+    /// Any other result, in the row or after the calls with this number.
     WrongAt(usize),
-    /// Anything else.
+    /// Any other result.
     Wrong,
 }
 
@@ -51,7 +51,8 @@ pub(crate) fn right(is_right: bool) -> Result<(), Trouble> {
     }
 }
 
-/// Checks that a result is as expected, in the row or after the calls of this number.
+/// Checks that a result is as expected. An error reports `place`, the number of the row or of the
+/// calls before.
 pub(crate) fn right_at(place: usize, is_right: bool) -> Result<(), Trouble> {
     if is_right {
         Ok(())
@@ -60,7 +61,7 @@ pub(crate) fn right_at(place: usize, is_right: bool) -> Result<(), Trouble> {
     }
 }
 
-/// Checks that a result is as expected. `was_refused` is whether an allocation failed before.
+/// Checks that a result is as expected. `was_refused` is whether an earlier allocation failed.
 pub(crate) fn right_after(is_right: bool, was_refused: bool) -> Result<(), Trouble> {
     match (is_right, was_refused) {
         (true, false) => Ok(()),

@@ -1,4 +1,4 @@
-//! Tests of packing into writers that fail. The expected values follow from the format.
+//! Tests packing with writers that fail. The expected values follow from the format.
 
 mod broken;
 mod failing;
@@ -14,10 +14,10 @@ use std::alloc::{AllocError, Global};
 use std::io;
 use worked::{STORY_FRONT, STORY_OBJECT};
 
-/// A dataset's record, number and data.
+/// The record, the number and the data of a dataset.
 type Field<'o> = (u8, u8, &'o [u8]);
 
-/// Appends a dataset of fewer than 256 octets in its encoding.
+/// Appends the encoding of a dataset with fewer than 256 octets of data.
 fn put_dataset(all: &mut Vec<u8>, (rec, set, data): Field<'_>) -> Result<(), AllocError> {
     let count = u8::try_from(data.len()).unwrap_or(0);
     all.extend_from_slice(&[0x1c, rec, set, 0, count])?;
@@ -28,7 +28,7 @@ fn four_octets(number: u64) -> [u8; 4] {
     u32::try_from(number).unwrap_or(0).to_be_bytes()
 }
 
-/// Appends record 7 for a plan.
+/// Appends record 7 of a plan.
 fn put_sizes(all: &mut Vec<u8>, plan: Plan) -> Result<(), AllocError> {
     let (is_known, set, octets) = match plan.size {
         Size::Known(octets) => (1, 90, octets),
@@ -43,7 +43,7 @@ fn put_sizes(all: &mut Vec<u8>, plan: Plan) -> Result<(), AllocError> {
     put_dataset(all, (7, set, &four_octets(octets)))
 }
 
-/// Appends records 7, 8 and 9 for a plan.
+/// Appends records 7, 8 and 9 of a plan.
 fn put_object(all: &mut Vec<u8>, object: &[u8], plan: Plan) -> Result<(), AllocError> {
     put_sizes(all, plan)?;
     let most = (plan.subfile as usize).max(1);
@@ -53,7 +53,7 @@ fn put_object(all: &mut Vec<u8>, object: &[u8], plan: Plan) -> Result<(), AllocE
     put_dataset(all, (9, 10, &four_octets(object.len() as u64)))
 }
 
-/// Returns the expected packed form of the sample story for a plan.
+/// Returns the expected packed form of the sample story under a plan.
 fn expected(alloc: Global, plan: Plan) -> Result<Vec<u8>, AllocError> {
     let mut all = Vec::from_slice(alloc, STORY_FRONT)?;
     put_object(&mut all, STORY_OBJECT, plan)?;

@@ -1,4 +1,4 @@
-//! Tests of round trips: envelopes are packed, split anywhere, and unpacked. The expected values
+//! Tests round trips: envelopes are packed, split at any index, and unpacked. The expected values
 //! follow from the format.
 
 ghost use Rattle.std.specs.Prelude.{◌<◌};
@@ -27,7 +27,7 @@ struct Got {
 }
 
 impl Got {
-    /// Unpacks the stream of these chunks.
+    /// Unpacks the stream that these chunks form.
     fn of(alloc: Global, pieces: &[&[u8]]) -> Option<Got> {
         let mut lines = Lines::new(alloc);
         match unpack_packed(alloc, LIMITS, pieces, &mut lines) {
@@ -65,8 +65,9 @@ impl Got {
             && self.lines.iter().eq(other.lines.iter())
     }
 
-    /// Checks whether octets, split at `cut` and followed by others, unpack to the same value.
-    /// `object` has the expected length of the object and number of subfiles.
+    /// Checks whether the octets unpack to the same value, if they are split at `cut` and followed
+    /// by others. `object` has the expected length of the object and the expected number of
+    /// subfiles.
     fn comes_back(&self, alloc: Global, octets: &[u8], cut: usize, object: (u64, u64)) -> bool {
         let (front, back) = octets.split_at(cut.min(octets.len()));
         match Got::of(alloc, &[front, b"", back, b"\x1d and more"]) {
@@ -75,15 +76,15 @@ impl Got {
         }
     }
 
-    /// Checks whether `octets` octets were consumed, the object has this length and number of
-    /// subfiles, and all else is the same as in `other`.
+    /// Checks whether `octets` octets were consumed, the object has this length and this number of
+    /// subfiles, and everything else is the same as in `other`.
     fn is_whole(&self, octets: usize, object: (u64, u64), other: &Got) -> bool {
         let sizes = self.unpacked.sizes;
         self.used == octets as u64 && (sizes.total, sizes.subfiles) == object && self.is_same(other)
     }
 
-    /// Packs the value in subfiles of up to `subfile` octets, and checks whether it unpacks to the
-    /// same value. `object` is the length of the object.
+    /// Packs the value in subfiles of up to `subfile` octets, and checks whether the packed form
+    /// unpacks to the same value. `object` is the length of the object.
     fn comes_back_from(&self, alloc: Global, subfile: u64, size: Size, object: u64) -> bool
         requires { 0 < subfile }
     {
@@ -102,7 +103,8 @@ impl Got {
         packed_size(head, &self.lines, trailer) == Some(object)
     }
 
-    /// Packs the value for every small plan, and unpacks it. `object` is the length of the object.
+    /// Packs the value under every small plan, and unpacks it again. `object` is the length of the
+    /// object.
     fn expect_each_plan(&self, alloc: Global, object: u64) -> Result<(), Trouble> {
         right(self.has_size(object))?;
         for subfile in 1..61 {
@@ -154,7 +156,7 @@ fn refusal_of<T: Drop>(answer: Result<T, UnpackFault>) -> Option<(Cause, u64)> {
     }
 }
 
-/// Checks whether the first `count` octets of the sample envelope are truncated.
+/// Checks whether the first `count` octets of the sample envelope are reported as truncated.
 fn is_truncated(alloc: Global, count: usize) -> bool {
     let mut lines = Lines::new(alloc);
     let answer = unpack_packed(alloc, LIMITS, &[front(count)], &mut lines);
@@ -195,7 +197,8 @@ fn unpacks_a_story_before_others(alloc: Global) -> Result<(), Trouble> {
     right(is_back)
 }
 
-/// The last octet of the first input has 49 instead of 50.
+/// The last octet of the first input is 49 hexadecimal instead of 50, so that the confirmed size is
+/// wrong.
 fn rejects_a_story_at_its_octet(alloc: Global) -> Result<(), Trouble> {
     let wrong = unpack_story(alloc, LIMITS, &[front(245), b"\x31"]);
     right(refusal_of(wrong) == Some((Cause::Size(SizeCause::ConfirmedWrong), 245)))?;
@@ -203,14 +206,14 @@ fn rejects_a_story_at_its_octet(alloc: Global) -> Result<(), Trouble> {
     right(refusal_of(short) == Some((Cause::Truncated, 200)))
 }
 
-/// Returns the smallest envelope with an extended count in 1:30: 118 octets.
+/// Returns the smallest envelope with an extended count in 1:30, which makes it 118 octets long.
 fn extended(alloc: Global) -> Result<Vec<u8>, Trouble> {
     let (before, tagged) = SMALLEST.split_at(24.min(SMALLEST.len()));
     let (_count, after) = tagged.split_at(2.min(tagged.len()));
     Ok(joined(alloc, &[before, b"\x80\x04\x00\x00\x00\x03", after])?)
 }
 
-/// Checks that the value read from the 118 octets packs to the smallest envelope.
+/// Checks that the value of these 118 octets is packed to the smallest envelope.
 fn packs_a_value_read_from_extended_counts(alloc: Global) -> Result<(), Trouble> {
     let octets = extended(alloc)?;
     right(octets.len() == 118)?;
@@ -225,8 +228,8 @@ fn packs_a_value_read_from_extended_counts(alloc: Global) -> Result<(), Trouble>
 }
 
 /// Packs the smallest envelope with one line of 32,754 octets `a`, and checks how the tags of its
-/// subfiles begin: 32,872 octets with one subfile of 32,768, and 32,873 with one of 32,767 and one
-/// of 1.
+/// subfiles begin. The packed form has 32,872 octets with one subfile of 32,768 octets, and 32,873
+/// with subfiles of 32,767 octets and 1 octet.
 fn packs_one_long_line_in_subfiles(alloc: Global) -> Result<(), Trouble> {
     let Some(mut got) = Got::of(alloc, &[SMALLEST.as_slice()]) else {
         return Err(Trouble::Wrong);
@@ -246,7 +249,7 @@ fn packs_one_long_line_in_subfiles(alloc: Global) -> Result<(), Trouble> {
     right(has_at(&two, 32_858, b"\x1c\x08\x0a\x00\x01\x04"))
 }
 
-/// Checks whether octets have others from the offset `at` on.
+/// Checks whether `others` occur in the octets at the offset `at`.
 fn has_at(octets: &[u8], at: usize, others: &[u8]) -> bool {
     octets
         .get(at..)

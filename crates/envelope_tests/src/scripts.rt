@@ -1,4 +1,4 @@
-//! Tests of scripts that are read and packed, and calls of lemmas about scripts.
+//! Tests scripts that are parsed and packed, and calls lemmas about scripts.
 
 ghost use Rattle.iim_script.specs.Format.Scripts.{text_lines};
 ghost use Rattle.wire_story.specs.Format.Texts.{IsText};
@@ -25,7 +25,7 @@ fn writer() -> TrialWriter<256> {
     TrialWriter::new(0, DeviceTrouble::Interruptions(0))
 }
 
-/// Packs a script with the library's `pack`, with the lines that the script returns.
+/// Packs a script with the library's `pack`, from the lines that the script returns.
 fn packed_by_lines(alloc: Global, script: &Script<'_>) -> Packed
     requires { IsText script.now.text.now (text_lines script.now.text.now) }
 {
@@ -47,7 +47,7 @@ fn packed_by_lines(alloc: Global, script: &Script<'_>) -> Packed
     }
 }
 
-/// Packs a script with the command.
+/// Packs a script with the command `pack`.
 fn packed_by_command(alloc: Global, script: &[u8]) -> Packed {
     let request = PackRequest {
         subfile: 1024,
@@ -62,7 +62,7 @@ fn packed_by_command(alloc: Global, script: &[u8]) -> Packed {
     }
 }
 
-/// Checks that both ways write the same octets, those of the sample envelope.
+/// Checks that both ways write the same octets, which are those of the sample envelope.
 fn packs_the_lines_of_a_script(alloc: Global) -> Result<(), Trouble> {
     let Ok(script) = read_script(alloc, LIMITS, SCRIPT) else {
         return Err(Trouble::Wrong);

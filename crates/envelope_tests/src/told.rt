@@ -1,4 +1,4 @@
-//! The lines of test results.
+//! Prints the results of tests.
 
 use crate::outcome::{End, Trouble};
 use std::io;
@@ -10,7 +10,7 @@ pub(crate) struct Told {
 }
 
 impl Told {
-    /// Creates the value before the first test.
+    /// Creates the value for the time before the first test.
     pub(crate) fn new() -> Told {
         Told { are_right: true }
     }

@@ -1,4 +1,4 @@
-//! Tests the unpacker with sinks that count or stop, and with readers that fail.
+//! Tests the unpacker with sinks that count calls or stop, and with readers that fail.
 
 mod calls;
 mod intakes;

@@ -20,7 +20,7 @@ pub fn run(rt: &HostRuntime) -> Result<()> {
     print_all(rt.alloc(), &mut intake, &mut rt.stdout())
 }
 
-/// Prints each envelope. It succeeds only at the end of the input, and if none of it was rejected.
+/// Prints each envelope. Succeeds only if the whole input was accepted.
 fn print_all<R: Source, W: Write>(
     alloc: Global,
     intake: &mut Intake<R>,
@@ -92,7 +92,7 @@ fn put_texts(alloc: Global, members: &mut Map<String, Value>, unpacked: &Unpacke
     Ok(())
 }
 
-/// Returns the list of datasets, in order.
+/// Converts the datasets to a list, in order.
 fn fields_of(alloc: Global, envelope: &Envelope) -> Result<Value> {
     let mut fields = Vec::new(alloc);
     for (rec, set, octets) in envelope.fields() {
@@ -101,14 +101,14 @@ fn fields_of(alloc: Global, envelope: &Envelope) -> Result<Value> {
     Ok(Value::Array(fields))
 }
 
-/// Returns a dataset as a list of two texts: its name and its data.
+/// Converts a dataset to a list of two texts: its name and its data.
 fn field_of(alloc: Global, name: DatasetName, octets: &[u8]) -> Result<Value> {
     let name = format!(in alloc; "{name}")?;
     let data = text_of(alloc, octets)?;
     Ok(json!(in alloc; [name, data])?)
 }
 
-/// Returns the list of the lines of a story.
+/// Converts a story to a list of its lines.
 fn story_of(alloc: Global, lines: &Lines) -> Result<Value> {
     let mut story = Vec::new(alloc);
     for line in lines.iter() {
@@ -117,8 +117,8 @@ fn story_of(alloc: Global, lines: &Lines) -> Result<Value> {
     Ok(Value::Array(story))
 }
 
-/// Escapes octets as `show` prints them. The character set is unknown, so octets other than 20 to
-/// 7E, and the backslash, are written as `\x` and two digits.
+/// Escapes octets as `show` prints them. The character set is unknown, so every octet outside 20 to
+/// 7E hexadecimal, and the backslash, is written as `\x` and two hexadecimal digits.
 fn text_of(alloc: Global, octets: &[u8]) -> Result<String>
     ensures { IfOk result (λ text. string_bytes text ≡ shown octets.now) }
 {

@@ -13,15 +13,15 @@ use std::fs;
 use std::process::ExitCode;
 use wire_story::{LineWriter, StorySink};
 
-/// The limits on records 1 and 2 of an envelope, the same in each run.
+/// The limits on records 1 and 2 of an envelope. They must be the same in each run.
 const LIMITS: Limits = Limits::WIRE;
 
-/// Receives a part. If it is rejected or something fails, the file is unchanged, and the part can
-/// be sent again. The text in it that was already written is then written a second time.
+/// Receives a part. If the part is rejected or a call fails, the file is unchanged, and the part
+/// can be sent again. Text of the part that was already written is then written a second time.
 pub fn run(rt: &HostRuntime, name: &str) -> Result<ExitCode> {
     let mut unpacker = load(rt, name)?;
-    // A sink has no saved state: lines are written while they are read, joined by LF, and the next
-    // run continues a partial line.
+    // The state of a sink is not saved. Lines are written while they are read, joined by LF, and
+    // the next run continues a partial line.
     let mut lines = LineWriter::new(FromWrite::new(rt.stdout()));
     if !receive(&mut unpacker, &mut FromRead::new(rt.stdin()), &mut lines)? {
         store(rt, name, &unpacker)?;
@@ -34,8 +34,8 @@ pub fn run(rt: &HostRuntime, name: &str) -> Result<ExitCode> {
     Ok(ExitCode::SUCCESS)
 }
 
-/// Returns the unpacker in the saved state: the file has the number of octets received, in eight
-/// octets, and the ticket.
+/// Restores the unpacker from the file, which has the number of octets received, in eight octets,
+/// and the ticket.
 fn load(rt: &HostRuntime, name: &str) -> Result<Unpacker> {
     if !fs::exists(rt, name)? {
         return Ok(Unpacker::new(rt.alloc(), LIMITS)?);
@@ -46,8 +46,8 @@ fn load(rt: &HostRuntime, name: &str) -> Result<Unpacker> {
     Ok(Unpacker::restore(rt.alloc(), LIMITS, &place[8..], octets)?)
 }
 
-/// Saves the state. A new file replaces the old one atomically: if this is interrupted, the old
-/// state is still there.
+/// Saves the state. A new file replaces the old one atomically, so that an interruption leaves the
+/// old state in place.
 fn store(rt: &HostRuntime, name: &str, unpacker: &Unpacker) -> Result<()> {
     let mut place = Vec::from_slice(rt.alloc(), &unpacker.octets().to_be_bytes())?;
     place.extend_from_slice(&unpacker.save(rt.alloc())?)?;
@@ -56,7 +56,7 @@ fn store(rt: &HostRuntime, name: &str, unpacker: &Unpacker) -> Result<()> {
     Ok(fs::rename(rt, new.as_str(), name)?)
 }
 
-/// Feeds the input to its end. Returns whether the envelope is complete.
+/// Feeds the whole input to an unpacker. Returns whether the envelope is complete.
 fn receive<R: Source, S: StorySink>(to: &mut Unpacker, from: &mut R, lines: &mut S) -> Result<bool>
     ensures { IfOk result (λ ended. IsTrue ended ↔ IsDone to.new) }
 {

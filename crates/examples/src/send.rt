@@ -1,5 +1,5 @@
-//! Sends copy: builds an envelope from a few values, and packs it to standard output with the
-//! lines of standard input, which must be UTF-8.
+//! Sends copy: builds an envelope from a few values, and packs it to standard output with the lines
+//! of standard input, which must be UTF-8.
 
 ghost use Rattle.std.specs.Prelude.{◌≡◌, map, IfOk};
 
@@ -12,7 +12,7 @@ use std::alloc::Global;
 use wire_message::MessageHead;
 
 /// The limits on the envelope's datasets. Exactly this much memory is allocated before the first
-/// is added.
+/// dataset is added.
 const LIMITS: Limits = Limits {
     octets: 1_024,
     fields: 16,
@@ -37,7 +37,8 @@ const FIELDS: [(u8, u8, &[u8]); 9] = [
 /// Sends one envelope.
 pub fn run(rt: &HostRuntime) -> Result<()> {
     let envelope = build(rt.alloc())?;
-    // Source, number, priority, category, announced words and info of the message.
+    // The parts of the message header: source, number, priority, category, announced words and
+    // info.
     let head = MessageHead::new(b"TST", b"0007", b"4", b"ECO", b"4", b"rates");
     let head = head.context("bad header")?;
     // Subfiles of 1,024 octets. The length of the story is not known yet.
@@ -51,13 +52,13 @@ fn send(rt: &HostRuntime, envelope: &Envelope, head: &MessageHead, plan: Plan) -
     let started = Packer::start(rt.alloc(), envelope, head, plan, output);
     let mut packer = started.map_err(|fault| fault.cause)?;
     pack_lines(rt, &mut packer)?;
-    // The message ends without a trailer. After an error, what was written is not an envelope.
+    // The message has no trailer. If this call fails, what was written is not an envelope.
     packer.finish(b"").map_err(|(_, cause)| cause)?;
     Ok(())
 }
 
-/// Builds the envelope. Each dataset is checked when it is added. At the end it is checked that
-/// none is missing.
+/// Builds the envelope. Each dataset is checked when it is added, and at the end the builder checks
+/// that no mandatory dataset is missing.
 fn build(alloc: Global) -> Result<Envelope>
     ensures { IfOk result (λ envelope. envelope ≡ map (λ f. record { rec = f.0; set = f.1; octets = f.2.now }) FIELDS) }
 {
@@ -68,7 +69,7 @@ fn build(alloc: Global) -> Result<Envelope>
     Ok(builder.finish().map_err(|(_, fault)| fault)?)
 }
 
-/// Packs the lines of the input while they are read, with a line end between two lines. A packer
+/// Packs the lines of the input while they are read, with a line end between two lines. The packer
 /// buffers at most one subfile.
 fn pack_lines<R: Input + Alloc, W: Target>(rt: &R, packer: &mut Packer<W>) -> Result<()> {
     for (at, line) in rt.lines(rt.alloc()).enumerate() {

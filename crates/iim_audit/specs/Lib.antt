@@ -1,4 +1,4 @@
--- What octets are, and the definitions that public contracts cite.
+-- The definitions that public contracts cite.
 pub mod Format
 -- Definitions that only proofs and private clauses cite.
 pub mod Steps

@@ -1,4 +1,4 @@
-//! The age of an envelope.
+//! Ages: the time since an envelope was sent.
 
 ghost use Rattle.std.specs.Prelude.{◌≡◌, ◌-ℤ◌};
 ghost use Rattle.iim_audit.specs.Format.{age_at, whole_seconds, WholeSecondsAreFloors};
@@ -17,15 +17,16 @@ pub(crate) fn seconds_between(sent: Timestamp, now: Timestamp) -> i64
     (now.as_nanosecond() - sent.as_nanosecond()).div_euclid(SECOND) as i64
 }
 
-/// Returns how many whole seconds ago an envelope was sent, or `None` if it states no instant.
+/// Returns the number of whole seconds since the envelope was sent, or `None` if the envelope
+/// states no such instant.
 pub(crate) fn age_at(envelope: &EnvelopeRef<'_>, now: Timestamp) -> Option<i64>
     ensures { result ≡ age_at now.nanosecond envelope.now }
 {
     instants::sent(envelope).map(|sent| seconds_between(sent, now))
 }
 
-/// Proves that whole seconds are rounded down: they are the greatest integer that is not above the
-/// exact number of seconds.
+/// Proves that ages are rounded down: the whole seconds are the greatest integer that is not above
+/// the exact number of seconds.
 pub fn whole_seconds_are_floors()
     ensures { WholeSecondsAreFloors }
 {}

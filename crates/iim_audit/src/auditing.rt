@@ -1,4 +1,4 @@
-//! Audits of all envelopes of an intake.
+//! Audits all envelopes of an intake, which splits an input into envelopes.
 
 ghost use Rattle.std.specs.Prelude.{◌≡◌, ℕ, None, Some, IfOk, IfErr, OnOk, IsErrAnd};
 ghost use Rattle.iim_unpack.specs.States.Intakes.{input_of};
@@ -21,8 +21,8 @@ use wire_message::laws::message_laws;
 use wire_story::WordCount;
 use wire_story::laws::story_laws;
 
-/// Resets an unpacker and feeds it the next envelope of an intake. Returns the number of words in
-/// its story, or `None` at the end of the input.
+/// Resets an unpacker and feeds the next envelope of an intake to it. Returns the number of words
+/// in the story of that envelope, or `None` at the end of the input.
 fn take_envelope<R: Source>(
     intake: &mut Intake<R>,
     unpacker: &mut Unpacker,
@@ -53,11 +53,11 @@ fn take_envelope<R: Source>(
     }
 }
 
-/// Returns the report of all envelopes of an input at the instant `now`: one row for each, in the
-/// order of the input. If the intake had already failed, returns the same error again, with
-/// envelope 1.
+/// Returns the report on all envelopes of an input at the instant `now`. The report has one row for
+/// each envelope, in the order of the input. If the intake had already failed, returns the same
+/// error again, for envelope 1.
 ///
-/// Allocates memory for each row. Takes time proportional to n log n for n envelopes.
+/// Allocates memory for each row. Takes O(n log n) time for n envelopes.
 pub fn audit<R: Source>(
     alloc: Global,
     intake: &mut Intake<R>,
@@ -70,11 +70,11 @@ pub fn audit<R: Source>(
         → IfErr result (λ fault. FailsWithState limits (input_of R.state intake.old, intake.old.octets)
         (input_of R.state intake.new, intake.new.failed, intake.new.octets) fault.envelope fault.cause) }
 
-    // After a report the intake has not failed, and its count of octets is 0.
+    // If a report is returned, the intake has not failed, and its count of octets is 0.
     ensures lives { OnOk result (intake.new.failed ≡ None) }
     ensures none { OnOk result (intake.new.octets ≡ 0) }
 
-    // An intake that had already failed is unchanged, except for its count of octets.
+    // A call on an intake that had already failed changes only its count of octets.
     ensures again { (octet : ℕ) → intake.old.failed ≡ Some octet
         → IsErrAnd result (λ fault. RepeatsError octet intake.old.octets intake.new.octets fault.envelope fault.cause) }
     ensures unchanged { (octet : ℕ) → intake.old.failed ≡ Some octet → intake.new

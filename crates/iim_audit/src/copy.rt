@@ -1,4 +1,4 @@
-//! Copy states: whether the copy of an envelope may be used.
+//! Copy states: whether the news copy in an envelope may be used.
 
 ghost use Rattle.std.specs.Prelude.{◌≡◌, ◌≤◌, length, Some};
 ghost use Rattle.iim_audit.specs.Format.{copy_at, copy_word};
@@ -8,14 +8,15 @@ use jiff::Timestamp;
 use std::fmt;
 use std::fmt::{Display, Formatter};
 
-/// Whether the copy of an envelope may be used.
+/// Whether the news copy in an envelope may be used.
 #[derive(Clone, Copy, Debug, PartialEq, Eq)]
 pub enum CopyState {
-    /// Its release is later than the instant of the audit.
+    /// The copy may not be used yet: its release is later than the instant of the audit.
     Held,
-    /// It is not held, and its expiration is earlier than that instant.
+    /// The copy may no longer be used: its expiration is earlier than the instant of the audit. A
+    /// copy that is also not released yet is `Held`.
     Expired,
-    /// It may be used.
+    /// The copy may be used.
     Free,
 }
 
@@ -41,7 +42,7 @@ impl CopyState {
     }
 }
 
-/// Returns whether the copy of an envelope may be used at the instant `now`.
+/// Returns the copy state of an envelope at the instant `now`.
 pub(crate) fn copy_at(envelope: &EnvelopeRef<'_>, now: Timestamp) -> CopyState
     ensures { result ≡ copy_at now.nanosecond envelope.now }
 {

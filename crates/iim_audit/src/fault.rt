@@ -18,8 +18,8 @@ pub enum AuditCause {
     /// An allocation failed: cause 70.
     #[error("out of memory")]
     OutOfMemory,
-    /// The input has more than 1,000,000 envelopes, and this is the first of them too many: cause
-    /// 90.
+    /// The input has more than 1,000,000 envelopes: cause 90. The envelope of the error is the
+    /// first one over this limit.
     #[error("too many envelopes")]
     TooManyEnvelopes,
 }
@@ -28,8 +28,8 @@ impl AuditCause {
     ghost use Rattle.std.specs.Prelude.{◌≡◌};
     ghost use Rattle.iim_audit.specs.Format.{audit_number, audit_name};
 
-    /// Returns the number of the cause, as it is printed. For a refusal, this is the number of its
-    /// cause.
+    /// Returns the number of the cause, as it is printed. For a refusal, it is the number of the
+    /// refusal's cause.
     pub fn number(self) -> u8
         ensures { result ≡ audit_number self }
     {
@@ -42,8 +42,8 @@ impl AuditCause {
         }
     }
 
-    /// Returns the name of the cause, as it is printed. For a refusal, this is the name of its
-    /// cause.
+    /// Returns the name of the cause, as it is printed. For a refusal, it is the name of the
+    /// refusal's cause.
     pub fn name(self) -> &'static str
         ensures { result.now ≡ audit_name self }
     {
@@ -63,11 +63,11 @@ impl AuditCause {
 pub struct AuditFault {
     /// The number of the envelope that was being read, from 1.
     pub envelope: u64,
-    /// The reason why the audit stopped there.
+    /// The reason why the audit stopped at this envelope.
     pub cause: AuditCause,
 }
 
-/// Returns an error at the envelope with this number.
+/// Returns an error for the envelope with this number.
 pub(crate) fn error_at(envelope: u64, cause: AuditCause) -> AuditFault
     ensures { result ≡ record { envelope = envelope; cause = cause } }
 {
@@ -77,7 +77,7 @@ pub(crate) fn error_at(envelope: u64, cause: AuditCause) -> AuditFault
 ghost use Rattle.std.specs.Prelude.{◌≡◌};
 ghost use Rattle.iim_audit.specs.Steps.{audit_cause_of};
 
-/// Returns the cause of an audit's error for an error of its intake.
+/// Converts an error of an intake to the cause of an audit's error.
 pub(crate) fn audit_cause_of(fault: IntakeFault) -> AuditCause
     ensures { result ≡ audit_cause_of fault }
 {

@@ -1,4 +1,4 @@
-//! The rows that an audit stores while it reads.
+//! The rows of an audit that is in progress.
 
 ghost use Rattle.std.specs.Prelude.{◌≡◌, ◌+◌, ◌<◌, ◌≤◌, ◌^◌, ◌++◌, ◌∷◌, [], ℤ, List, length, OnOk};
 ghost use Rattle.iim_places.specs.Format.Admitted.{Value};
@@ -11,8 +11,8 @@ use crate::row::{AuditRow, EnvelopeParts, row_of};
 use jiff::Timestamp;
 use std::alloc::{AllocError, Global};
 
-/// The rows so far, each with `first` still unset, and the sort key of each row. The keys are
-/// stored together with the rows, because nothing may be allocated at the end of the input.
+/// The rows so far, each with `first` still unset, and a sort key for each row. The keys are stored
+/// when the rows are added, because nothing may be allocated at the end of the input.
 #[derive(Drop)]
 pub(crate) struct Ledger {
     rows: Vec<AuditRow>,

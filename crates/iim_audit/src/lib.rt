@@ -1,8 +1,9 @@
 //! Audits a stream of envelopes. The report has a row for each envelope: its id, its sizes, its
-//! words, its age, the earlier envelope that it repeats, and whether its copy may be used.
+//! number of words, its age, the earlier envelope that it repeats, and whether its copy may be
+//! used.
 //!
-//! Depends on `iim_unpack`, and on the crates below it for the views of an envelope. The entry
-//! point is [`audit`]; its report is a function of the list of envelopes and of the present
+//! Depends on `iim_unpack`, and on the crates below `iim_unpack` for the views of an envelope. The
+//! entry point is [`audit`], whose report is a function of the list of envelopes and of the present
 //! instant.
 #![tactic(auto)]
 

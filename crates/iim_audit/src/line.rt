@@ -8,15 +8,15 @@ use iim_dataset::internals::{escaped, is_plain};
 use itoa::write_digits;
 use std::marker::Model;
 
-/// The capacity of a line in octets. No line is longer.
+/// The capacity of a line in octets. No line of a report is longer.
 pub(crate) const ROOM: usize = 272;
 
-/// A line of a report, as it is printed. It allocates nothing. Contracts see it as the list of its
-/// octets.
+/// A line of a report, as it is printed. It allocates nothing. Its model in contracts is the list
+/// of its octets.
 #[derive(Drop)]
 pub struct ReportLine {
     room: [u8; ROOM],
-    // The index of the first octet: the octets are at the end of the buffer.
+    // The index of the first octet. The octets of the line are at the end of the buffer.
     from: usize,
 }
 
@@ -69,7 +69,7 @@ impl ReportLine {
         self.from = write_digits(number, &mut self.room, self.from);
     }
 
-    /// Inserts an octet at the front, escaped as in a report.
+    /// Inserts an octet at the front, escaped if it is not printable.
     fn prepend_shown_octet(&mut self, octet: u8)
         requires { length self.old + 4 ≤ ROOM }
         ensures octets { self.new ≡ shown_octet octet ++ self.old }
@@ -82,7 +82,7 @@ impl ReportLine {
         }
     }
 
-    /// Inserts octets at the front, escaped as in a report.
+    /// Inserts octets at the front, each escaped if it is not printable.
     pub(crate) fn prepend_shown(&mut self, octets: &[u8])
         requires { length self.old + 4 * length octets.now ≤ ROOM }
         ensures octets { self.new ≡ shown octets.now ++ self.old }

@@ -16,12 +16,12 @@ use wire_message::laws::message_laws;
 use wire_story::WordCount;
 use wire_story::laws::{delivery_of_chunks_joins, story_laws};
 
-/// The row of an envelope that ends in a chunk, with its lengths and instants.
+/// The row of an envelope that ends in a chunk, with the envelope's length and instants.
 #[derive(Debug, Drop)]
 pub struct PieceRow {
     /// The number of octets of the chunk that were consumed. The last of them ends the envelope.
     pub used: usize,
-    /// The length of the envelope in octets, those of earlier chunks included.
+    /// The length of the envelope in octets, including its octets in earlier chunks.
     pub octets: u64,
     /// The row of the envelope. Its `first` is `None`.
     pub row: AuditRow,
@@ -31,15 +31,15 @@ pub struct PieceRow {
     pub expires: Option<Timestamp>,
 }
 
-/// An audit of envelopes that are received in chunks. It has one unpacker for all envelopes, which
-/// is reset after each of them and reuses its memory.
+/// An audit of envelopes that are received in chunks. It has one unpacker, which is reset after
+/// each envelope and reuses its memory.
 #[derive(Drop)]
 pub struct PieceAudit {
     unpacker: Unpacker,
     count: WordCount,
 }
 
-/// Feeds a chunk to an unpacker, and counts the words of the text in it.
+/// Feeds a chunk to an unpacker, and counts the words of the story text in the chunk.
 fn feed_count(
     unpacker: &mut Unpacker,
     piece: &[u8],
@@ -57,8 +57,8 @@ fn feed_count(
 }
 
 impl PieceAudit {
-    /// Creates an audit that has consumed no octets. Allocates the memory that the limits allow;
-    /// no later call allocates.
+    /// Creates an audit that has consumed no octets. Allocates all the memory that the limits
+    /// allow; no later call allocates.
     pub fn new(alloc: Global, limits: Limits) -> Result<PieceAudit, AllocError>
         ensures stands { IfOk result (λ audit. AuditHasConsumed audit [] 0) }
         ensures limits { IfOk result (λ audit. limits_in audit.unpacker ≡ limits) }
@@ -68,8 +68,9 @@ impl PieceAudit {
         Ok(PieceAudit { unpacker, count })
     }
 
-    /// Creates an audit that continues from an unpacker inside an envelope. `words` is the number
-    /// of words counted in the octets so far, and `inside` is whether they end inside a word.
+    /// Creates an audit that continues inside an envelope, from the state of `unpacker`. `words` is
+    /// the number of words counted so far in that envelope, and `inside` is whether its last octet
+    /// so far is part of a word.
     pub fn resume(unpacker: Unpacker, words: u64, inside: bool) -> PieceAudit
         requires { IsDone unpacker → ⊥ }
         ensures unpacker { result.unpacker ≡ unpacker }
@@ -79,23 +80,22 @@ impl PieceAudit {
         PieceAudit { unpacker, count }
     }
 
-    /// Returns the unpacker, which has the number of octets received of the partial envelope and
-    /// its state.
+    /// Returns the unpacker, which has the state and the length of the partial envelope.
     pub fn unpacker(&self) -> &Unpacker
         ensures { result.now ≡ self.now.unpacker }
     {
         &self.unpacker
     }
 
-    /// Returns the number of words counted in the partial envelope, and whether its octets end
-    /// inside a word. [`PieceAudit::resume`] continues from these values.
+    /// Returns the number of words counted in the partial envelope, and whether its last octet so
+    /// far is part of a word. [`PieceAudit::resume`] continues from these values.
     pub fn words(&self) -> (u64, bool)
         ensures { result ≡ (self.now.count.words, self.now.count.inside) }
     {
         self.count.so_far()
     }
 
-    /// Returns the row of the complete envelope, of which `used` octets were in the last chunk.
+    /// Returns the row of the complete envelope, whose last `used` octets are in the last chunk.
     fn row_of_complete(&self, used: usize, now: Timestamp) -> PieceRow
         requires { IsDone self.now.unpacker }
         ensures used { result.used ≡ used }
@@ -132,14 +132,14 @@ impl PieceAudit {
     }
 
     /// Feeds a chunk up to the end of the first envelope that ends in it. Returns the row of that
-    /// envelope at the instant `now`, and the number of octets that were consumed: the octets
-    /// after them belong to the next envelope. Returns `None` if the whole chunk was consumed and
-    /// the envelope can continue. Allocates nothing.
+    /// envelope at the instant `now`, and the number of octets consumed; the rest of the chunk
+    /// belongs to the next envelope. Returns `None` if the whole chunk was consumed and the
+    /// envelope is still incomplete. Allocates nothing.
     ///
-    /// **Errors:** the refusal of the first octet at which some layer has no valid continuation.
-    /// After an error, every call returns [`iim_unpack::Cause::Failed`].
+    /// **Errors:** the refusal of the first octet that some layer cannot accept. After an error,
+    /// every call returns [`iim_unpack::Cause::Failed`].
     pub fn next_row(&mut self, piece: &[u8], now: Timestamp) -> Result<Option<PieceRow>, Refusal>
-        // The result depends on all octets of the envelope, not on how they were split into
+        // The result depends only on the octets of the envelope, not on how they were split into
         // chunks.
         ensures found { IfOk result (λ found. (p : List ℕ) (a : ℕ) → AuditHasConsumed self.old p a
             → FindsRow (limits_in self.old.unpacker) now.nanosecond p a piece.now self.new found) }
@@ -147,7 +147,7 @@ impl PieceAudit {
             → RejectsChunk (limits_in self.old.unpacker) p a piece.now e) }
         ensures failed { IfErr result (λ e. self.new.unpacker.refused ≡ Some e.octet) }
 
-        // After a refusal a call changes nothing.
+        // After a refusal, a further call changes nothing.
         ensures again { (octet : ℕ) → self.old.unpacker.refused ≡ Some octet → (result ≡ Err (failed_at octet))
             × (self.new ≡ self.old) }
         ensures limits { self.old.unpacker.refused ≡ None → OnOk result (limits_in self.new.unpacker

@@ -1,4 +1,4 @@
-//! The rows that repeat an earlier one.
+//! Finds the rows whose id repeats that of an earlier row.
 
 ghost use Rattle.std.specs.Prelude.{◌≡◌, ℕ, ◌<◌, ◌≤◌, ◌^◌, ◌+◌, Some, None, true, false, length, map, slice_index_or};
 ghost use Rattle.std.specs.List.{All};
@@ -12,12 +12,12 @@ use crate::row::AuditRow;
 use iim_fields::EnvelopeId;
 use std::cmp::Ordering;
 
-/// The number of possible indices. A sort key has the index of its row below this, and above it
-/// the key of the row's id.
+/// The number of possible row indices. The low 32 bits of a sort key are the index of its row, and
+/// the high 32 bits are the key of the row's id.
 const INDICES: u64 = 1 << 32;
 
-/// Returns the key of an id: four bits of each octet of its number. Different numbers have
-/// different keys.
+/// Returns the key of an id: the low four bits of each octet of its envelope number. Ids with
+/// different numbers have different keys.
 fn id_key_of(id: &EnvelopeId) -> u32
     ensures { result ≡ id_key_of id.now }
 {
@@ -35,7 +35,7 @@ pub(crate) fn sort_key_of(id: &EnvelopeId, index: u32) -> u64
     u64::from(id_key_of(id)) * INDICES + u64::from(index)
 }
 
-/// Returns the key of the id in a sort key.
+/// Returns the high half of a sort key: the key of the row's id.
 #[inline(always)]
 fn id_key_at(place: u64) -> u64
     ensures { result ≡ id_key_at place }
@@ -43,7 +43,7 @@ fn id_key_at(place: u64) -> u64
     place / INDICES
 }
 
-/// Returns the index of the row in a sort key.
+/// Returns the low half of a sort key: the index of the row.
 #[inline(always)]
 fn index_at(place: u64) -> usize
     ensures { result ≡ index_at place }
@@ -51,7 +51,8 @@ fn index_at(place: u64) -> usize
     (place % INDICES) as usize
 }
 
-/// Compares the ids of the rows at two indices. An index out of range comes first.
+/// Compares the ids of the rows at two indices. An index that is out of range is less than every
+/// id.
 fn compare_ids(rows: &[AuditRow], a: usize, b: usize) -> Ordering
     ensures { result ≡ id_at_index_cmp id_cmp (ids_of rows.now) a b }
 {
@@ -63,15 +64,16 @@ fn compare_ids(rows: &[AuditRow], a: usize, b: usize) -> Ordering
     }
 }
 
-/// Compares two indices by the ids of their rows, and by the indices themselves if the ids are
-/// equal.
+/// Compares two indices by the ids of their rows. If the ids are equal, compares the indices
+/// themselves.
 fn compare_indices(rows: &[AuditRow], a: usize, b: usize) -> Ordering
     ensures { result ≡ id_then_index_cmp id_cmp (ids_of rows.now) a b }
 {
     compare_ids(rows, a, b).then(a.cmp(&b))
 }
 
-/// Compares two sort keys by the keys of their ids, and by their rows if these are equal.
+/// Compares two sort keys by the keys of their ids. If these are equal, compares the ids of the
+/// rows, and then the indices.
 #[inline(always)]
 fn compare(rows: &[AuditRow], a: u64, b: u64) -> Ordering
     ensures { result ≡ sort_key_cmp (ids_of rows.now) a b }
@@ -91,9 +93,9 @@ fn sort_keys(rows: &[AuditRow], places: &mut [u64])
     places.sort_unstable_by(|a, b| compare(rows, *a, *b));
 }
 
-/// Returns the sort key of the first row with the same id as the row at `place`. `group` is that
-/// sort key for the row before it in the sorted order. The rows are compared only if the keys of
-/// their ids are equal.
+/// Returns the sort key of the first row with the same id as the row at `place`. `group` is the
+/// result of this function for the previous sort key in the sorted order. The ids themselves are
+/// compared only if their keys are equal.
 #[inline(always)]
 fn group_of(rows: &[AuditRow], group: u64, place: u64) -> u64
     requires group { IsSortKey (ids_of rows.now) group }
@@ -114,7 +116,7 @@ fn group_of(rows: &[AuditRow], group: u64, place: u64) -> u64
     }
 }
 
-/// Sets the number of the first row with the same id, `group`, in the row at `at`, if that row is
+/// Sets `first` in the row at index `at` to the number of the row at `group`, if that row is
 /// earlier.
 fn set_first(row: &mut AuditRow, group: usize, at: usize)
     ensures told { group < at → row.new ≡ record (row.old) { first = Some (group + 1) } }
@@ -126,8 +128,8 @@ fn set_first(row: &mut AuditRow, group: usize, at: usize)
     }
 }
 
-/// Sets in each row the number of the first row with the same id, if that row is earlier. The sort
-/// keys are sorted by the ids of their rows.
+/// Sets `first` in each row that repeats an earlier id. `places` has the sort keys of all rows,
+/// sorted by id and then by index.
 fn set_all_firsts(rows: &mut [AuditRow], places: &[u64])
     requires { All (IsSortKey (ids_of rows.old)) places.now }
     ensures filled { IsIdOrder (ids_of rows.old) (map index_at places.now) → HaveNoFirst rows.old
@@ -145,8 +147,8 @@ fn set_all_firsts(rows: &mut [AuditRow], places: &[u64])
     }
 }
 
-/// Sets in each row the number of the first row with the same id, if that row is earlier. `places`
-/// has the sort keys of all rows, in any order. Allocates nothing.
+/// Sets `first` in each row that repeats an earlier id. `places` has the sort keys of all rows, in
+/// any order. Allocates nothing.
 pub(crate) fn set_repeats(rows: &mut [AuditRow], places: &mut [u64])
     requires few { length (ids_of rows.old) ≤ 2 ^ 32 }
     requires places { places.old ≡ sort_keys_of 0 (ids_of rows.old) }

@@ -5,7 +5,8 @@ ghost use Rattle.std.specs.Prelude.{◌≡◌};
 use crate::row::AuditRow;
 use std::marker::Model;
 
-/// One row for each envelope, in the order of the input. Contracts see it as the list of its rows.
+/// The report of an audit, with one row for each envelope, in the order of the input. Its model in
+/// contracts is the list of its rows.
 #[derive(Debug, Drop)]
 pub struct Report {
     pub(crate) rows: Vec<AuditRow>,

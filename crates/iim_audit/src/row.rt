@@ -14,40 +14,40 @@ use iim_fields::EnvelopeId;
 use iim_unpack::UnpackedRef;
 use jiff::Timestamp;
 
-/// The values that a report has for one envelope.
+/// The values of one envelope in a report.
 #[derive(Debug, Drop)]
 pub struct AuditRow {
-    /// Its identity: service, number and date sent.
+    /// The identity of the envelope: service, number and date sent.
     pub id: EnvelopeId,
-    /// The number of octets of its object.
+    /// The number of octets of the object.
     pub size: u64,
-    /// The number of subfiles of its object.
+    /// The number of subfiles of the object.
     pub subfiles: u64,
-    /// The number of words of its story: the longest spans, within one line, of octets other than
-    /// SP and TAB.
+    /// The number of words of the story. A word is a longest span, within one line, of octets other
+    /// than SP and TAB.
     pub counted: u64,
-    /// The whole seconds since it was sent, negative if that is in the future, or `None` if it
-    /// states no instant.
+    /// The number of whole seconds since the envelope was sent, which is negative if that is in the
+    /// future, or `None` if the envelope states no such instant.
     pub age: Option<i64>,
-    /// The number of words that its message announces.
+    /// The number of words that the header of the message announces.
     pub announced: u64,
-    /// The number of the first envelope with the same id, if that is earlier.
+    /// The number of the first envelope with the same id, if that envelope is earlier.
     pub first: Option<u64>,
-    /// The digit of 1:60 Envelope Priority, as an ASCII octet, if it was sent.
+    /// The digit of 1:60 Envelope Priority, as an ASCII octet, if the envelope has one.
     pub priority: Option<u8>,
     /// Whether the copy may be used at the instant of the audit.
     pub copy: CopyState,
 }
 
-/// What a row is made from: borrowed parts of an unpacked envelope, and the number of words of its
-/// story.
+/// The values from which a row is computed: borrowed parts of an unpacked envelope, and the number
+/// of words of its story.
 #[derive(Drop)]
 pub(crate) struct EnvelopeParts<'u> {
     pub(crate) unpacked: UnpackedRef<'u>,
     pub(crate) words: u64,
 }
 
-/// Returns the number that one to six digits encode.
+/// Parses a number of one to six digits.
 fn number_of(digits: &[u8]) -> u64
     requires { IsField is_digit 1 max_words digits.now }
     ensures value { result ≡ digits_value 10 digits.now }
@@ -60,7 +60,7 @@ fn number_of(digits: &[u8]) -> u64
     number
 }
 
-/// Returns the row of an envelope, with `first` unset.
+/// Computes the row of an envelope, with `first` unset.
 pub(crate) fn row_of(got: &EnvelopeParts<'_>, now: Timestamp) -> AuditRow
     ensures row { (v : Value) → ArePartsOf got.now v → result ≡ row_with_first_of now.nanosecond v None }
     ensures short { IsShort result.id }

@@ -82,7 +82,7 @@ fn prepend_ages(line: &mut ReportLine, row: &AuditRow)
     line.prepend(b" age ");
 }
 
-/// Returns the line of a row.
+/// Formats the line of a row.
 fn line_of(number: u64, row: &AuditRow) -> ReportLine
     requires { IsShort row.now.id }
     ensures { result ≡ row_line number row.now }
@@ -103,7 +103,7 @@ fn count_repeated(rows: &[AuditRow]) -> usize
     rows.iter().filter(|row| row.first.is_some()).count()
 }
 
-/// Checks whether the copy of a row is held.
+/// Returns whether the copy of a row is held.
 fn is_held(row: &AuditRow) -> bool
     ensures { result ≡ is_held row.now.copy }
 {
@@ -122,9 +122,9 @@ impl Report {
     ghost use Rattle.iim_audit.specs.Format.{row_line, totals_line};
     ghost use Rattle.iim_audit.specs.declared.row.AuditRow.{AuditRow as Row};
 
-    /// Returns the line of the row at an index. The service is escaped: octets from 20 to 7E
-    /// except the backslash are written as they are, all others as `\x` and two hexadecimal
-    /// digits. A priority, an age or a first envelope that is absent is `-`. The line ends in LF.
+    /// Formats the row at an index as a line that ends in LF. Octets of the service from 20 to 7E
+    /// hexadecimal, except the backslash, are printed as they are, and all others as `\x` and two
+    /// hexadecimal digits. A missing priority, age or first envelope is printed as `-`.
     pub fn line(&self, index: usize) -> ReportLine
         requires { index < length self.now }
         ensures { (row : Row) → result ≡ row_line (index + 1) (slice_index_or self.now index row) }
@@ -133,8 +133,8 @@ impl Report {
         line_of(index as u64 + 1, row)
     }
 
-    /// Returns the line after the rows: the number of rows, of rows that repeat an earlier one,
-    /// and of rows whose copy is held.
+    /// Formats the line after the rows: the number of rows, of rows that repeat an earlier one, and
+    /// of rows whose copy is held.
     pub fn last_line(&self) -> ReportLine
         ensures { result ≡ totals_line self.now }
     {
@@ -150,7 +150,7 @@ impl Report {
     }
 }
 
-/// Returns the text of a report: a line for each row, and the last line. Returns an error if an
+/// Formats a report as text: a line for each row, and the last line. Returns an error if an
 /// allocation fails.
 pub fn report_text(alloc: Global, report: &Report) -> Result<Vec<u8>, AllocError>
     ensures { IfOk result (λ text. text.items ≡ printed_report report.now) }

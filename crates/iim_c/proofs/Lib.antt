@@ -4,5 +4,6 @@ pub mod Places
 pub mod TicketFields
 pub mod FieldArrays
 pub mod Tried
+pub mod ErrorLines
 -- What proofs of other crates cite.
 pub mod TextLengths

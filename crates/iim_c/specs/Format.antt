@@ -7,3 +7,4 @@ pub mod Feeding
 pub mod Packing
 pub mod Statuses
 pub mod Chunks
+pub mod ErrorTexts

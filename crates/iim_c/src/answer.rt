@@ -6,7 +6,7 @@ ghost use Rattle.iim_c.specs.Format.Answers.{status_answer, refusal_answer, laye
 use crate::status::{BAD_TICKET, NO_MEMORY};
 use iim_unpack::{Layer, Refusal, TicketFault};
 
-/// The result of a call. Fields that the description of a call does not mention are 0.
+/// The result of a call. Fields that the description of a call does not mention are zero.
 #[repr(C)]
 #[derive(Clone, Copy)]
 pub struct IimAnswer {
@@ -18,17 +18,18 @@ pub struct IimAnswer {
     pub cause: u8,
     /// The record of the dataset concerned, or 0.
     pub rec: u8,
-    /// The number of that dataset within its record, or 0.
+    /// The number of the dataset within its record, or 0.
     pub set: u8,
-    /// The length of the envelope so far in octets. For a refusal: the offset of the rejected
-    /// octet, or the line of a script.
+    /// The length of the envelope so far in octets. For a refusal, the offset of the rejected
+    /// octet, or the number of the line in a script.
     pub octet: u64,
     /// The number of octets of the chunk that were consumed.
     pub used: usize,
-    /// The number of octets of text or of a packed form, of rows or of datasets that were written.
-    /// With `SHORT`: the number of those that there are.
+    /// How much was written: octets of text or of a packed form, rows, or datasets. With the status
+    /// `SHORT`, how much there is to write.
     pub written: usize,
-    /// The number of octets of a ticket that were written. With `SHORT`: its length.
+    /// The length of the ticket that was written, in octets. With the status `SHORT`, the length
+    /// that is needed.
     pub ticket: usize,
 }
 
@@ -82,7 +83,7 @@ pub fn refusal_answer(status: u8, refusal: Refusal) -> IimAnswer
     }
 }
 
-/// Returns the answer for a ticket that is rejected. A failed allocation has a separate status.
+/// Returns the answer for an invalid ticket. A failed allocation has its own status.
 pub fn ticket_answer(fault: TicketFault) -> IimAnswer
     ensures { result ≡ ticket_answer fault }
 {

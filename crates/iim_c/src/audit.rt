@@ -1,4 +1,4 @@
-//! The audit of a chunk.
+//! Audits a chunk of an input.
 
 ghost use Rattle.std.specs.Prelude.{◌≡◌, None};
 ghost use Rattle.iim_c.specs.Format.Checking.{limits_for};
@@ -24,8 +24,8 @@ use jiff::Timestamp;
 use std::alloc::Global;
 
 /// Writes the ticket of the audit's state, and returns the answer for the rows that were found.
-/// `told` has the status and the number of octets consumed. Writes `so_far` only if the ticket and
-/// the rows fit. Allocates nothing.
+/// `told` has the status and the number of octets consumed. Writes `so_far` only if both the ticket
+/// and the rows fit. Allocates nothing.
 fn save_audit(
     audit: &PieceAudit,
     found: Found,
@@ -51,7 +51,7 @@ fn save_audit(
     answer
 }
 
-/// Returns the answer for a refusal after the rows that were found.
+/// Returns the answer for a refusal that occurred after some rows were found.
 fn refusal_after_rows(found: Found, refusal: Refusal) -> IimAnswer
     ensures { result ≡ record (refusal_answer status.refused refusal) { used = found.used; written = found.rows } }
 {
@@ -62,7 +62,7 @@ fn refusal_after_rows(found: Found, refusal: Refusal) -> IimAnswer
     }
 }
 
-/// Audits a chunk from the state of a ticket on, and returns the answer.
+/// Audits a chunk, starting in the state of a ticket, and returns the answer.
 fn audit_chunk(
     alloc: Global,
     limits: Limits,
@@ -98,13 +98,13 @@ fn audit_chunk(
     }
 }
 
-/// Writes a row for each envelope that ends in a chunk of an input, at the instant `now`. The
-/// audit continues from the state of `ticket`, or begins a new envelope if that is empty.
+/// Writes a row for each envelope that ends in a chunk of an input, at the instant `now`. The audit
+/// starts in the state of `ticket`, or at the beginning of an envelope if `ticket` is empty.
 ///
-/// Writes the next ticket, and the state beside it in `so_far`. Stops when `rows` is full, and
-/// returns how many octets were consumed. If an octet is rejected, the rows of the envelopes
-/// before it are written. If `ticket_out` is too short, `so_far` is unchanged, and the same call
-/// can be repeated.
+/// Also writes the next ticket, and the values of `so_far` that belong to it. Stops when `rows` is
+/// full, and returns the number of octets consumed. If an octet is rejected, the rows of the
+/// earlier envelopes are still written. If `ticket_out` is too short, `so_far` is unchanged, and
+/// the same call can be repeated with a longer buffer.
 pub fn iim_audit(
     alloc: Global,
     limits: IimLimits,

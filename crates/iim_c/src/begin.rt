@@ -1,4 +1,4 @@
-//! The unpacker in the state of a ticket.
+//! Restores an unpacker from a ticket.
 
 ghost use Rattle.std.specs.Prelude.{IfOk, IfErr};
 ghost use Rattle.iim_c.specs.Format.Answers.{ticket_answer};
@@ -9,8 +9,8 @@ use iim_fields::Limits;
 use iim_unpack::{TicketFault, Unpacker};
 use std::alloc::Global;
 
-/// Returns an unpacker in the state of a ticket, or at the beginning of an envelope if the ticket
-/// is empty. `at` is the number of octets of the envelope before that state.
+/// Restores the unpacker that a ticket encodes, or creates one at the beginning of an envelope if
+/// the ticket is empty. `at` is the number of octets of the envelope that were already consumed.
 pub(crate) fn begin(
     alloc: Global,
     limits: Limits,

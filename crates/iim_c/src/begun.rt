@@ -1,4 +1,4 @@
-//! What is in progress in the state of a ticket.
+//! Decodes what is in progress in the state of a ticket.
 
 ghost use Rattle.std.specs.Prelude.{◌≡◌, ℕ, ◌+◌, ◌*◌, List, [], length, get_or};
 ghost use Rattle.iim_places.specs.Format.TicketForm.{HasContents};
@@ -30,37 +30,37 @@ pub const DATA: u8 = 2;
 pub const ENDED: u8 = 3;
 
 /// What is in progress in a state, and the part of the message that the input has reached. Fields
-/// that are not mentioned are 0.
+/// that are not mentioned are zero.
 #[repr(C)]
 #[derive(Clone, Copy)]
 pub struct IimBegun {
-    /// What is in progress: 0 nothing, between datasets; 1 a tag; 2 data; 3 the envelope is
-    /// complete.
+    /// The kind: 0 between two datasets, 1 in a tag, 2 in data, 3 after the end of the envelope.
     pub kind: u8,
-    /// The record of the last complete head, or 0 before the first.
+    /// The record of the last complete tag, or 0 before the first tag.
     pub section: u8,
-    /// The record of the partial dataset, or 0 if it was not read yet.
+    /// The record of the dataset in progress, or 0 if it was not read yet.
     pub rec: u8,
     /// The number of that dataset within its record, or 0 if it was not read yet.
     pub set: u8,
     /// The number of the part of the message.
     pub part: u8,
-    /// The counter of the message: octets of filler or of the gap so far.
+    /// The counter of the message: the number of octets of filler, or of the gap, so far.
     pub counter: u8,
-    /// The flag of the message: in the gap 1 after an LF; in the text the number of pending CR.
+    /// The flag of the message: in the gap, 1 after an LF; in the text, the number of pending CR.
     pub flag: u8,
-    /// The length of the partial data in octets.
+    /// The length of the data in progress, in octets.
     pub count: u64,
-    /// The number of octets of the partial tag or data that were received.
+    /// The number of octets of the tag or data in progress that were received.
     pub came: u64,
-    /// The number of octets of the partial data that are remaining.
+    /// The number of octets of the data in progress that are still to be received.
     pub left: u64,
-    /// The offset within the envelope of the first octet of the partial tag or data.
+    /// The offset within the envelope of the first octet of the tag or data in progress.
     pub first: u64,
-    /// The offset of the first octet of the token that the next octet belongs to: a tag, a value
-    /// or, in a subfile, that octet itself.
+    /// The offset of the token that the next octet belongs to. A token is a tag or a value. In a
+    /// subfile each octet is a token.
     pub token: u64,
-    /// The received octets of the tag or data, as a slice of the ticket. A subfile has none there.
+    /// The received octets of the tag or value in progress, as a slice of the ticket. The octets of
+    /// a subfile are not in the ticket.
     pub octets: IimSpan,
 }
 
@@ -85,7 +85,7 @@ const NO_BEGUN: IimBegun = IimBegun {
 };
 
 /// The number of octets of a ticket before the received octets of a tag: name and version, the
-/// section, the kind of what is in progress, and the number of those octets.
+/// section, the kind of what is in progress, and the length of the received octets.
 const BEFORE_HELD: usize = 8;
 
 /// Returns the octet of a tag with this index, or 0 if it was not received.
@@ -95,7 +95,7 @@ fn octet_or_zero(held: &[u8], index: usize) -> u8
     held.get(index).copied().unwrap_or(0)
 }
 
-/// Returns what is in progress after these octets of a tag.
+/// Returns the result for a tag in progress, of which these octets were received.
 fn tag_begun(at: u64, held: &[u8]) -> IimBegun
     ensures { result ≡ begun_by at 0 (PartialTag held.now) (record { offset = 8; count = length held.now }) }
 {
@@ -116,8 +116,8 @@ fn tag_begun(at: u64, held: &[u8]) -> IimBegun
     }
 }
 
-/// Returns what is in progress in the data of a dataset. `octets` is the slice of the ticket with
-/// the data received.
+/// Returns the result for a dataset whose data are in progress. `octets` is the slice of the ticket
+/// with the received data.
 fn data_begun(at: u64, section: u8, set: u8, count: u64, left: u64, octets: IimSpan) -> IimBegun
     ensures { result ≡ begun_by at section (PartialData set count left []) octets }
 {
@@ -137,16 +137,16 @@ fn data_begun(at: u64, section: u8, set: u8, count: u64, left: u64, octets: IimS
     }
 }
 
-/// Returns the number of octets of a ticket before the received data: those of [`BEFORE_HELD`],
-/// where the dataset's number takes the place of the number of octets, then its count, and the
-/// number of octets remaining.
+/// Returns the number of octets of a ticket before the received data. These are the [`BEFORE_HELD`]
+/// octets, with the number of the dataset in place of the length, then the count of the dataset,
+/// and the number of octets remaining.
 fn data_offset(version: u8) -> usize
     ensures { result ≡ 8 + 2 * width version }
 {
     BEFORE_HELD + if version == FIRST_VERSION { 8 } else { 16 }
 }
 
-/// Returns what is in progress, without the parts of the message.
+/// Returns the result without the part, the counter and the flag of the message.
 fn begun_by(at: u64, version: u8, section: u8, phase: &TicketPhase<'_>) -> IimBegun
     ensures { result ≡ begun_by at section (phase_of_ticket phase.now) (span_of version (phase_of_ticket phase.now)) }
 {
@@ -173,7 +173,7 @@ fn begun_by(at: u64, version: u8, section: u8, phase: &TicketPhase<'_>) -> IimBe
     }
 }
 
-/// Returns what is in progress in a ticket of these parts.
+/// Returns the result for a ticket that was split into these parts.
 fn begun_in(ticket: &[u8], at: u64, parts: &TicketParts<'_>) -> IimBegun
     requires { HasContents ticket.now (contents_from parts.now) }
     ensures { IsProgressOf ticket.now at (contents_from parts.now) result }
@@ -187,7 +187,7 @@ fn begun_in(ticket: &[u8], at: u64, parts: &TicketParts<'_>) -> IimBegun
     }
 }
 
-/// Returns what is in progress in the state of a ticket, and the answer.
+/// Returns what is in progress in the state of a ticket, and the answer of the call.
 fn place_and_answer(ticket: &[u8], at: u64) -> (IimBegun, IimAnswer)
     ensures told { ReturnsProgress ticket.now at result.0 result.1 }
     ensures octets { (p : List ℕ) (place : Place) → EncodesPlace ticket.now place → ReachesPlace p place
@@ -204,14 +204,13 @@ fn place_and_answer(ticket: &[u8], at: u64) -> (IimBegun, IimAnswer)
     }
 }
 
-/// Returns what is in progress in the state of a ticket, and the part of the message that the
-/// input has reached. `at` is the number of octets of the envelope so far.
+/// Decodes what is in progress in the state of a ticket, and the part of the message that the input
+/// has reached. `at` is the number of octets of the envelope that were consumed.
 pub fn iim_place(ticket: &[u8], at: u64, begun: &mut IimBegun, answer: &mut IimAnswer)
     ensures told { ReturnsProgress ticket.now at begun.new answer.new }
     ensures octets { (p : List ℕ) (place : Place) → EncodesPlace ticket.now place → ReachesPlace p place
         → HasProgressOf p at begun.new }
-    // If the next octet is rejected, the rejected token begins at `token` and ends with that
-    // octet.
+    // If the next octet is rejected, the rejected token begins at `token` and ends with that octet.
     ensures token { (p : List ℕ) (place : Place) → EncodesPlace ticket.now place → ReachesPlace p place
         → HasTokenOf p at begun.new }
 {

@@ -1,8 +1,8 @@
-//! Octets that are written into a buffer of the caller.
+//! Writes octets into buffers of the caller.
 
 ghost use Rattle.std.specs.Prelude.{◌≡◌, ◌+◌, ◌<◌, ◌≤◌, ◌++◌, [], ◌∷◌, length, drop};
 
-/// Writes octets at the front of a buffer, which has the capacity for them.
+/// Writes octets to the front of a buffer that is long enough for them.
 pub(crate) fn put_front(out: &mut [u8], octets: &[u8])
     requires { length octets.now ≤ length out.old }
     ensures { out.new ≡ octets.now ++ drop (length octets.now) out.old }
@@ -10,7 +10,7 @@ pub(crate) fn put_front(out: &mut [u8], octets: &[u8])
     out[..octets.len()].copy_from_slice(octets);
 }
 
-/// Writes octets and a NUL at the front of a buffer, which has the capacity for them.
+/// Writes octets and a NUL to the front of a buffer that is long enough for them.
 pub(crate) fn put_text(out: &mut [u8], octets: &[u8])
     requires { length octets.now < length out.old }
     ensures { out.new ≡ (octets.now ++ 0 ∷ []) ++ drop (length octets.now + 1) out.old }

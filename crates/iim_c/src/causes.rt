@@ -12,7 +12,7 @@ struct CauseText {
     text: &'static str,
 }
 
-/// Expands to a match on a number, with each line as an arm: number, name and sentence.
+/// Expands to a match on a number. Each line is an arm: number, name and sentence.
 macro_rules! words_by {
     ($number:expr; $($of:literal $name:literal $text:literal)*) => {
         match $number {
@@ -22,11 +22,11 @@ macro_rules! words_by {
     };
 }
 
-/// Matches the number of a cause with the table of `docs/reference/causes.md`.
+/// Matches the number of a cause with the causes of `docs/reference/causes.md`.
 macro_rules! cause_in_table {
     ($number:expr) => {
         words_by! { $number;
-            // Causes in octets
+            // Causes that concern octets of an envelope
             1 "Marker" "a tag doesn't begin with 1C"
             2 "CountForm" "octet 4 of a tag is above 80, or it is 80 and octet 5 is not 1 to 8"
             3 "Truncated" "the input ends inside an envelope; the octet is how many there were"
@@ -58,7 +58,7 @@ macro_rules! cause_in_table {
             71 "Read" "a read failed"
             72 "Interrupted" "a read was interrupted 1,000,000 times in a row"
 
-            // Packing
+            // Causes of packing
             80 "PastAnnounced" "the object is longer than its announced size or its maximum, or than 4,294,967,295 subfiles hold"
             81 "ShortOfAnnounced" "the object is shorter than its announced size"
             82 "BadTextOctet" "a line of the story has 01, 02, 03, 04, CR or LF in it"
@@ -66,12 +66,12 @@ macro_rules! cause_in_table {
             84 "Write" "a write failed; what is out begins the packed form"
             85 "Failed" "a write failed before, and the packer was called again"
 
-            // Audits and scripts
+            // Causes of audits and scripts
             90 "TooManyEnvelopes" "an input has more than 1,000,000 envelopes; the command prints `too many envelopes`"
             91 "ScriptLine" "a line has no form that may stand there, or a line is missing"
             92 "ScriptTooLong" "the script has more than 16,777,216 octets; it is told of line 0"
 
-            // Tickets
+            // Causes of invalid tickets
             100 "TicketForm" "the octets have not the form of a ticket"
             101 "TicketVersion" "the ticket is of a version other than 1 and 2"
             102 "Impossible" "no envelope can be at the place that the ticket tells; of version 1, none by the sizes of that version"
@@ -89,7 +89,7 @@ fn cause_entry(number: u8) -> Option<CauseText>
 }
 
 /// Returns the name of a cause, or `None` if no cause has this number.
-fn name_for_cause(number: u8) -> Option<&'static str>
+pub(crate) fn name_for_cause(number: u8) -> Option<&'static str>
     ensures { MatchOption result (name_for_cause number ≡ None) (λ name. name_for_cause number ≡ Some name.now) }
 {
     let words = cause_entry(number)?;
@@ -104,16 +104,16 @@ fn cause_text(number: u8) -> Option<&'static str>
     Some(words.text)
 }
 
-/// Writes the name of a cause and a NUL into `out`, if they fit. Returns the number of octets of
-/// the name, or 0 if the cause is unknown.
+/// Writes the name of a cause and a NUL into `out`, if they fit. Returns the length of the name in
+/// octets, without the NUL, or 0 if no cause has this number.
 pub fn iim_cause_name(cause: u8, out: &mut [u8]) -> usize
     ensures { WritesName (name_or_none (name_for_cause cause)) out.old out.new result }
 {
     put_name(name_for_cause(cause), out)
 }
 
-/// Writes the meaning of a cause and a NUL into `out`, if they fit. Returns the number of octets
-/// of the sentence, or 0 if the cause is unknown.
+/// Writes the meaning of a cause and a NUL into `out`, if they fit. Returns the length of the
+/// sentence in octets, without the NUL, or 0 if no cause has this number.
 pub fn iim_cause_text(cause: u8, out: &mut [u8]) -> usize
     ensures { WritesName (name_or_none (cause_text cause)) out.old out.new result }
 {

@@ -1,4 +1,4 @@
-//! Envelopes in memory.
+//! Checks envelopes in memory.
 
 ghost use Rattle.std.specs.Prelude.{◌≡◌};
 ghost use Rattle.iim_c.specs.Format.Answers.{status_answer};
@@ -14,7 +14,7 @@ use iim_unpack::{Progress, Unpacker};
 use std::alloc::Global;
 use wire_story::Discard;
 
-/// Returns the answer for a complete envelope of `used` octets.
+/// Returns the answer for a complete envelope that is `used` octets long.
 fn complete_answer(used: usize) -> IimAnswer
     ensures { result ≡ record (status_answer status.done) { octet = used; used = used } }
 {

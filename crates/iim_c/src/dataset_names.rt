@@ -5,7 +5,7 @@ ghost use Rattle.iim_c.specs.Format.Tables.{WritesName, dataset_name_of, name_or
 
 use crate::names::put_name;
 
-/// Expands to a match on a dataset's record and number, with each line as an arm: dataset and
+/// Expands to a match on the record and the number of a dataset. Each line is an arm: dataset and
 /// name.
 macro_rules! name_by {
     ($dataset:expr; $($rec:literal:$set:literal $name:literal)*) => {
@@ -79,7 +79,7 @@ macro_rules! name_in_table {
     };
 }
 
-/// Returns the name that the standard gives a dataset, or `None` if the tables do not have it.
+/// Returns the name of a dataset in the standard, or `None` if the dataset is not in the tables.
 #[tactic(auto, unfolding(crate::specs::Format::Tables::dataset_name_of, crate::specs::Format::Tables::dataset_names))]
 fn dataset_name_of(rec: u8, set: u8) -> Option<&'static str>
     ensures { MatchOption result (dataset_name_of rec set ≡ None) (λ name. dataset_name_of rec set ≡ Some name.now) }
@@ -87,8 +87,8 @@ fn dataset_name_of(rec: u8, set: u8) -> Option<&'static str>
     name_in_table!((rec, set))
 }
 
-/// Writes the name of a dataset of the tables and a NUL into `out`, if they fit. Returns the
-/// number of octets of the name, or 0 if the dataset is unknown.
+/// Writes the name of a dataset and a NUL into `out`, if they fit. Returns the length of the name
+/// in octets, without the NUL, or 0 if the dataset is not in the tables.
 pub fn iim_dataset_name(rec: u8, set: u8, out: &mut [u8]) -> usize
     ensures { WritesName (name_or_none (dataset_name_of rec set)) out.old out.new result }
 {

@@ -1,4 +1,4 @@
-//! The end of the input in the state of a ticket.
+//! Checks whether an input may end in the state of a ticket.
 
 ghost use Rattle.iim_c.specs.Format.Checking.{limits_for};
 ghost use Rattle.iim_c.specs.Format.Feeding.{ReturnsEnd};
@@ -29,8 +29,8 @@ fn check_end(alloc: Global, limits: Limits, ticket: &[u8], at: u64) -> IimAnswer
     }
 }
 
-/// Checks whether the input may end in the state of a ticket: the envelope is complete, or it is
-/// truncated.
+/// Checks whether an input may end in the state of a ticket. The answer is that the envelope is
+/// complete, or that it is truncated.
 pub fn iim_end(alloc: Global, limits: IimLimits, ticket: &[u8], at: u64, answer: &mut IimAnswer)
     ensures { ReturnsEnd (limits_for limits) ticket.now at answer.new }
 {

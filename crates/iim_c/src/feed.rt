@@ -1,4 +1,4 @@
-//! Chunks of an envelope, from the state of a ticket on.
+//! Reads an envelope in chunks. A ticket carries the state from each call to the next.
 
 ghost use Rattle.std.specs.Prelude.{◌≡◌, ℕ, None, Some, Ok, Err, IfOk, IfErr, OnOk};
 ghost use Rattle.iim_c.specs.Format.Answers.{refusal_answer, short_answer};
@@ -20,12 +20,12 @@ use iim_unpack::laws::place_laws;
 use iim_unpack::{Progress, Refusal, Unpacker};
 use std::alloc::Global;
 
-/// Ends a mutable borrow. The slice is unchanged.
-fn end_borrow(lent: &mut [u8])
+/// Ends a mutable borrow, and leaves the slice unchanged.
+pub(crate) fn end_borrow(lent: &mut [u8])
     ensures { lent.new ≡ lent.old }
 {}
 
-/// Feeds a chunk, with an empty sink. The sink refers to the same buffer afterwards.
+/// Feeds a chunk to the unpacker with an empty sink. The sink refers to the same buffer afterwards.
 fn feed_sink(
     unpacker: &mut Unpacker,
     piece: &[u8],
@@ -46,8 +46,8 @@ fn feed_sink(
     unpacker.feed(piece, sink)
 }
 
-/// Feeds a chunk, and writes the text in it into `out`. Returns also the number of octets of that
-/// text.
+/// Feeds a chunk, and writes the text of the story in it into `out`. Also returns the number of
+/// octets of that text.
 pub fn feed_text(
     unpacker: &mut Unpacker,
     piece: &[u8],
@@ -70,7 +70,7 @@ pub fn feed_text(
     (answer, count)
 }
 
-/// Returns the answer if a buffer is too short: the lengths that are needed.
+/// Returns the answer for a buffer that is too short: the lengths that are needed.
 fn short_answer(written: usize, ticket: usize) -> IimAnswer
     ensures { result ≡ short_answer written ticket }
 {
@@ -81,8 +81,8 @@ fn short_answer(written: usize, ticket: usize) -> IimAnswer
     }
 }
 
-/// Returns the answer for a refusal, before which the chunk has `written` octets of text. `room`
-/// is the capacity for text.
+/// Returns the answer for a refusal after `written` octets of text. `room` is the capacity for
+/// text.
 fn refusal_after_text(refusal: Refusal, written: usize, room: usize) -> IimAnswer
     ensures { FitsOrIsShort written room 0 0 (record (refusal_answer status.refused refusal) { written = written })
         result }
@@ -96,7 +96,8 @@ fn refusal_after_text(refusal: Refusal, written: usize, room: usize) -> IimAnswe
     }
 }
 
-/// Returns the status for progress, and the number of octets of the chunk that were consumed.
+/// Converts the progress of an unpacker to the status, and the number of octets of the chunk that
+/// were consumed.
 pub fn status_and_used(progress: Progress, piece: usize) -> (u8, usize)
     ensures { result ≡ progress_status progress piece }
 {
@@ -106,10 +107,10 @@ pub fn status_and_used(progress: Progress, piece: usize) -> (u8, usize)
     }
 }
 
-/// Writes the ticket of the unpacker's state, and returns the answer. `told` has the status and
-/// the number of octets consumed; `written` is the length of the other output, and `room` its
-/// capacity. If either does not fit, the answer has the lengths that are needed. Allocates
-/// nothing.
+/// Writes the ticket of the unpacker's state, and returns the answer. `told` has the status and the
+/// number of octets consumed. `written` is the length of the text or rows, and `room` is the
+/// capacity for them. If the ticket or these do not fit, the answer has the lengths that are
+/// needed. Allocates nothing.
 pub(crate) fn save_and_answer(
     unpacker: &Unpacker,
     told: (u8, usize),
@@ -136,7 +137,7 @@ pub(crate) fn save_and_answer(
     }
 }
 
-/// Feeds a chunk from the state of a ticket on, and returns the answer.
+/// Feeds a chunk, starting in the state of a ticket, and returns the answer.
 fn fed(
     alloc: Global,
     limits: Limits,
@@ -165,12 +166,12 @@ fn fed(
     }
 }
 
-/// Reads the next chunk of an envelope, from the state of a ticket on, or of a new envelope if the
-/// ticket is empty.
+/// Reads the next chunk of an envelope, starting in the state of a ticket, or at the beginning of
+/// an envelope if the ticket is empty.
 ///
-/// Writes the text of the story in the chunk and the next ticket, and returns how many octets were
+/// Writes the text of the story in the chunk and the next ticket, and returns the number of octets
 /// consumed. The ticket of a complete envelope still has its fields. If a buffer is too short, the
-/// answer has the lengths that are needed, and the same call can be repeated.
+/// answer has the lengths that are needed, and the same call can be repeated with longer buffers.
 pub fn iim_feed(
     alloc: Global,
     limits: IimLimits,

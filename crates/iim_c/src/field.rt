@@ -1,4 +1,4 @@
-//! One of the datasets in a ticket.
+//! Looks up one dataset in a ticket.
 
 ghost use Rattle.std.specs.Prelude.{◌≡◌, ◌+◌, ◌^◌, ◌<◌, ◌≤◌, length, IfSome, IfNone};
 ghost use Rattle.iim_places.specs.Format.TicketForm.{HasContents};
@@ -11,7 +11,7 @@ use crate::span::{IimSpan, NO_SPAN};
 use crate::status::{DONE, NONE};
 use iim_unpack::{TicketParts, TicketPhase, split_ticket};
 
-/// A dataset of records 1 and 2.
+/// A dataset of record 1 or 2.
 #[repr(C)]
 #[derive(Clone, Copy)]
 pub struct IimDataset {
@@ -33,7 +33,7 @@ const NO_DATASET: IimDataset = IimDataset {
 /// The number of octets of a dataset in a ticket before its data: record, number and count.
 pub(crate) const HEAD_OCTETS: usize = 6;
 
-/// Returns the number of octets of a ticket that encode what is in progress.
+/// Returns the number of octets of a ticket that encode the tag or value in progress.
 fn begun_octets(version: u8, phase: &TicketPhase<'_>) -> usize
     ensures count { result ≡ length (phase_octets version (phase_of_ticket phase.now)) }
     ensures few { result < 2 ^ 63 + 32 }
@@ -47,14 +47,14 @@ fn begun_octets(version: u8, phase: &TicketPhase<'_>) -> usize
 }
 
 /// Returns the number of octets of a ticket before the first dataset: name and version, the
-/// section, what is in progress, and the number of datasets.
+/// section, the tag or value in progress, and the number of datasets.
 pub(crate) fn fields_start(parts: &TicketParts<'_>) -> usize
     ensures { result ≡ 10 + length (phase_octets parts.now.version (phase_of_ticket parts.now.phase)) }
 {
     5 + 1 + begun_octets(parts.version, &parts.phase) + 4
 }
 
-/// Returns the dataset with the index `n`, or `None` if there are no more than `n`.
+/// Returns the dataset with the index `n`, or `None` if there are no more than `n` datasets.
 fn field_in(ticket: &[u8], parts: TicketParts<'_>, n: usize) -> Option<IimDataset>
     requires { HasContents ticket.now (contents_from parts) }
     ensures some { IfSome result (IsFieldAt ticket.now (contents_from parts.entry) n) }
@@ -79,7 +79,7 @@ fn field_in(ticket: &[u8], parts: TicketParts<'_>, n: usize) -> Option<IimDatase
     None
 }
 
-/// Returns the dataset with the index `n` of those of records 1 and 2 in a ticket.
+/// Looks up the dataset with the index `n` among those of records 1 and 2 in a ticket.
 pub fn iim_field(ticket: &[u8], n: usize, dataset: &mut IimDataset, answer: &mut IimAnswer)
     ensures { ReturnsField ticket.now n dataset.new answer.new }
 {

@@ -1,4 +1,4 @@
-//! All datasets of a ticket, in one pass.
+//! Copies all datasets of a ticket in one pass.
 
 ghost use Rattle.std.specs.Prelude.{◌≡◌, ◌-◌, ◌<◌, ◌≤◌, length, slice_set};
 ghost use Rattle.iim_places.specs.Format.TicketForm.{HasContents};
@@ -11,8 +11,8 @@ use crate::span::IimSpan;
 use crate::status::{DONE, SHORT};
 use iim_unpack::{TicketParts, split_ticket};
 
-/// Writes the dataset with the index `index` into the array, which begins with the index `from`.
-/// Does nothing if the dataset is before that index or past the end of the array.
+/// Writes the dataset with the index `index` into an array whose first element is the dataset with
+/// the index `from`. Does nothing if the dataset is outside the array.
 fn put_from(datasets: &mut [IimDataset], from: usize, index: usize, found: IimDataset)
     ensures skipped { index < from → datasets.new ≡ datasets.old }
     ensures put { from ≤ index → datasets.new ≡ slice_set datasets.old (index - from) found }
@@ -26,8 +26,8 @@ fn put_from(datasets: &mut [IimDataset], from: usize, index: usize, found: IimDa
     }
 }
 
-/// Writes the datasets from the index `from` on into the array, as many as fit, and returns how
-/// many there are.
+/// Writes the datasets with the index `from` and above into the array, as many as fit. Returns the
+/// number of datasets in the ticket.
 fn put_fields(
     ticket: &[u8],
     parts: TicketParts<'_>,
@@ -56,7 +56,7 @@ fn put_fields(
     index.saturating_sub(from)
 }
 
-/// Returns the answer for `count` datasets and an array of the capacity `room`.
+/// Returns the answer for `count` datasets and an array with the capacity `room`.
 fn fields_answer(count: usize, room: usize) -> IimAnswer
     ensures { result ≡ fields_answer count room }
 {
@@ -67,8 +67,8 @@ fn fields_answer(count: usize, room: usize) -> IimAnswer
     }
 }
 
-/// Writes the complete datasets of records 1 and 2 into an array, from the index `from` on. Reads
-/// the ticket once.
+/// Copies the complete datasets of records 1 and 2 with the index `from` and above into an array.
+/// Reads the ticket once.
 pub fn iim_fields(ticket: &[u8], from: usize, datasets: &mut [IimDataset], answer: &mut IimAnswer)
     ensures { ReturnsFields ticket.now from datasets.old datasets.new answer.new }
 {

@@ -1,4 +1,4 @@
-//! The rows of the envelopes that end in a chunk.
+//! Finds the envelopes that end in a chunk.
 
 ghost use Rattle.std.specs.Prelude.{◌≡◌, ◌≤◌, ◌<◌, ℕ, List, length, drop, None, OnErr};
 ghost use Rattle.iim_audit.specs.Format.{AuditHasConsumed};
@@ -15,7 +15,7 @@ use jiff::Timestamp;
 pub(crate) struct Found {
     /// The number of rows.
     pub(crate) rows: usize,
-    /// The number of octets of the chunk that were consumed by their envelopes.
+    /// The number of octets of the chunk that belong to the envelopes of these rows.
     pub(crate) used: usize,
     /// The offset in the input at which the next envelope begins.
     pub(crate) at: u64,
@@ -32,8 +32,8 @@ pub(crate) enum Ending {
     Refused(Refusal),
 }
 
-/// Writes a row for each envelope that ends in a chunk, until `rows` is full. `at` is the offset
-/// in the input at which the current envelope begins.
+/// Writes a row for each envelope that ends in a chunk, until `rows` is full. `at` is the offset in
+/// the input of the first octet of the current envelope.
 pub(crate) fn find_rows(
     audit: &mut PieceAudit,
     at: u64,

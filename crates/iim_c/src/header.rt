@@ -1,4 +1,4 @@
-//! The header and the trailer of a message in a ticket.
+//! Looks up the header and the trailer of a message in a ticket.
 
 ghost use Rattle.std.specs.Prelude.{◌≡◌, ◌-◌, length};
 ghost use Rattle.iim_places.specs.Format.TicketForm.{HasContents};
@@ -44,8 +44,8 @@ const NO_MESSAGE: IimMessage = IimMessage {
     trailer: NO_SPAN,
 };
 
-/// Returns the slice of a ticket for a text that ends just before offset `end`. The offset is 0 if
-/// there are too few octets.
+/// Returns the slice of a ticket that holds `text` and ends just before the offset `end`. The
+/// offset of the slice is 0 if the ticket is too short.
 fn span_before(end: usize, text: &[u8]) -> IimSpan
     ensures { result ≡ record { offset = end - length text.now; count = length text.now } }
 {
@@ -55,16 +55,16 @@ fn span_before(end: usize, text: &[u8]) -> IimSpan
     }
 }
 
-/// Returns the slice of a ticket for a text that is followed by the length of the next text, in
-/// one octet.
+/// Returns the slice of a ticket that holds `text`. The text is followed by the length of the next
+/// text, in one octet.
 fn text_before(next: IimSpan, text: &[u8]) -> IimSpan
     ensures { result ≡ record { offset = next.offset - 1 - length text.now; count = length text.now } }
 {
     span_before(next.offset.saturating_sub(1), text)
 }
 
-/// Returns the header and the trailer in a ticket of these parts. They are at its end, and before
-/// each text is its length in one octet.
+/// Returns the header and the trailer in a ticket that was split into these parts. They are at the
+/// end of the ticket, each text after its length in one octet.
 fn message_in(ticket: &[u8], parts: &TicketParts<'_>) -> IimMessage
     requires { HasContents ticket.now (contents_from parts.now) }
     ensures { IsMessageOf ticket.now (contents_from parts.now) result }
@@ -89,7 +89,7 @@ fn message_in(ticket: &[u8], parts: &TicketParts<'_>) -> IimMessage
     }
 }
 
-/// Returns the header and the trailer of the message, as far as they were received.
+/// Looks up the header and the trailer of the message, as far as they were received.
 pub fn iim_header(ticket: &[u8], message: &mut IimMessage, answer: &mut IimAnswer)
     ensures { ReturnsHeader ticket.now message.new answer.new }
 {

@@ -1,4 +1,4 @@
-//! Instants.
+//! Instants for C.
 
 ghost use Rattle.std.specs.Prelude.{◌≡◌, ◌<◌, IfSome, IfNone};
 ghost use Rattle.std.specs.Option.{option_map};
@@ -26,7 +26,7 @@ const NO_INSTANT: IimInstant = IimInstant {
     nanosecond: 0,
 };
 
-/// Converts an instant for C.
+/// Converts an instant to its form for C.
 fn instant_of(instant: Timestamp) -> IimInstant
     ensures { (result.nanosecond < nanoseconds_in_second) × (nanoseconds_to result ≡ instant.nanosecond) }
 {
@@ -37,7 +37,7 @@ fn instant_of(instant: Timestamp) -> IimInstant
     }
 }
 
-/// Returns whether an instant is present, and the instant for C.
+/// Returns whether an instant is present, and the instant in its form for C.
 pub(crate) fn optional_instant(instant: Option<Timestamp>) -> (bool, IimInstant)
     ensures { IsOptionalInstant (option_map (λ t. t.nanosecond) instant) result.0 result.1 }
 {
@@ -48,8 +48,9 @@ pub(crate) fn optional_instant(instant: Option<Timestamp>) -> (bool, IimInstant)
 }
 
 impl IimInstant {
-    /// Returns the instant, or `None` if it has more nanoseconds than a second, or is earlier than
-    /// -009999-01-02T01:59:59Z or later than 9999-12-30T22:00:00.999999999Z.
+    /// Converts to a `jiff` instant. Returns `None` if the nanoseconds are 1,000,000,000 or more,
+    /// or if the instant is earlier than -009999-01-02T01:59:59Z or later than
+    /// 9999-12-30T22:00:00.999999999Z.
     pub(crate) fn to_library(self) -> Option<Timestamp>
         ensures some { IfSome result (λ t. IsInstantAt self t.nanosecond) }
         ensures none { IfNone result (IsInstant self → ⊥) }

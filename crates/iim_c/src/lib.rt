@@ -2,16 +2,16 @@
 //! and buffers.
 //!
 //! Depends on the unpacker, the packer, scripts, audits and tables. The contract of each function
-//! restates that of the library function which it calls. The state between two calls is a ticket:
-//! octets that the caller stores. Nothing persists from one call to the next. `iim_exports`
-//! exports the functions to C.
+//! restates the contract of the library function that it calls. The state between two calls is a
+//! ticket, in a buffer of the caller: no function has state of its own. `iim_exports` exports the
+//! functions to C.
 //!
 //! [`IimAnswer`] is the result of a call. [`iim_check`] checks an envelope in memory, [`iim_feed`]
-//! reads a chunk of one, and [`iim_end`] checks whether the input may end. [`iim_fields`],
-//! [`iim_field`], [`iim_header`] and [`iim_sizes`] return what a ticket has of an envelope, and
-//! [`iim_place`] returns what is in progress. [`iim_next`] tries each octet from the state of a
-//! ticket. [`iim_audit`] writes the rows that [`iim_audit::PieceAudit`] finds, for every split
-//! into chunks. [`iim_pack`] packs a script, [`iim_row`] looks up the tables, and
+//! reads a chunk of an envelope, and [`iim_end`] checks whether the input may end. [`iim_fields`],
+//! [`iim_field`], [`iim_header`] and [`iim_sizes`] look up the values in a ticket, and
+//! [`iim_place`] decodes what is in progress. [`iim_next`] returns the octets that are accepted
+//! next. [`iim_audit`] writes the same rows as [`iim_audit::PieceAudit`], for every split into
+//! chunks. [`iim_pack`] packs a script, [`iim_row`] looks up a dataset in the tables, and
 //! [`iim_cause_text`] writes the meaning of a cause.
 #![tactic(auto)]
 
@@ -24,6 +24,7 @@ mod causes;
 mod check;
 mod dataset_names;
 mod end;
+mod error_text;
 mod feed;
 mod field;
 mod fields;
@@ -52,6 +53,7 @@ pub use causes::{iim_cause_name, iim_cause_text};
 pub use check::iim_check;
 pub use dataset_names::iim_dataset_name;
 pub use end::iim_end;
+pub use error_text::iim_error_text;
 pub use feed::iim_feed;
 pub use field::{IimDataset, iim_field};
 pub use fields::iim_fields;

@@ -5,14 +5,14 @@ ghost use Rattle.iim_c.specs.Format.Checking.{given_or, limits_for};
 
 use iim_fields::Limits;
 
-/// The limits on records 1 and 2 of an envelope, together. A field that is 0 selects the limit of
-/// wire copy.
+/// The limits on the data of records 1 and 2 of an envelope, both records together. A field that is
+/// 0 selects the default limit, which is the limit of wire copy.
 #[repr(C)]
 #[derive(Clone, Copy)]
 pub struct IimLimits {
-    /// The number of octets of data.
+    /// The greatest number of octets of data.
     pub octets: u32,
-    /// The number of datasets.
+    /// The greatest number of datasets.
     pub fields: u32,
 }
 

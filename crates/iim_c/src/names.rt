@@ -1,4 +1,4 @@
-//! The names of layers, and how names are written into buffers.
+//! Names of layers, and writing a name into a buffer.
 
 ghost use Rattle.std.specs.Prelude.{◌≡◌, ◌+◌, Some, None, MatchOption};
 ghost use Rattle.std.specs.Option.{option_map};
@@ -8,7 +8,7 @@ use crate::bytes::put_text;
 
 /// Returns the name of a layer, or `None` if no layer has this number.
 #[tactic(auto, unfolding(crate::specs::Format::Tables::name_of_layer, crate::specs::Format::Tables::layer_names))]
-fn name_of_layer(number: u8) -> Option<&'static str>
+pub(crate) fn name_of_layer(number: u8) -> Option<&'static str>
     ensures { MatchOption result (name_of_layer number ≡ None) (λ name. name_of_layer number ≡ Some name.now) }
 {
     match number {
@@ -23,8 +23,8 @@ fn name_of_layer(number: u8) -> Option<&'static str>
     }
 }
 
-/// Writes a name and a NUL into `out`, if they fit. Returns the number of octets of the name, or 0
-/// if there is no name.
+/// Writes a name and a NUL into `out`, if they fit. Returns the length of the name in octets,
+/// without the NUL, or 0 if there is no name.
 pub(crate) fn put_name(name: Option<&str>, out: &mut [u8]) -> usize
     ensures { WritesName (name_or_none (option_map (λ n. n.now) name.entry)) out.old out.new result }
 {
@@ -35,8 +35,8 @@ pub(crate) fn put_name(name: Option<&str>, out: &mut [u8]) -> usize
     name.len()
 }
 
-/// Writes the name of a layer and a NUL into `out`, if they fit. Returns the number of octets of
-/// the name, or 0 if the layer is unknown.
+/// Writes the name of a layer and a NUL into `out`, if they fit. Returns the length of the name in
+/// octets, without the NUL, or 0 if no layer has this number.
 pub fn iim_layer_name(layer: u8, out: &mut [u8]) -> usize
     ensures { WritesName (name_or_none (name_of_layer layer)) out.old out.new result }
 {

@@ -1,4 +1,4 @@
-//! The octets that may come next.
+//! Finds the octets that are accepted next.
 
 ghost use Rattle.std.specs.Prelude.{◌≡◌, true, false, if◌then◌else◌, IfOk, IfErr, MatchOption};
 ghost use Rattle.iim_c.specs.Format.Answers.{ticket_answer};
@@ -21,7 +21,7 @@ use wire_story::Discard;
 #[repr(C)]
 #[derive(Clone, Copy)]
 pub struct IimOctetSet {
-    /// One bit for each octet: octet `o` has bit `o % 8` of `bits[o / 8]`.
+    /// One bit for each octet: the bit of octet `o` is bit `o % 8` of `bits[o / 8]`.
     pub bits: [u8; 32],
 }
 
@@ -35,7 +35,7 @@ fn set_bit(bits: &mut [u8; 32], octet: u8)
     bits[usize::from(octet / 8)] |= 1 << (octet % 8);
 }
 
-/// Sets the bit of an octet, if it is accepted.
+/// Sets the bit of an octet, if `taken` is true.
 fn put_bit(bits: &mut [u8; 32], octet: u8, taken: bool)
     ensures set { taken ≡ true → IsSet bits.old bits.new octet 1 }
     ensures same { taken ≡ false → bits.new ≡ bits.old }
@@ -45,7 +45,7 @@ fn put_bit(bits: &mut [u8; 32], octet: u8, taken: bool)
     }
 }
 
-/// Checks whether every layer accepts `octet` next in the state of a ticket. Returns `None` if the
+/// Checks whether every layer accepts `octet` next, in the state of a ticket. Returns `None` if the
 /// envelope is complete in that state.
 fn accepts_next(
     alloc: Global,
@@ -69,8 +69,8 @@ fn accepts_next(
     }
 }
 
-/// Returns the bits of all octets that every layer accepts next, each tried from the state of a
-/// ticket. Returns `None` if the envelope is complete in that state.
+/// Tries each octet in the state of a ticket. Returns the bits of those that every layer accepts,
+/// or `None` if the envelope is complete in that state.
 fn try_all(alloc: Global, limits: Limits, ticket: &[u8]) -> Result<Option<[u8; 32]>, TicketFault>
     ensures tried { IfOk result (λ tried. MatchOption tried (TicketIsComplete limits ticket.now)
         (BitsAreAccepted limits ticket.now)) }
@@ -98,9 +98,9 @@ fn next_of(alloc: Global, limits: Limits, ticket: &[u8]) -> ([u8; 32], IimAnswer
     }
 }
 
-/// Returns the octets that every layer accepts next in the state of a ticket, or at the beginning
-/// of a new envelope if the ticket is empty. An octet is in the set if and only if the envelope
-/// could continue or end with it.
+/// Finds the octets that every layer accepts next in the state of a ticket, or at the beginning of
+/// an envelope if the ticket is empty. An octet is in the set if and only if some valid envelope
+/// continues or ends with it there.
 pub fn iim_next(
     alloc: Global,
     limits: IimLimits,

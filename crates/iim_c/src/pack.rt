@@ -1,4 +1,4 @@
-//! Scripts that are packed.
+//! Packs scripts into envelopes.
 
 ghost use Rattle.std.specs.Prelude.{◌≡◌, ◌<◌, ◌≤◌, ◌++◌, ◌⊎◌, [], length, drop, IfOk, IfErr};
 ghost use Rattle.iim_c.specs.Format.Answers.{status_answer};
@@ -14,7 +14,7 @@ use iim_dataset::FromWrite;
 use iim_pack_script::packing::{PackFault, pack_octets};
 use std::alloc::Global;
 
-/// Returns the answer for an error of packing. A write into memory fails only if an allocation
+/// Returns the answer for an error of packing. Writing into memory fails only if an allocation
 /// fails.
 fn fault_answer(fault: PackFault) -> IimAnswer
     ensures { result ≡ pack_answer (outcome_of fault) }
@@ -29,8 +29,8 @@ fn fault_answer(fault: PackFault) -> IimAnswer
     }
 }
 
-/// Returns the packed form of the envelope that a script specifies, or the answer that gives the
-/// reason why there is no such envelope.
+/// Packs the envelope that a script specifies. Returns its packed form, or the answer with the
+/// reason why it cannot be packed.
 fn packed_form(alloc: Global, packing: IimPacking, script: &[u8]) -> Result<Vec<u8>, IimAnswer>
     ensures packed { IfOk result (λ form. IsPackOutcome packing script.now (Packed form.items)) }
     ensures unpacked { IfErr result (λ told. (o : PackOutcome) × IsPackOutcome packing script.now o × (form_of o ≡ [])
@@ -86,7 +86,7 @@ pub fn iim_pack(
     }
 }
 
-/// Returns the number of octets that [`iim_pack`] would write.
+/// Computes the number of octets that [`iim_pack`] would write.
 pub fn iim_pack_size(alloc: Global, packing: IimPacking, script: &[u8], answer: &mut IimAnswer)
     ensures { ReturnsPackedSize packing script.now answer.new }
 {

@@ -1,4 +1,4 @@
-//! The options for packing an envelope.
+//! Options for packing an envelope.
 
 ghost use Rattle.std.specs.Prelude.{◌≡◌, IfSome, IfNone};
 ghost use Rattle.iim_pack_script.specs.Format.{asked};
@@ -8,13 +8,13 @@ use iim_object::{Plan, Size};
 use iim_pack_script::packing::PackRequest;
 use iim_request::request::DEFAULT_SUBFILE;
 
-/// How to pack an envelope. `subfile = 0` selects the default, 1,024.
+/// How to pack an envelope. If `subfile` is 0, the size of a full subfile is 1,024 octets.
 #[repr(C)]
 #[derive(Clone, Copy)]
 pub struct IimPacking {
-    /// The number of octets of a full subfile, or 0.
+    /// The number of octets of a full subfile, or 0 for the default.
     pub subfile: u64,
-    /// Whether the envelope leaves the size of the object unknown.
+    /// Whether the envelope states that the size of its object is unknown.
     pub unknown: bool,
     /// Whether the envelope states a maximum size.
     pub has_max: bool,
@@ -22,8 +22,8 @@ pub struct IimPacking {
     pub max: u64,
 }
 
-/// Returns the request for these options, or `None` if a known size has a maximum, or if a number
-/// is above the greatest size.
+/// Converts the options to a request. Returns `None` if a known size is combined with a maximum, or
+/// if a number exceeds the greatest size.
 pub(crate) fn request_for(packing: IimPacking) -> Option<PackRequest>
     ensures request { IfSome result (λ request. (asked request.subfile request.unknown request.max ≡ asked_for packing)
         × AreValidOptions packing) }

@@ -1,4 +1,4 @@
-//! Rows of an audit.
+//! Rows of an audit, for C.
 
 ghost use Rattle.std.specs.Prelude.{◌≡◌, ◌≤◌, length};
 ghost use Rattle.iim_audit.specs.Steps.{IsShort};
@@ -17,41 +17,42 @@ pub const HELD: u8 = 1;
 /// The expiration of the copy is earlier than the instant of the audit.
 pub const EXPIRED: u8 = 2;
 
-/// The columns of the audit report for one envelope. Fields that are not mentioned are 0.
+/// The columns of the audit report for one envelope. Fields that are not mentioned are zero.
 #[repr(C)]
 #[derive(Clone, Copy)]
 pub struct IimAuditRow {
-    /// The offset in the input of its first octet.
+    /// The offset in the input of the first octet of the envelope.
     pub at: u64,
-    /// Its length in octets.
+    /// The length of the envelope in octets.
     pub octets: u64,
-    /// The number of octets of its object.
+    /// The number of octets of the object.
     pub size: u64,
-    /// The number of subfiles of its object.
+    /// The number of subfiles of the object.
     pub subfiles: u64,
-    /// The number of words that its message announces.
+    /// The number of words that the header of the message announces.
     pub announced: u64,
-    /// The number of words of its story.
+    /// The number of words of the story.
     pub counted: u64,
-    /// The whole seconds since it was sent, rounded down, negative for the future.
+    /// The number of whole seconds since the envelope was sent, rounded down; negative if that is
+    /// in the future.
     pub age: i64,
-    /// The first instant at which its copy may be used.
+    /// The first instant at which the copy may be used.
     pub release: IimInstant,
-    /// The last instant at which its copy may be used.
+    /// The last instant at which the copy may be used.
     pub expires: IimInstant,
-    /// Whether it states the instant at which it was sent.
+    /// Whether the envelope states the instant at which it was sent.
     pub has_age: bool,
-    /// Whether it states a release.
+    /// Whether the envelope states a release.
     pub has_release: bool,
-    /// Whether it states an expiration.
+    /// Whether the envelope states an expiration.
     pub has_expires: bool,
     /// Whether the copy may be used: [`FREE`], [`HELD`] or [`EXPIRED`].
     pub copy: u8,
-    /// The digit of 1:60 as an ASCII octet, or 0 if it was not sent.
+    /// The digit of 1:60 as an ASCII octet, or 0 if the envelope has no 1:60.
     pub priority: u8,
-    /// The length of 1:30 in octets.
+    /// The length of 1:30 Service Identifier in octets.
     pub service_octets: u8,
-    /// 1:30 Service Identifier, and zeros after it.
+    /// 1:30 Service Identifier, padded with zeros.
     pub service: [u8; 10],
     /// 1:40 Envelope Number, eight digits.
     pub number: [u8; 8],
@@ -59,7 +60,7 @@ pub struct IimAuditRow {
     pub date_sent: [u8; 8],
 }
 
-/// Returns the octets, followed by zeros.
+/// Pads octets with zeros up to the length of the array.
 fn padded<const ROOM: usize>(octets: &[u8]) -> [u8; ROOM]
     requires { length octets.now ≤ ROOM }
     ensures { result ≡ padded ROOM octets.now }
@@ -80,7 +81,8 @@ fn copy_number(copy: CopyState) -> u8
     }
 }
 
-/// Returns the row for C of an envelope that begins at the offset `at` of the input.
+/// Converts the row of an envelope to its form for C. The envelope begins at the offset `at` of the
+/// input.
 pub(crate) fn row_for(at: u64, found: &PieceRow) -> IimAuditRow
     requires { IsShort found.now.row.id }
     ensures { IsRowFor at found.now.octets found.now.row (option_map (λ t. t.nanosecond) found.now.release)

@@ -1,4 +1,4 @@
-//! The rows of the tables.
+//! Rows of the tables of datasets, for C.
 
 ghost use Rattle.std.specs.Prelude.{◌≡◌, ◌↔◌, IsTrue, is_some};
 ghost use Rattle.iim_tables.specs.Format.Rows.{OctetsMeetRow, row_of};
@@ -6,7 +6,7 @@ ghost use Rattle.iim_c.specs.Format.Tables.{kind_number, duty_number, rule_of, r
 
 use iim_tables::{Duty, Kind, Row, admits, row};
 
-/// The row of a dataset.
+/// The row of a dataset in the tables.
 #[repr(C)]
 #[derive(Clone, Copy)]
 pub struct IimRule {
@@ -16,7 +16,7 @@ pub struct IimRule {
     pub max: u64,
     /// The number of the kind of the data.
     pub kind: u8,
-    /// The number of the duty: whether the record must have the dataset.
+    /// The number of the duty, which is whether each record must have the dataset.
     pub duty: u8,
     /// Whether the dataset may occur more than once.
     pub repeats: bool,
@@ -63,7 +63,7 @@ fn duty_number(duty: Duty) -> u8
     }
 }
 
-/// Converts a row for C.
+/// Converts a row to its form for C.
 fn rule_of(row: Row) -> IimRule
     ensures { result ≡ rule_of row }
 {
@@ -76,7 +76,7 @@ fn rule_of(row: Row) -> IimRule
     }
 }
 
-/// Looks up the row of the dataset `rec`:`set`. Returns whether it has one.
+/// Looks up the row of the dataset `rec`:`set`. Returns whether the tables have such a row.
 pub fn iim_row(rec: u8, set: u8, rule: &mut IimRule) -> bool
     ensures has { result ≡ is_some (row_of rec set) }
     ensures rule { rule.new ≡ rule_for (row_of rec set) }
@@ -93,8 +93,8 @@ pub fn iim_row(rec: u8, set: u8, rule: &mut IimRule) -> bool
     }
 }
 
-/// Checks whether octets are a valid value of the dataset `rec`:`set`: it has a row, and the
-/// octets are as that requires.
+/// Checks whether octets are a valid value of the dataset `rec`:`set`: the tables have a row for
+/// it, and the octets meet the requirements of that row.
 pub fn iim_admits(rec: u8, set: u8, octets: &[u8]) -> bool
     ensures { IsTrue result ↔ OctetsMeetRow rec set octets.now }
 {

@@ -1,4 +1,4 @@
-//! The sizes of an object in a ticket.
+//! Looks up the sizes of an object in a ticket.
 
 ghost use Rattle.iim_places.specs.States.Restored.{contents_from};
 ghost use Rattle.iim_c.specs.Format.Tickets.{IsObjectOf, ReturnsSizes};
@@ -7,7 +7,7 @@ use crate::answer::{IimAnswer, status_answer, ticket_answer};
 use crate::status::DONE;
 use iim_unpack::{TicketParts, split_ticket};
 
-/// The sizes of an object, as far as they were received. A number that was not received is 0.
+/// The sizes of an object, as far as they were received. Numbers that were not received are 0.
 #[repr(C)]
 #[derive(Clone, Copy)]
 pub struct IimObject {
@@ -19,13 +19,13 @@ pub struct IimObject {
     pub has_announced: bool,
     /// Whether 7:95 was received.
     pub has_maximum: bool,
-    /// 7:10: 1 if the size is known at the start, otherwise 0.
+    /// The value of 7:10: 1 if the size is known at the start, otherwise 0.
     pub mode: u64,
-    /// 7:20: the largest size of a subfile.
+    /// The value of 7:20: the largest size of a subfile.
     pub subfile: u64,
-    /// 7:90: the announced size.
+    /// The value of 7:90: the announced size.
     pub announced: u64,
-    /// 7:95: the largest size that is allowed.
+    /// The value of 7:95: the largest size that is allowed.
     pub maximum: u64,
     /// The number of subfiles, a partial one included.
     pub subfiles: u64,
@@ -47,7 +47,7 @@ const NO_OBJECT: IimObject = IimObject {
     octets: 0,
 };
 
-/// Returns the sizes in a ticket of these parts.
+/// Returns the sizes in a ticket that was split into these parts.
 fn object_in(parts: &TicketParts<'_>) -> IimObject
     ensures { IsObjectOf (contents_from parts.now) result }
 {
@@ -66,7 +66,7 @@ fn object_in(parts: &TicketParts<'_>) -> IimObject
     }
 }
 
-/// Returns the sizes of the object, as far as they were received.
+/// Looks up the sizes of the object, as far as they were received.
 pub fn iim_sizes(ticket: &[u8], object: &mut IimObject, answer: &mut IimAnswer)
     ensures { ReturnsSizes ticket.now object.new answer.new }
 {

@@ -6,7 +6,7 @@ pub const DONE: u8 = 0;
 /// All octets were consumed, and the envelope can continue.
 pub const MORE: u8 = 1;
 
-/// An octet, or a line of a script, is rejected.
+/// An octet of an envelope, or a line of a script, is rejected.
 pub const REFUSED: u8 = 2;
 
 /// The input ends inside an envelope.
@@ -21,7 +21,7 @@ pub const SHORT: u8 = 5;
 /// An allocation failed.
 pub const NO_MEMORY: u8 = 6;
 
-/// The octets are not a ticket from which the call can continue.
+/// The octets are not a ticket, or not one from which this call can continue.
 pub const BAD_TICKET: u8 = 7;
 
 /// The options for packing are invalid.

@@ -6,21 +6,21 @@ use iim_dataset::Stop;
 use iim_dataset::octets::LF;
 use wire_story::StorySink;
 
-/// A sink that writes lines joined by LF into a buffer, as many octets as fit, and counts all of
-/// them. It never stops the unpacker.
+/// A sink that writes the lines of a story into a buffer, joined by LF. It writes as many octets as
+/// fit and counts all of them. It never stops the unpacker.
 pub struct TextOut<'t> {
     /// The buffer.
     pub out: &'t mut [u8],
-    /// The number of octets received, capped at the greatest number of 64 bits.
+    /// The number of octets received, up to the greatest `usize`.
     pub count: usize,
 }
 
 impl<'t> TextOut<'t> {
     ghost use Rattle.iim_c.specs.Format.Answers.{WritesOctets};
 
-    /// Consumes an octet.
+    /// Writes an octet, if it fits.
     #[inline(always)]
-    fn put_octet(&mut self, octet: u8)
+    pub(crate) fn put_octet(&mut self, octet: u8)
         ensures { WritesOctets self.old (octet ∷ []) self.new }
     {
         let from = self.count;
@@ -32,7 +32,7 @@ impl<'t> TextOut<'t> {
         self.count = from.saturating_add(1);
     }
 
-    /// Consumes a slice of octets.
+    /// Writes the octets of a slice that fit.
     #[inline(never)]
     fn put_run(&mut self, octets: &[u8])
         ensures { WritesOctets self.old octets.now self.new }
@@ -44,10 +44,10 @@ impl<'t> TextOut<'t> {
         }
     }
 
-    /// Consumes octets. A single octet is stored directly, which is faster than a call that copies
+    /// Writes the octets that fit. A single octet is stored directly, which is faster than copying
     /// a slice.
     #[inline(always)]
-    fn put(&mut self, octets: &[u8])
+    pub(crate) fn put(&mut self, octets: &[u8])
         ensures { WritesOctets self.old octets.now self.new }
     {
         match octets {

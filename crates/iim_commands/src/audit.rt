@@ -1,4 +1,4 @@
-//! The audit report of an input.
+//! Writes the audit report of an input.
 
 ghost use Rattle.std.specs.Prelude.{◌≡◌, None, IfOk, IfErr, OnOk};
 ghost use Rattle.iim_audit.specs.Format.{printed_report};
@@ -20,8 +20,8 @@ use iim_unpack::Intake;
 use jiff::Timestamp;
 use std::alloc::Global;
 
-/// Returns the line for an error of an audit, if it is in the octets of the input; otherwise the
-/// error of the command.
+/// Formats the error of an audit as a line, if the error is in the octets of the input. Otherwise
+/// returns the error of the command.
 fn reason(alloc: Global, fault: AuditFault) -> Result<Vec<u8>, CommandFault>
     ensures told { IfOk result (λ line. IsErrorLine fault.envelope fault.cause line.items) }
     ensures other { IfErr result (HasNoErrorLine fault.cause) }
@@ -54,7 +54,7 @@ fn write_report<W: Target>(
     append_and_flush(output, report.last_line().as_slice())
 }
 
-/// Converts an instant for `jiff`.
+/// Converts an instant to its form in `jiff`.
 fn timestamp_of(instant: Instant) -> Timestamp
     ensures { result.nanosecond ≡ instant.nanosecond }
 {
@@ -64,8 +64,8 @@ fn timestamp_of(instant: Instant) -> Timestamp
     }
 }
 
-/// Writes the report of an input, or the line of its error, and returns the status. The output
-/// must have nothing buffered. It has nothing buffered afterwards, unless a write failed.
+/// Writes the report of an input, or the line of its error, and returns the exit status. The output
+/// must have nothing buffered. Unless a write fails, it has nothing buffered afterwards.
 fn report_input<R: Source, W: Target>(
     alloc: Global,
     now: Instant,
@@ -95,8 +95,8 @@ fn report_input<R: Source, W: Target>(
 }
 
 /// Writes the report of an input at the instant `now`, or the line of its error, and returns the
-/// status. All allocations are done before anything is written. If a write fails, the text that is
-/// not written is lost.
+/// exit status. All allocations are done before anything is written. If a write fails, the rest of
+/// the text is lost.
 pub fn write_audit<R: Source, W: Target>(
     alloc: Global,
     now: Instant,
@@ -117,13 +117,13 @@ pub fn write_audit<R: Source, W: Target>(
         Ok(made) => {
             let mut blocks = made;
             let answer = report_input(alloc, now, intake, &mut blocks);
-            // No effect at run time: the proof needs this use of the returned target to know its
-            // contents.
+            // This line has no effect at run time. The proof needs this use of the returned target
+            // to know its contents.
             let _ = &*blocks.into_writer();
             answer
         }
         Err(same) => {
-            // The same for the target that is returned if the allocation fails.
+            // As above, for the target that is returned if the allocation fails.
             let _ = &*same;
             Err(CommandFault::OutOfMemory)
         }

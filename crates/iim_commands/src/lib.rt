@@ -1,10 +1,10 @@
-//! The commands of `iimwire`. [`parse`] parses the arguments of a command line, [`run`] runs the
-//! request, and [`read_script`] returns the envelope that a script specifies.
+//! The commands of `iimwire`. [`parse`] parses the arguments of a command line, [`run`] executes
+//! the request, and [`read_script`] parses a script.
 //!
-//! Depends on the crates of the single commands, and re-exports their modules: `iim_request`
-//! parses the arguments, `iim_listing` writes listings and stories, `iim_pack_script` packs, and
-//! `iim_output` has their writers. The command `audit` is in this crate, over `iim_audit`. The
-//! command `iimwire` depends on it, and provides arguments, files and streams.
+//! Depends on the crates of the single commands, and re-exports their modules: `iim_request` parses
+//! the arguments, `iim_listing` writes listings and stories, `iim_pack_script` packs, and
+//! `iim_output` has the writers. The command `audit` is in this crate, on top of `iim_audit`. The
+//! program `iimwire` depends on this crate, and provides arguments, files and streams.
 #![tactic(auto)]
 
 pub mod audit;

@@ -1,4 +1,4 @@
-//! Requests that are run.
+//! Executes requests.
 
 ghost use Rattle.std.specs.Prelude.{◌≡◌, ℕ, List, IfOk, IfErr};
 ghost use Rattle.iim_unpack.specs.States.Blocks.{with_unread};
@@ -21,7 +21,7 @@ use iim_request::request::{Job, Request};
 use iim_unpack::Intake;
 use std::alloc::Global;
 
-/// Prints an error, and returns the status of a failure, even if the line cannot be written.
+/// Prints an error, and returns the exit status of a failure, even if the line cannot be written.
 fn print_error<E: Target>(errors: &mut E, fault: CommandFault) -> u8
     ensures status { result ≡ status_failed }
     ensures told { PrintsError (E.state errors.old) (E.state errors.new) fault }
@@ -30,7 +30,8 @@ fn print_error<E: Target>(errors: &mut E, fault: CommandFault) -> u8
     FAILED
 }
 
-/// Completes a run: returns the status, or prints the error and returns the status of a failure.
+/// Completes a run: returns the exit status, or prints the error and returns the exit status of a
+/// failure.
 fn finish<E: Target>(errors: &mut E, answer: Result<u8, CommandFault>) -> u8
     ensures ok { IfOk answer (λ want. (result ≡ want) × (E.state errors.new ≡ E.state errors.old)) }
     ensures fault { IfErr answer (λ fault. (result ≡ status_failed)
@@ -42,7 +43,7 @@ fn finish<E: Target>(errors: &mut E, answer: Result<u8, CommandFault>) -> u8
     }
 }
 
-/// Lists the envelopes of a reader. Returns the status and both writers.
+/// Lists the envelopes of a reader. Returns the exit status and both writers.
 fn run_listing<P: EnvelopeLines, R: Source + Drop, W: Target, E: Target>(
     alloc: Global,
     texts: &P,
@@ -62,7 +63,7 @@ fn run_listing<P: EnvelopeLines, R: Source + Drop, W: Target, E: Target>(
     (status, output, errors)
 }
 
-/// Writes the stories of the envelopes of a reader. Returns the status and both writers.
+/// Writes the stories of the envelopes of a reader. Returns the exit status and both writers.
 fn run_stories<R: Source + Drop, W: Target, E: Target>(
     alloc: Global,
     reader: R,
@@ -81,7 +82,7 @@ fn run_stories<R: Source + Drop, W: Target, E: Target>(
     (status, output, errors)
 }
 
-/// Writes the audit report of a reader. Returns the status and both writers.
+/// Writes the audit report of a reader. Returns the exit status and both writers.
 fn run_audit<R: Source + Drop, W: Target, E: Target>(
     alloc: Global,
     now: Instant,
@@ -101,7 +102,8 @@ fn run_audit<R: Source + Drop, W: Target, E: Target>(
     (status, output, errors)
 }
 
-/// Packs the envelope that a reader's script specifies. Returns the status and both writers.
+/// Packs the envelope that the script from a reader specifies. Returns the exit status and both
+/// writers.
 fn pack<R: Source + Drop, W: Target, E: Target>(
     alloc: Global,
     request: PackRequest,
@@ -120,7 +122,7 @@ fn pack<R: Source + Drop, W: Target, E: Target>(
     (status, output, errors)
 }
 
-/// Runs a request. Returns the status and both writers.
+/// Executes a request. Returns the exit status and both writers.
 pub fn run<R: Source + Drop, W: Target, E: Target>(
     alloc: Global,
     request: Request<'_>,
@@ -128,7 +130,7 @@ pub fn run<R: Source + Drop, W: Target, E: Target>(
     output: W,
     errors: E,
 ) -> (u8, W, E)
-    // The reader has reached the state `last`; the octets `pending` were read and not consumed.
+    // The reader ends in the state `last`. The octets `pending` were read and not consumed.
     ensures { (last : R) × (pending : List ℕ) × R.leads reader last
         × RunsJob request.entry.job (devices (R.state reader) (W.state output) (E.state errors))
         (devices (with_unread pending (R.state last)) (W.state result.1) (E.state result.2)) result.0 }

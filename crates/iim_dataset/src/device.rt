@@ -1,4 +1,4 @@
-//! Errors and counters that sources and targets share.
+//! Errors and counters for both sources and targets.
 
 ghost use Rattle.std.specs.Prelude.{◌≡◌, ◌≢◌, ◌↔◌, None, Some};
 ghost use Rattle.std.specs.IoError.{error_kind};
@@ -9,10 +9,10 @@ use std::fmt::{Display, Formatter};
 use std::io::{Error, ErrorKind};
 use std::{error, fmt};
 
-/// Why a read or a write moved no octet.
+/// Why a read or a write transferred no octet.
 #[derive(Clone, Copy, Debug, PartialEq, Eq)]
 pub enum IoFault {
-    /// A signal interrupted the call, which may be made again.
+    /// A signal interrupted the call, which can be repeated.
     Interrupted,
     /// The reader or the writer failed.
     Failed,
@@ -40,10 +40,11 @@ impl Display for IoFault {
 
 impl error::Error for IoFault {}
 
-/// The number of interruptions in a row at which a call returns an error instead of a retry.
+/// The number of consecutive interruptions after which a call returns an error instead of a retry.
 pub(crate) const MAX_INTERRUPTIONS: u32 = 1_000_000;
 
-/// Converts an error of `std`: kind `Interrupted` is an interruption, any other kind a failure.
+/// Converts an error of `std`: the kind `Interrupted` is an interruption, and any other kind is a
+/// failure.
 fn fault_of(error: Error) -> IoFault
     ensures interrupted { (result ≡ IoFault.Interrupted) ↔ (error_kind error ≡ ErrorKind.Interrupted) }
     ensures failed { (result ≡ IoFault.Failed) ↔ (error_kind error ≢ ErrorKind.Interrupted) }
@@ -80,8 +81,8 @@ impl Faults {
         self.failures = self.failures.saturating_add(1);
     }
 
-    /// Counts an error of `std` and returns what it is: kind `Interrupted` is an interruption, any
-    /// other kind a failure.
+    /// Counts an error of `std`, and returns what it is: the kind `Interrupted` is an interruption,
+    /// and any other kind is a failure.
     pub(crate) fn count(&mut self, error: Error) -> IoFault
         ensures counted { CountedFault (faulty None self.old) (faulty None self.new) result }
         ensures interrupted { (result ≡ IoFault.Interrupted) ↔ (error_kind error ≡ ErrorKind.Interrupted) }

@@ -1,16 +1,16 @@
-//! Lemmas on several calls of one reader or writer.
+//! Lemmas about several calls of one reader or writer.
 
 ghost use Rattle.iim_dataset.specs.Laws.{ReadsJoin, WritesJoin};
 
-/// Proves that octets from several reads are the same as their concatenation from one, and that a
-/// fault comes after all of them.
+/// Proves that several reads give the same octets as one read of their concatenation, and that an
+/// error comes after all of these octets.
 pub fn reads_join()
     ensures { ReadsJoin }
 {}
 
-/// Proves that texts written one after another are the same as their concatenation written at once.
-/// If the second text stopped, so did the concatenation; and if the writer broke after the second
-/// text, it broke after both.
+/// Proves that writing texts one after another is the same as writing their concatenation at once.
+/// If the second text stopped, so does the concatenation; if the writer failed after the second
+/// text, it failed after both.
 pub fn writes_join()
     ensures { WritesJoin }
 {}

@@ -14,7 +14,7 @@ use std::fmt::{Display, Formatter};
 pub enum FaultCause {
     /// The first octet of a tag is not the tag marker.
     Marker,
-    /// The octets have neither form of a count.
+    /// The octets encode a count in neither the standard nor the extended form.
     CountForm,
     /// The sink stopped.
     Stopped,
@@ -80,7 +80,7 @@ impl Display for Fault {
 
 impl Error for Fault {}
 
-/// Converts the reason why no tag can continue to the cause of a fault.
+/// Converts the reason why octets are not a tag to the cause of a fault.
 pub(crate) fn tag_fault(cause: HeadCause) -> FaultCause
     ensures { tag_cause_of result ≡ Some cause }
 {

@@ -12,24 +12,24 @@ use std::error::Error;
 use std::fmt;
 use std::fmt::{Display, Formatter};
 
-/// A decoded tag (IIM version 4, the chapter on DataSets): the number of the record, the number of
-/// the dataset in it, and the number of octets of data that follow.
+/// A decoded tag (the chapter on DataSets of IIM version 4): the number of the record, the number
+/// of the dataset in that record, and the number of octets of data that follow.
 #[derive(Clone, Copy, Debug, PartialEq, Eq)]
 pub struct Head {
     /// The number of the record.
     pub rec: u8,
-    /// The number of the dataset in its record.
+    /// The number of the dataset within its record.
     pub set: u8,
     /// The number of octets of data.
     pub count: u64,
 }
 
-/// Why octets are not a tag. Definitions of the layers above cite it.
+/// Why octets are not a tag. Definitions of the crates above cite this type.
 #[derive(Clone, Copy, Debug, PartialEq, Eq)]
 pub enum HeadCause {
     /// The first octet is not the tag marker.
     Marker,
-    /// The octets have neither form of a count.
+    /// The octets encode a count in neither the standard nor the extended form.
     CountForm,
 }
 
@@ -45,20 +45,20 @@ impl Display for HeadCause {
 
 impl Error for HeadCause {}
 
-/// The octets begin no tag.
+/// An error for octets that are not the start of a tag.
 #[derive(Clone, Copy)]
 pub(crate) struct HeadFault {
-    /// What is wrong with the rejected octet.
+    /// Why the octet was rejected.
     pub cause: HeadCause,
-    /// The number of octets before the first one with which no tag can continue.
+    /// The number of octets before the first one that cannot be part of a tag.
     pub taken: usize,
 }
 
 /// The first octet of each tag.
 pub const TAG_MARKER: u8 = 0x1c;
 
-/// The first octet of an extended count. Its top bit is set, and its other bits are 0, since the
-/// count has at most 255 octets.
+/// The first octet of an extended count. Its top bit is set. The other bits are the high bits of
+/// the length of the count, and are 0 because that length is at most 255.
 pub const EXTENDED: u8 = 0x80;
 
 /// The number of octets of a tag with a standard count.
@@ -77,7 +77,7 @@ const MAX_STANDARD: u64 = 32_767;
 /// of octets that follow (1 to 8), and the count in these, high octet first. Leading zeros are
 /// accepted, and so is an extended count that the standard form could hold.
 ///
-/// **Errors:** the first octet with which no tag can continue.
+/// **Errors:** the first octet that cannot be part of a tag.
 pub(crate) fn read_head(octets: &[u8]) -> Result<Option<(Head, usize)>, HeadFault>
     ensures found { IfOk result (λ found.
         MatchOption found (BeginsTag count_octets octets.now) (λ f. HasTag octets.now f.0 f.1)) }

@@ -1,15 +1,15 @@
-//! Lemmas on all encodings of datasets, with either form of a count.
+//! Lemmas about all encodings of datasets, with either form of a count.
 
 ghost use Rattle.iim_dataset.specs.Laws.{DatasetStatesAreReached, DatasetLaws};
 
-/// Proves the lemmas on encodings of datasets and on readers of datasets; the record has a field
-/// for each.
+/// Proves the lemmas about encodings and readers of datasets. The record has a field for each
+/// lemma.
 pub fn dataset_laws()
     ensures { DatasetLaws }
 {}
 
-/// Proves that some octets reach each state that satisfies the invariant of [`crate::HeadReader`],
-/// and that octets reach no other state.
+/// Proves that the states that satisfy the invariant of [`crate::HeadReader`] are exactly the
+/// states that some octets reach.
 #[tactic(auto, using(crate::proofs::Places::dataset_states_are_reached))]
 pub fn dataset_states_are_reached()
     ensures { DatasetStatesAreReached }

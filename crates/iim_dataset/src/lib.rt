@@ -1,11 +1,11 @@
-//! Datasets of the Information Interchange Model: their tags, datasets in chunks, and the readers
-//! and writers that octets come from and go to.
+//! Datasets of the Information Interchange Model: their tags, a push parser for datasets that are
+//! received in chunks, and the sources and targets of octets.
 //!
-//! Depends on `byteorder` and `arrayvec`. Every crate depends on this one, at least for its
+//! Depends on `byteorder` and `arrayvec`. Every other crate depends on this crate, at least for its
 //! definitions. The unpacker feeds [`HeadReader`] with its own sink, and relies on the contract of
-//! [`HeadReader::feed`] and on `what_an_octet_completes` of [`laws::dataset_laws`]. Writers of
-//! objects and envelopes write each dataset by [`put_dataset`], and encode sizes by
-//! [`number_bytes`]. Sources and targets are used through [`take`] and [`put`] alone.
+//! [`HeadReader::feed`] and on the lemma `what_an_octet_completes` of [`laws::dataset_laws`].
+//! Writers of objects and envelopes write each dataset by [`put_dataset`], and encode sizes by
+//! [`number_bytes`]. Sources and targets are used only through [`take`] and [`put`].
 #![tactic(auto)]
 
 mod device;

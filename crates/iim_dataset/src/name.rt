@@ -6,16 +6,16 @@ ghost use Rattle.iim_dataset.specs.Format.Datasets.{dataset_name, padding};
 use std::fmt;
 use std::fmt::{Display, Formatter};
 
-/// The name of a dataset by its record and number, shown as `1:00` or `2:105`.
+/// The name of a dataset: its record and number, printed as `1:00` or `2:105`.
 #[derive(Clone, Copy, Debug, PartialEq, Eq)]
 pub struct DatasetName {
     /// The number of the record.
     pub rec: u8,
-    /// The number of the dataset in its record.
+    /// The number of the dataset within its record.
     pub set: u8,
 }
 
-/// Returns the zero to write before a number of one digit, or nothing.
+/// Returns the zero that is written before a number of one digit, or nothing for a longer number.
 fn padding(number: u8) -> &'static str
     ensures { result.now ≡ padding number }
 {

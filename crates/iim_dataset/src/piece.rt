@@ -1,6 +1,7 @@
-//! Reads octets from a state on: complete tags, and the longest slices that belong to one dataset.
+//! Consumes octets in a given state: complete tags, and the longest slices that belong to one
+//! dataset.
 //!
-//! An error comes with a state. If no tag can continue with the rejected octet, it is the state
+//! An error comes with a state. If the rejected octet cannot be part of a tag, it is the state
 //! before that octet. If the sink stopped, it is the state between datasets.
 
 ghost use Rattle.std.specs.Prelude.{◌≡◌, ◌==◌, if◌then◌else◌, ◌<◌, ◌⊎◌, [], ◌∷◌, length, Some, None, IfSome, IfOk, IfErr, OnOk, OnErr};
@@ -15,8 +16,8 @@ use crate::sink::{DatasetSink, Step};
 use crate::stop::Stop;
 use arrayvec::ArrayVec;
 
-/// What a prefix of the octets reaches: the new state, whether more datasets may follow, and the
-/// length of the prefix.
+/// The result of consuming a prefix of the octets: the new state, whether more datasets may follow,
+/// and the length of the prefix.
 #[derive(Drop)]
 pub(crate) struct Front {
     pub(crate) place: DatasetPlace,
@@ -32,7 +33,7 @@ pub(crate) fn start() -> DatasetPlace
     DatasetPlace::Tag(ArrayVec::new())
 }
 
-/// Returns the state and the fault after a stop of the sink at octet `used`.
+/// Returns the state and the fault for a stop of the sink at octet `used`.
 fn stopped(used: usize) -> (DatasetPlace, Fault)
     ensures place { result.0 ≡ between }
     ensures is_place { IsDatasetState result.0 }
@@ -42,8 +43,8 @@ fn stopped(used: usize) -> (DatasetPlace, Fault)
     (start(), Fault { cause, used })
 }
 
-/// Passes to the sink what the last octet of a tag completes: the head, and the end of the dataset
-/// if it has no data.
+/// Passes to the sink what the last octet of a tag completes: the head and, if the dataset has no
+/// data, the end of the dataset.
 fn begin<D: DatasetSink>(head: Head, sink: &mut D) -> Result<(DatasetPlace, Step), Stop>
     requires { D.stands sink.old None }
     ensures place { IfOk result (λ next. next.0
@@ -62,8 +63,8 @@ fn begin<D: DatasetSink>(head: Head, sink: &mut D) -> Result<(DatasetPlace, Step
     Ok((start(), step))
 }
 
-/// Consumes octets of a tag of which the octets in `held` are buffered: up to the end of the tag,
-/// or all of them.
+/// Consumes octets up to the end of a tag, or all of them. `held` has the buffered octets at the
+/// start of this tag.
 fn consume_tag<D: DatasetSink>(
     held: ArrayVec<u8, PARTIAL_TAG_OCTETS>,
     rest: &[u8],
@@ -104,7 +105,8 @@ fn consume_tag<D: DatasetSink>(
     }
 }
 
-/// Consumes octets of data of which `left` remain: up to the end of the data, or all of them.
+/// Consumes octets up to the end of the data, or all of them. `left` is the number of octets of
+/// data that remain.
 fn consume_data<D: DatasetSink>(
     head: Head,
     left: u64,
@@ -146,8 +148,8 @@ fn consume_data<D: DatasetSink>(
     }
 }
 
-/// Returns the dataset that is complete at the start of the octets, if its count is a standard one:
-/// its head, its data, and its length in octets. A dataset with an extended count goes to the sink
+/// Returns the complete dataset at the start of the octets, if its count is a standard count: its
+/// head, its data, and its length in octets. A dataset with an extended count is passed to the sink
 /// as a head, data and an end instead.
 #[inline(always)]
 fn whole_dataset(rest: &[u8]) -> Option<(Head, &[u8], usize)>
@@ -171,9 +173,9 @@ fn whole_dataset(rest: &[u8]) -> Option<(Head, &[u8], usize)>
     }
 }
 
-/// Consumes complete datasets at the start of the octets, as long as the sink accepts each in one
-/// call. Returns what the sink returned last, and the number of octets consumed: up to the dataset
-/// that the sink called the last, if it did.
+/// Consumes complete datasets at the start of the octets, as long as the sink accepts each of them
+/// in one call. Returns the last result of the sink, and the number of octets consumed. If the sink
+/// calls a dataset the last one, consumes nothing after it.
 ///
 /// **Errors:** the number of octets before the one that the sink rejects.
 #[inline(always)]
@@ -198,7 +200,8 @@ fn consume_whole_datasets<D: DatasetSink>(rest: &[u8], sink: &mut D) -> Result<(
     Ok((Step::More, at))
 }
 
-/// Consumes complete datasets if no tag is partial, as long as the sink accepts each in one call.
+/// Consumes complete datasets, if no tag is in progress, as long as the sink accepts each of them
+/// in one call.
 #[inline(always)]
 fn consume_whole_datasets_between<D: DatasetSink>(
     held: &ArrayVec<u8, PARTIAL_TAG_OCTETS>,
@@ -221,8 +224,8 @@ fn consume_whole_datasets_between<D: DatasetSink>(
     consume_whole_datasets(rest, sink)
 }
 
-/// Consumes a prefix of the remaining octets: complete datasets, or else the longest prefix that
-/// lies in one tag or in the data of one dataset.
+/// Consumes a prefix of the octets: complete datasets, or otherwise the longest prefix that is
+/// within one tag or within the data of one dataset.
 fn consume_prefix<D: DatasetSink>(
     place: DatasetPlace,
     rest: &[u8],
@@ -254,8 +257,8 @@ fn consume_prefix<D: DatasetSink>(
     }
 }
 
-/// Consumes octets from a state on: all of them, or up to the end of the dataset that the sink
-/// called the last. Returns the new state and the number of octets consumed.
+/// Consumes octets in a given state: all of them, or those up to the end of the dataset that the
+/// sink calls the last one. Returns the new state and the number of octets consumed.
 pub(crate) fn consume_chunk<D: DatasetSink>(
     place: DatasetPlace,
     octets: &[u8],

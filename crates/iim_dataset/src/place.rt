@@ -1,4 +1,4 @@
-//! States of the reader of datasets, and the tag that the next octets may complete.
+//! States of the reader of datasets, and parsing a tag that is split across chunks.
 
 ghost use Rattle.std.specs.Prelude.{◌≡◌, ◌↔◌, ◌+◌, ◌≤◌, ◌++◌, ℕ, List, length, take, IsTrue, IfOk, IfErr, MatchOption};
 ghost use Rattle.arrayvec.specs.ArrayVec.{array_vec_len};
@@ -15,7 +15,7 @@ pub const PARTIAL_TAG_OCTETS: usize = TAG_OCTETS - 1;
 /// The state of a reader of datasets: where in a dataset the next octet is.
 #[derive(Debug, Drop)]
 pub enum DatasetPlace {
-    /// In a tag of which these octets were received; empty between datasets.
+    /// In a tag, of which these octets were received. Empty between datasets.
     Tag(ArrayVec<u8, PARTIAL_TAG_OCTETS>),
     /// In the data of a dataset.
     Inside {
@@ -26,7 +26,7 @@ pub enum DatasetPlace {
     },
 }
 
-/// Appends octets, for which there must be capacity.
+/// Appends octets, for which the vector must have capacity.
 pub(crate) fn lengthen<const ROOM: usize>(held: &mut ArrayVec<u8, ROOM>, octets: &[u8])
     requires { array_vec_len held.old + length octets.now ≤ ROOM }
     ensures { held.new.items ≡ held.old.items ++ octets.now }
@@ -34,7 +34,7 @@ pub(crate) fn lengthen<const ROOM: usize>(held: &mut ArrayVec<u8, ROOM>, octets:
     held.try_extend_from_slice(octets).unwrap();
 }
 
-/// Concatenates two slices, up to the greatest length of a tag.
+/// Concatenates two slices, and cuts the result at the greatest length of a tag.
 fn joined_tag(held: &[u8], next: &[u8]) -> ArrayVec<u8, TAG_OCTETS>
     requires { length held.now ≤ PARTIAL_TAG_OCTETS }
     ensures { result.items ≡ take TAG_OCTETS (held.now ++ next.now) }
@@ -46,7 +46,7 @@ fn joined_tag(held: &[u8], next: &[u8]) -> ArrayVec<u8, TAG_OCTETS>
     tag
 }
 
-/// Parses the tag that begins with the buffered octets and continues with the next ones, as
+/// Parses the tag that begins with the octets `held` and continues with the octets `next`, as
 /// [`read_head`] does.
 pub(crate) fn read_tag(held: &[u8], next: &[u8]) -> Result<Option<(Head, usize)>, HeadFault>
     requires { length held.now ≤ PARTIAL_TAG_OCTETS }
@@ -61,7 +61,7 @@ pub(crate) fn read_tag(held: &[u8], next: &[u8]) -> Result<Option<(Head, usize)>
     read_head(joined_tag(held, next).as_slice())
 }
 
-/// Checks whether the octets are a proper prefix of a tag.
+/// Checks whether the octets are a proper prefix of some tag.
 fn begins_tag(octets: &[u8]) -> bool
     ensures { IsTrue result ↔ BeginsTag count_octets octets.now }
 {
@@ -69,8 +69,7 @@ fn begins_tag(octets: &[u8]) -> bool
     matches!(read_head(octets), Ok(None))
 }
 
-/// Checks whether at least one octet of data remains and no more than the tag counts. Any tag can
-/// encode a count of 64 bits.
+/// Checks whether at least one octet of data remains, and no more than the count of the head.
 fn has_data_remaining(head: Head, left: u64) -> bool
     ensures { IsTrue result ↔ IsDatasetState (DatasetPlace.Inside head left) }
 {

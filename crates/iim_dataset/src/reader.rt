@@ -1,4 +1,4 @@
-//! The push parser of datasets, for any split of the octets into chunks.
+//! The push parser of datasets, which accepts any split of the octets into chunks.
 
 ghost use Rattle.std.specs.Prelude.{◌≡◌, ℕ, List, [], IsTrue, IsSome, IfSome, MatchOption, ◌↔◌, IfOk, IfErr, OnOk, OnErr};
 ghost use Rattle.iim_dataset.specs.Format.Datasets.{count_octets};
@@ -12,8 +12,8 @@ use crate::sink::DatasetSink;
 use std::marker::Model;
 use std::mem;
 
-/// A push parser of datasets. It stores the octets of a partial tag, at most 12, or else a head and
-/// the number of octets of data that remain. No call allocates.
+/// A push parser of datasets. It stores either the octets of a tag in progress, at most 12, or a
+/// head and the number of octets of data that remain. No call allocates.
 #[derive(Debug, Drop)]
 pub struct HeadReader {
     place: DatasetPlace,
@@ -45,7 +45,7 @@ impl HeadReader {
         }
     }
 
-    /// Checks whether a call returned an error.
+    /// Returns whether a call has returned an error.
     pub fn is_failed(&self) -> bool
         ensures { IsTrue result ↔ DatasetReaderFailed self.now }
     {
@@ -63,9 +63,9 @@ impl HeadReader {
         Some(&self.place)
     }
 
-    /// Creates a reader in the state `place`. Returns `None` if no octets reach that state: the
-    /// buffered octets must be a proper prefix of a tag, and the remaining data must be non-empty
-    /// and no more than its tag counts.
+    /// Creates a reader in the state `place`. Returns `None` if no octets reach that state: a
+    /// partial tag must be a proper prefix of some tag, and the remaining data must be non-empty
+    /// and no longer than the count of the head.
     pub fn at(place: DatasetPlace) -> Option<HeadReader>
         ensures place { IfSome result (λ reader. (reader.place ≡ place) × DatasetReaderAccepts reader) }
         ensures exactly { IsSome result ↔ ((octets : List ℕ) × (events : List DatasetEvent)
@@ -80,8 +80,8 @@ impl HeadReader {
     }
 
     /// Returns the record and the number of the dataset in progress. Each is 0 until it has been
-    /// read, and both are 0 between datasets. After a rejected tag octet they are those of the tag
-    /// before that octet. After a stop of the sink both are 0.
+    /// read, and both are 0 between datasets. After a rejected octet of a tag they are those of the
+    /// tag before that octet. After a stop of the sink both are 0.
     pub fn named(&self) -> (u8, u8)
         ensures { result ≡ current_name self.now.place }
     {
@@ -94,26 +94,27 @@ impl HeadReader {
         }
     }
 
-    /// Feeds the next octets, and passes to the sink what they complete: each head, the data in the
-    /// longest slices that the octets hold, and each end of a dataset. Returns the number of octets
-    /// consumed: all of them, or those up to the end of the dataset that the sink called the last.
-    /// A further call needs a sink that accepts heads again, and reads the next tag.
+    /// Feeds the next octets, and passes to the sink what they complete: each head, the data in
+    /// slices as long as possible, and each end of a dataset. Returns the number of octets
+    /// consumed: all of them, or those up to the end of the dataset that the sink calls the last
+    /// one. A further call reads the next tag, and needs a sink that accepts heads again.
     ///
-    /// **Errors:** the first octet with which no tag can continue, or the octet that completes what
-    /// the sink rejected. The reader has then failed ([`HeadReader::is_failed`]), and accepts no
-    /// further call.
+    /// **Errors:** the first octet that cannot be part of a tag, or the octet that completes what
+    /// the sink rejected. The reader has then failed ([`HeadReader::is_failed`]), and must not be
+    /// called again.
     pub fn feed<D: DatasetSink>(&mut self, octets: &[u8], sink: &mut D) -> Result<usize, Fault>
         requires takes_calls { DatasetReaderAccepts self.old }
         requires stands { D.stands sink.old (to_come self.old.place) }
 
         // The consumed octets reach the new state, and the sink received what they complete. The
-        // sink accepts what comes next, or has ended.
+        // sink accepts what comes next, or has called a dataset the last one.
         ensures takes_calls { OnOk result (DatasetReaderAccepts self.new) }
         ensures taken { IfOk result (λ used.
             DatasetReaderConsumes D.goes D.stands D.ends (self.old.place, sink.old) octets.now
             (self.new.place, sink.new) used) }
 
-        // No tag can continue with the rejected octet, or the sink stopped at what it completes.
+        // The rejected octet cannot be part of a tag, or the sink stopped at what that octet
+        // completes.
         ensures failed { OnErr result (DatasetReaderFailed self.new) }
         ensures refused { IfErr result (λ fault.
             DatasetReaderRejects D.goes D.stops D.stands (self.old.place, sink.old) octets.now fault

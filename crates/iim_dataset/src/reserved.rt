@@ -7,11 +7,11 @@ use std::marker::Model;
 use std::mem::replace;
 
 /// A buffer of octets that is allocated once and never grows. After [`ReservedOctets::clear`] new
-/// octets overwrite the earlier ones, and are copied in one step. Contracts see it as the octets
-/// and the capacity.
+/// octets overwrite the earlier ones, and are copied in one step. Its model in contracts is its
+/// octets and its capacity.
 #[derive(Drop)]
 pub struct ReservedOctets {
-    /// The octets, and after them what remains of earlier ones.
+    /// The octets in use, followed by unused elements.
     places: Vec<u8>,
     /// The number of octets in use.
     used: usize,
@@ -28,11 +28,12 @@ impl Model for ReservedOctets {
     ghost invariant = { λ b. b.used ≤ vec_len b.places };
 }
 
-/// How many elements of the vector are initialised at once, if there is capacity for them.
+/// The number of elements of the vector that are initialised at once, if there is capacity for
+/// them.
 const STEP: usize = 512;
 
-/// Appends `more` zeros to the vector. The vector is owned here, so that the compiler can write all
-/// of them at once.
+/// Appends `more` zeros to the vector. The function owns the vector, so that the compiler can write
+/// all the zeros at once.
 #[inline(always)]
 fn with_more(places: Vec<u8>, more: usize) -> Vec<u8>
     requires { vec_len places + more ≤ vec_capacity places }
@@ -47,8 +48,8 @@ fn with_more(places: Vec<u8>, more: usize) -> Vec<u8>
     places
 }
 
-/// Appends at least `least` zeros to the vector, and up to [`STEP`] of them, so that later octets
-/// find most elements initialised.
+/// Appends at least `least` zeros to the vector, and up to [`STEP`] zeros, so that most elements
+/// are already initialised for later octets.
 fn open(places: &mut Vec<u8>, least: usize)
     requires { vec_len places.old + least ≤ vec_capacity places.old }
     ensures front { take (vec_len places.old) places.new.items ≡ places.old.items }
@@ -62,7 +63,7 @@ fn open(places: &mut Vec<u8>, least: usize)
     *places = with_more(owned, more);
 }
 
-/// Overwrites earlier octets from position `from` on.
+/// Overwrites initialised elements from position `from` on.
 fn overwrite(places: &mut Vec<u8>, from: usize, octets: &[u8])
     requires { from + length octets.now ≤ vec_len places.old }
     ensures items { take (from + length octets.now) places.new.items ≡ take from places.old.items ++ octets.now }
@@ -72,7 +73,8 @@ fn overwrite(places: &mut Vec<u8>, from: usize, octets: &[u8])
     places[from..from + octets.len()].copy_from_slice(octets);
 }
 
-/// Writes octets from position `from` on: over the earlier ones, and then after them.
+/// Writes octets from position `from` on: overwrites the initialised elements, and appends the
+/// rest.
 #[inline(always)]
 fn write(places: &mut Vec<u8>, from: usize, octets: &[u8])
     requires within { from ≤ vec_len places.old }
@@ -88,7 +90,7 @@ fn write(places: &mut Vec<u8>, from: usize, octets: &[u8])
     lengthen(places, from, octets);
 }
 
-/// Writes octets from position `from` on, if they end after all earlier ones.
+/// Writes octets from position `from` on, if they end after the last initialised element.
 #[inline(never)]
 fn lengthen(places: &mut Vec<u8>, from: usize, octets: &[u8])
     requires within { from ≤ vec_len places.old }
@@ -138,7 +140,7 @@ impl ReservedOctets {
         &self.places[..self.used]
     }
 
-    /// Removes the octets. The capacity remains.
+    /// Removes the octets. The capacity is unchanged.
     pub fn clear(&mut self)
         ensures items { self.new.items ≡ [] }
         ensures room { self.new.room ≡ self.old.room }
@@ -146,7 +148,7 @@ impl ReservedOctets {
         self.used = 0;
     }
 
-    /// Appends octets, for which there must be capacity.
+    /// Appends octets, for which the buffer must have capacity.
     #[inline(always)]
     pub fn take(&mut self, octets: &[u8])
         requires { length self.old.items + length octets.now ≤ self.old.room }

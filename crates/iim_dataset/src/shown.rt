@@ -1,4 +1,4 @@
-//! Octets as printable text.
+//! Formats octets as printable text.
 
 ghost use Rattle.std.specs.Prelude.{◌≡◌, ◌++◌, ◌<◌, ◌≤◌, length, slice_index, take, true, false, OnOk};
 ghost use Rattle.std.specs.List.{list_all};
@@ -35,14 +35,14 @@ pub fn push_escape(text: &mut Vec<u8>, octet: u8) -> Result<(), AllocError>
     text.extend_from_slice(&escaped(octet))
 }
 
-/// Checks whether an octet is shown as itself: from 20 to 7E hexadecimal, except the backslash.
+/// Checks whether an octet is printed as itself: from 20 to 7E hexadecimal, except the backslash.
 pub fn is_plain(octet: u8) -> bool
     ensures { result ≡ is_plain octet }
 {
     octet >= b' ' && octet <= b'~' && octet != b'\\'
 }
 
-/// Checks whether the first 16 octets are all shown as themselves.
+/// Checks whether the first 16 octets are all printed as themselves.
 #[inline(always)]
 fn are_plain_16(octets: &[u8]) -> bool
     requires { 16 ≤ length octets.now }
@@ -54,8 +54,8 @@ fn are_plain_16(octets: &[u8]) -> bool
         & x.simd_ne(u8x16::splat(b'\\'))).all()
 }
 
-/// Counts octets that are shown as themselves, sixteen at a time, up to the first sixteen of which
-/// one is not.
+/// Counts octets that are printed as themselves in blocks of sixteen, up to the first block with an
+/// octet that is escaped.
 fn plain_blocks_len(octets: &[u8]) -> usize
     ensures within { result ≤ length octets.now }
     ensures plain { list_all is_plain (take result octets.now) ≡ true }
@@ -67,7 +67,7 @@ fn plain_blocks_len(octets: &[u8]) -> usize
     at
 }
 
-/// Counts the octets before the first one that is not shown as itself.
+/// Counts the octets before the first one that is escaped.
 fn plain_prefix_len(octets: &[u8]) -> usize
     ensures within { result ≤ length octets.now }
     ensures plain { list_all is_plain (take result octets.now) ≡ true }
@@ -80,8 +80,8 @@ fn plain_prefix_len(octets: &[u8]) -> usize
     at
 }
 
-/// Appends octets as they are shown: those from 20 to 7E hexadecimal except the backslash as they
-/// are, all others as `\x` and two digits.
+/// Appends octets as printable text: those from 20 to 7E hexadecimal, except the backslash, as they
+/// are, and all others as `\x` and two hexadecimal digits.
 ///
 /// **Errors:** the allocation fails.
 pub fn push_with_escapes(text: &mut Vec<u8>, octets: &[u8]) -> Result<(), AllocError>

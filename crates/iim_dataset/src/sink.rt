@@ -1,4 +1,4 @@
-//! The sink that datasets go to.
+//! The sink that a reader passes datasets to.
 
 ghost use Rattle.std.specs.Prelude.{◌≡◌, ◌-◌, ◌<◌, ◌≤◌, ◌++◌, [], ◌∷◌, List, ℕ, length, map, take, slice_index, Option, Some, None, MatchOption, IfSome, IfOk, IfErr, OnOk, OnErr};
 ghost use Rattle.iim_dataset.specs.States.Reading.{DatasetEvent, HeadRead, DataOctet, DatasetEnd, SinkIsAfterStep};
@@ -11,12 +11,12 @@ use crate::stop::Stop;
 pub enum Step {
     /// The sink accepts the next head.
     More,
-    /// The dataset was the last one.
+    /// This dataset was the last one.
     Last,
 }
 
-/// A receiver of datasets: of each its head, its data in any split, and its end. A sink may reject
-/// any of them.
+/// A receiver of datasets. For each dataset it receives the head, the data in slices of any length,
+/// and the end, and it may reject any of them.
 pub trait DatasetSink {
     /// Relates the values of a sink before and after it received these events, in this order.
     ghost goes: { Self → List DatasetEvent → Self → Type 0 };
@@ -25,14 +25,14 @@ pub trait DatasetSink {
     /// one.
     ghost stops: { Self → List DatasetEvent → DatasetEvent → Self → Type 0 };
 
-    /// The sink accepts calls, and this number of octets of the dataset in progress remains; `None`
-    /// between datasets.
+    /// The sink accepts calls. The number is that of the octets that remain of the dataset in
+    /// progress; it is `None` between datasets.
     ghost stands: { Self → Option ℕ → Type 0 };
 
     /// The sink has called a dataset the last one.
     ghost ends: { Self → Type 0 };
 
-    /// Receives the head of a dataset, or rejects it: the `taken` of its stop is 0.
+    /// Receives the head of a dataset, or rejects it with a stop whose `taken` is 0.
     fn head(&mut self, head: Head) -> Result<(), Stop>
         requires { stands self.old None }
         ensures ok { OnOk result (goes self.old (HeadRead head ∷ []) self.new) }
@@ -40,14 +40,14 @@ pub trait DatasetSink {
         ensures refused { IfErr result (λ stop. stop.taken ≡ 0) }
         ensures stopped { OnErr result (stops self.old [] (HeadRead head) self.new) };
 
-    /// Returns whether the sink may accept the next dataset in one call: a hint.
+    /// Hints whether the sink is likely to accept the next dataset in one call.
     fn prefers_whole_datasets(&self) -> bool {
         false
     }
 
     /// Receives a complete dataset: its head, its data and its end. The sink accepts all of it, or
-    /// the head and the octets before the one that it rejects. It may always return `None`, and
-    /// then has received nothing.
+    /// rejects an octet and has then received the head and the octets before that one. It may
+    /// always return `None`, which means that it received nothing.
     fn whole(&mut self, head: Head, octets: &[u8]) -> Result<Option<Step>, Stop>
         requires stands { stands self.old None }
         requires count { head.count ≡ length octets.now }
@@ -64,7 +64,8 @@ pub trait DatasetSink {
         Ok(None)
     }
 
-    /// Receives octets of the data, or only those before the one that it rejects.
+    /// Receives octets of the data. If the sink rejects an octet, it has received the octets before
+    /// it.
     fn run(&mut self, run: &[u8]) -> Result<(), Stop>
         requires { (left : ℕ) × stands self.old (Some left) × (length run.now ≤ left) }
         ensures ok { OnOk result (goes self.old (map DataOctet run.now) self.new) }
@@ -75,8 +76,8 @@ pub trait DatasetSink {
             stops self.old (map DataOctet (take stop.taken run.now)) (DataOctet (slice_index run.now stop.taken))
             self.new) };
 
-    /// Receives the end of a dataset, all of whose octets were received, or rejects it: the `taken`
-    /// of its stop is 0.
+    /// Receives the end of a dataset, after all of its octets, or rejects it with a stop whose
+    /// `taken` is 0.
     fn close(&mut self) -> Result<Step, Stop>
         requires { stands self.old (Some 0) }
         ensures ok { OnOk result (goes self.old (DatasetEnd ∷ []) self.new) }
@@ -84,17 +85,19 @@ pub trait DatasetSink {
         ensures refused { IfErr result (λ stop. stop.taken ≡ 0) }
         ensures stopped { OnErr result (stops self.old [] DatasetEnd self.new) };
 
-    /// The empty list of events relates each value to itself, so an empty slice may change nothing.
+    /// Receiving no event relates each value to itself, so a call with an empty slice may change
+    /// nothing.
     ghost nothing: { (sink : Self) → goes sink [] sink };
 
-    /// Events after other events are the same as all of them joined.
+    /// Receiving some events and then others relates the same values as receiving all of them
+    /// joined.
     ghost joined: { (a b c : Self) (xs ys : List DatasetEvent) → goes a xs b → goes b ys c → goes a (xs ++ ys) c };
 
-    /// A sink that has called a dataset the last one accepts nothing: no head, no data and no end.
+    /// A sink that has called a dataset the last one accepts no head, no data and no end.
     ghost ended: { (sink : Self) (left : Option ℕ) → ends sink → stands sink left → ⊥ };
 
-    /// A rejection after events, in a later call, is the same as one after all of the events
-    /// joined.
+    /// Receiving some events, and then others up to a rejection, relates the same values as
+    /// receiving all of them joined up to that rejection.
     ghost joined_stop: { (a b c : Self) (xs ys : List DatasetEvent) (refused : DatasetEvent) → goes a xs b
         → stops b ys refused c → stops a (xs ++ ys) refused c };
 }

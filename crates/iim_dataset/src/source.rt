@@ -1,4 +1,4 @@
-//! The source that octets come from.
+//! Sources of octets.
 
 ghost use Rattle.std.specs.Prelude.{◌≡◌, ◌<◌, IfOk, IfErr, OnOk};
 ghost use Rattle.iim_dataset.specs.States.Devices.{Device, ReadGave, CountedNoFault, CountedFault, ReadTook, ReadFailed, WithinInterruptionLimit, IsAfterReads, unbroken, reader_device};
@@ -6,19 +6,19 @@ ghost use Rattle.iim_dataset.specs.States.Devices.{Device, ReadGave, CountedNoFa
 use crate::device::{Faults, IoFault, MAX_INTERRUPTIONS};
 use std::io::Read;
 
-/// The number of octets to ask for at once when an input is read by blocks.
+/// The number of octets that one read asks for when an input is read in blocks.
 pub const BLOCK: usize = 4096;
 
-/// A source of octets. Contracts see it as a `Device`: the octets that it will still give, if they
-/// are known, and its faults so far.
+/// A source of octets. Its model in contracts is a `Device`: the octets that it will still return,
+/// if they are known, and the counters of its faults.
 pub trait Source {
     ghost state: { Self → Device };
 
-    /// Relates a source to the values that reads can change it to.
+    /// Relates a source to each value that it can have after some reads.
     ghost leads: { Self → Self → Type 0 };
 
-    /// Reads octets into the start of the buffer, and returns their number. The number is 0 only at
-    /// the end of the source, or if the buffer is empty.
+    /// Reads octets into the start of the buffer, and returns the number of octets read. The number
+    /// is 0 only at the end of the source, or if the buffer is empty.
     ///
     /// **Errors:** the source failed or was interrupted; no octet was read.
     fn read(&mut self, buffer: &mut [u8]) -> Result<usize, IoFault>
@@ -27,17 +27,17 @@ pub trait Source {
         ensures err { IfErr result (CountedFault (state self.old) (state self.new)) }
         ensures leads { leads self.old self.new };
 
-    /// A source reaches itself, without a read.
+    /// A source can have its own value after no read.
     ghost stays: { (a : Self) → leads a a };
 
-    /// What reads reach by way of another value, they reach.
+    /// Reads can follow other reads: `leads` is transitive.
     ghost leads_on: { (a b c : Self) → leads a b → leads b c → leads a c };
 }
 
-/// Reads once, and retries after an interruption. Returns the number of octets at the start of the
-/// buffer. The number is 0 only at the end of the source, or if the buffer is empty.
+/// Reads once, and retries after an interruption. Returns the number of octets read into the start
+/// of the buffer. The number is 0 only at the end of the source, or if the buffer is empty.
 ///
-/// **Errors:** the source failed, or was interrupted a million times in a row; no octet was read.
+/// **Errors:** the source failed, or was interrupted a million times in a row. No octet was read.
 pub fn take<R: Source>(reader: &mut R, buffer: &mut [u8]) -> Result<usize, IoFault>
     ensures ok { IfOk result (ReadTook (R.state reader.old) (R.state reader.new) buffer.new) }
     ensures err { IfErr result (ReadFailed (R.state reader.old) (R.state reader.new)) }
@@ -53,7 +53,7 @@ pub fn take<R: Source>(reader: &mut R, buffer: &mut [u8]) -> Result<usize, IoFau
     Err(IoFault::Interrupted)
 }
 
-/// A `std` reader as a source. Its counters of faults saturate at `u64::MAX`.
+/// Adapts a `std` reader to [`Source`]. Its counters of faults saturate at `u64::MAX`.
 #[derive(Drop)]
 pub struct FromRead<R> {
     reader: R,
@@ -61,7 +61,7 @@ pub struct FromRead<R> {
 }
 
 impl<R: Read> FromRead<R> {
-    /// Wraps a reader as a source without faults so far.
+    /// Wraps a reader as a source whose counters of faults are zero.
     pub fn new(reader: R) -> FromRead<R>
         ensures { reader_device R.remaining result ≡ unbroken (R.remaining reader) }
     {

@@ -1,4 +1,4 @@
-//! The stop of a sink.
+//! The error by which a sink rejects an octet.
 
 ghost use Rattle.std.specs.Prelude.{Some};
 ghost use Rattle.iim_dataset.specs.Format.Faults.{text_of_stop};
@@ -7,10 +7,10 @@ use std::error::Error;
 use std::fmt;
 use std::fmt::{Display, Formatter};
 
-/// A sink rejected an octet of the slice that it was given.
+/// The error of a sink that rejected an octet of the slice that it received.
 #[derive(Clone, Copy, Debug, PartialEq, Eq)]
 pub struct Stop {
-    /// The number of octets of the slice that the sink accepted before that one.
+    /// The number of octets of the slice before the rejected one.
     pub taken: usize,
 }
 

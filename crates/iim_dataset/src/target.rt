@@ -1,4 +1,4 @@
-//! The target that octets go to.
+//! Targets of octets.
 
 ghost use Rattle.std.specs.Prelude.{◌≡◌, ◌+◌, ◌<◌, ◌≤◌, length, take, IfOk, IfErr, OnOk, OnErr};
 ghost use Rattle.iim_dataset.specs.Format.Datasets.{canonical_dataset};
@@ -9,21 +9,21 @@ use crate::device_laws::writes_join;
 use crate::head::{Head, head_bytes};
 use std::io::Write;
 
-/// A target of octets. Contracts see it as a `Device`: the octets that it accepted, if they are
-/// known, and its faults so far.
+/// A target of octets. Its model in contracts is a `Device`: the octets that it accepted, if they
+/// are known, and the counters of its faults.
 pub trait Target {
     ghost state: { Self → Device };
 
-    /// Writes octets from the start of the chunk, and returns their number. A number of 0 for a
-    /// non-empty chunk is a failure.
+    /// Writes octets from the start of the chunk, and returns the number of octets written. The
+    /// number 0 for a non-empty chunk is a failure.
     ///
-    /// **Errors:** the target failed or was interrupted; no octet was written.
+    /// **Errors:** the target failed or was interrupted. No octet was written.
     fn write(&mut self, piece: &[u8]) -> Result<usize, IoFault>
         ensures ok { IfOk result (WriteAccepted (state self.old) (state self.new) piece.now) }
         ensures err { IfErr result (CountedFault (state self.old) (state self.new)) };
 }
 
-/// Writes once, and retries after an interruption. The millionth interruption in a row is an error.
+/// Writes once, and retries after an interruption. A million interruptions in a row are an error.
 fn send<W: Target>(writer: &mut W, piece: &[u8]) -> Result<usize, IoFault>
     requires { 0 < length piece.now }
     ensures within { IfOk result (λ n. n ≤ length piece.now) }
@@ -43,13 +43,13 @@ fn send<W: Target>(writer: &mut W, piece: &[u8]) -> Result<usize, IoFault>
 
 /// Writes all of the chunk.
 ///
-/// **Errors:** the target failed, a write accepted nothing, or it was interrupted a million times
-/// in a row. The error is the number of octets that were written.
+/// **Errors:** the target failed, a write accepted no octet, or the target was interrupted a
+/// million times in a row. The error is the number of octets that were written.
 pub fn put<W: Target>(writer: &mut W, piece: &[u8]) -> Result<(), usize>
     ensures ok { OnOk result (WroteAllOf (W.state writer.old) (W.state writer.new) piece.now) }
     ensures err { IfErr result (WroteOnlyPrefixOf (W.state writer.old) (W.state writer.new) piece.now) }
     ensures retry_limit { WithinInterruptionLimit (length piece.now) (W.state writer.old) (W.state writer.new) }
-    // One million more than those before the octets that were written.
+    // After a million interruptions the counter is one million higher than before.
     ensures given_up { IfErr result (λ out.
         WithinInterruptionLimit (out + 1) (W.state writer.old) (W.state writer.new)) }
 {
@@ -66,7 +66,7 @@ pub fn put<W: Target>(writer: &mut W, piece: &[u8]) -> Result<(), usize>
 /// Writes a dataset in its canonical encoding: its tag, and then its octets. Returns the number of
 /// octets written.
 ///
-/// **Errors:** as those of [`put`], with the number of octets that were written.
+/// **Errors:** those of [`put`], with the number of octets that were written.
 pub fn put_dataset<W: Target>(writer: &mut W, rec: u8, set: u8, octets: &[u8]) -> Result<u64, u64>
     ensures ok { OnOk result (WroteAllOf (W.state writer.old) (W.state writer.new)
         (canonical_dataset record { rec = rec; set = set; octets = octets.now })) }
@@ -94,7 +94,7 @@ pub fn put_dataset<W: Target>(writer: &mut W, rec: u8, set: u8, octets: &[u8]) -
     }
 }
 
-/// A `std` writer as a target. Its counters of faults saturate at `u64::MAX`.
+/// Adapts a `std` writer to [`Target`]. Its counters of faults saturate at `u64::MAX`.
 #[derive(Drop)]
 pub struct FromWrite<W> {
     writer: W,
@@ -102,7 +102,7 @@ pub struct FromWrite<W> {
 }
 
 impl<W: Write> FromWrite<W> {
-    /// Wraps a writer as a target without faults so far.
+    /// Wraps a writer as a target whose counters of faults are zero.
     pub fn new(writer: W) -> FromWrite<W>
         ensures { writer_device W.contents result ≡ unbroken (W.contents writer) }
     {
@@ -112,7 +112,7 @@ impl<W: Write> FromWrite<W> {
         }
     }
 
-    /// Returns the writer, with what was written to it.
+    /// Returns the wrapped writer, with everything that was written to it.
     pub fn into_inner(self) -> W
         ensures { W.contents result ≡ (writer_device W.contents self).octets }
     {

@@ -1,11 +1,11 @@
-//! The interface for C: a static library, whose header is `bindings/c/iim.h`.
+//! The C interface: a static library, whose header is `bindings/c/iim.h`.
 //!
 //! Each export calls the function of `iim_c` with the same name, and has the same contract. The
-//! toolchain exports only the functions of a static library, and no crate can depend on one. So
-//! the implementation is in `iim_c`, an ordinary library.
+//! toolchain exports only the functions of a static library, and no crate can depend on a static
+//! library. So the implementation is in `iim_c`, an ordinary library.
 #![tactic(auto)]
 
-ghost use Rattle.std.specs.Prelude.{◌≡◌, ◌↔◌, ℕ, List, IsTrue, is_some, None};
+ghost use Rattle.std.specs.Prelude.{◌≡◌, ◌↔◌, ◌+◌, ◌++◌, ◌∷◌, [], ℕ, List, IsTrue, is_some, None, pos};
 ghost use Rattle.iim_places.specs.Format.Tickets.{ReachesPlace, Place};
 ghost use Rattle.iim_places.specs.States.Restored.{EncodesPlace};
 ghost use Rattle.iim_tables.specs.Format.Rows.{OctetsMeetRow, row_of};
@@ -14,8 +14,13 @@ ghost use Rattle.iim_c.specs.Format.Tickets.{ReturnsProgress, HasProgressOf, Has
 ghost use Rattle.iim_c.specs.Format.Checking.{ReturnsChecked, IsOnlyAnswer, limits_for};
 ghost use Rattle.iim_c.specs.Format.Feeding.{ReturnsEnd, ReturnsFed};
 ghost use Rattle.iim_c.specs.Format.Tables.{WritesName, dataset_name_of, name_of_layer, name_or_none, rule_for, name_for_cause, cause_text};
+ghost use Rattle.iim_c.specs.Format.Answers.{HasTaken};
+ghost use Rattle.iim_c.specs.Format.ErrorTexts.{HasNumbersOf, IsLineOfCommand, error_text};
+ghost use Rattle.iim_c.specs.Format.Statuses as status;
+ghost use Rattle.iim_places.specs.declared.refusal.Refusal.{Refusal};
 ghost use Rattle.iim_c.specs.Format.Packing.{ReturnsPacked, ReturnsPackedSize};
 ghost use Rattle.iim_handle.specs.Format.{HandleHasEnd, HandleIsFed, HandleIsOpened, HandleIsReset, HandleIsRestored, HandleIsSaved};
+ghost use Rattle.iim_handle.specs.States.Reading.{HandleHasCount, HandleHasField, HandleHasFields, HandleHasHeader, HandleHasSizes};
 
 use iim_c::{
     IimAnswer, IimAuditRow, IimBegun, IimDataset, IimInstant, IimLimits, IimMessage, IimObject,
@@ -33,12 +38,12 @@ pub extern "C" fn iim_check(alloc: Global, limits: IimLimits, octets: &[u8], ans
     iim_c::iim_check(alloc, limits, octets, answer);
 }
 
-/// Reads the next chunk of an envelope, from the state of a ticket on, or of a new envelope if the
-/// ticket is empty.
+/// Reads the next chunk of an envelope, starting in the state of a ticket, or at the beginning of
+/// an envelope if the ticket is empty.
 ///
-/// Writes the text of the story in the chunk and the next ticket, and returns how many octets were
+/// Writes the text of the story in the chunk and the next ticket, and returns the number of octets
 /// consumed. The ticket of a complete envelope still has its fields. If a buffer is too short, the
-/// answer has the lengths that are needed, and the same call can be repeated.
+/// answer has the lengths that are needed, and the same call can be repeated with longer buffers.
 #[unsafe(no_mangle)]
 pub extern "C" fn iim_feed(
     alloc: Global,
@@ -57,8 +62,8 @@ pub extern "C" fn iim_feed(
     );
 }
 
-/// Checks whether the input may end in the state of a ticket: the envelope is complete, or it is
-/// truncated.
+/// Checks whether an input may end in the state of a ticket. The answer is that the envelope is
+/// complete, or that it is truncated.
 #[unsafe(no_mangle)]
 pub extern "C" fn iim_end(
     alloc: Global,
@@ -72,7 +77,7 @@ pub extern "C" fn iim_end(
     iim_c::iim_end(alloc, limits, ticket, at, answer);
 }
 
-/// Returns the dataset with the index `n` of those of records 1 and 2 in a ticket.
+/// Looks up the dataset with the index `n` among those of records 1 and 2 in a ticket.
 #[unsafe(no_mangle)]
 pub extern "C" fn iim_field(
     ticket: &[u8],
@@ -85,8 +90,8 @@ pub extern "C" fn iim_field(
     iim_c::iim_field(ticket, n, dataset, answer);
 }
 
-/// Writes the complete datasets of records 1 and 2 into an array, from the index `from` on. Reads
-/// the ticket once.
+/// Copies the complete datasets of records 1 and 2 with the index `from` and above into an array.
+/// Reads the ticket once.
 #[unsafe(no_mangle)]
 pub extern "C" fn iim_fields(
     ticket: &[u8],
@@ -99,7 +104,7 @@ pub extern "C" fn iim_fields(
     iim_c::iim_fields(ticket, from, datasets, answer);
 }
 
-/// Returns the header and the trailer of the message, as far as they were received.
+/// Looks up the header and the trailer of the message, as far as they were received.
 #[unsafe(no_mangle)]
 pub extern "C" fn iim_header(ticket: &[u8], message: &mut IimMessage, answer: &mut IimAnswer)
     ensures { ReturnsHeader ticket.now message.new answer.new }
@@ -107,7 +112,7 @@ pub extern "C" fn iim_header(ticket: &[u8], message: &mut IimMessage, answer: &m
     iim_c::iim_header(ticket, message, answer);
 }
 
-/// Returns the sizes of the object, as far as they were received.
+/// Looks up the sizes of the object, as far as they were received.
 #[unsafe(no_mangle)]
 pub extern "C" fn iim_sizes(ticket: &[u8], object: &mut IimObject, answer: &mut IimAnswer)
     ensures { ReturnsSizes ticket.now object.new answer.new }
@@ -115,8 +120,8 @@ pub extern "C" fn iim_sizes(ticket: &[u8], object: &mut IimObject, answer: &mut 
     iim_c::iim_sizes(ticket, object, answer);
 }
 
-/// Returns the octets that every layer accepts next in the state of a ticket, or at the beginning
-/// of a new envelope if the ticket is empty.
+/// Finds the octets that every layer accepts next in the state of a ticket, or at the beginning of
+/// an envelope if the ticket is empty.
 #[unsafe(no_mangle)]
 pub extern "C" fn iim_next(
     alloc: Global,
@@ -130,8 +135,8 @@ pub extern "C" fn iim_next(
     iim_c::iim_next(alloc, limits, ticket, next, answer);
 }
 
-/// Returns what is in progress in the state of a ticket, and the part of the message that the
-/// input has reached. `at` is the number of octets of the envelope so far.
+/// Decodes what is in progress in the state of a ticket, and the part of the message that the input
+/// has reached. `at` is the number of octets of the envelope that were consumed.
 #[unsafe(no_mangle)]
 pub extern "C" fn iim_place(ticket: &[u8], at: u64, begun: &mut IimBegun, answer: &mut IimAnswer)
     ensures told { ReturnsProgress ticket.now at begun.new answer.new }
@@ -143,13 +148,13 @@ pub extern "C" fn iim_place(ticket: &[u8], at: u64, begun: &mut IimBegun, answer
     iim_c::iim_place(ticket, at, begun, answer);
 }
 
-/// Writes a row for each envelope that ends in a chunk of an input, at the instant `now`. The
-/// audit continues from the state of `ticket`, or begins a new envelope if that is empty.
+/// Writes a row for each envelope that ends in a chunk of an input, at the instant `now`. The audit
+/// starts in the state of `ticket`, or at the beginning of an envelope if `ticket` is empty.
 ///
-/// Writes the next ticket, and the state beside it in `so_far`. Stops when `rows` is full, and
-/// returns how many octets were consumed. If an octet is rejected, the rows of the envelopes
-/// before it are written. If `ticket_out` is too short, `so_far` is unchanged, and the same call
-/// can be repeated.
+/// Also writes the next ticket, and the values of `so_far` that belong to it. Stops when `rows` is
+/// full, and returns the number of octets consumed. If an octet is rejected, the rows of the
+/// earlier envelopes are still written. If `ticket_out` is too short, `so_far` is unchanged, and
+/// the same call can be repeated with a longer buffer.
 #[unsafe(no_mangle)]
 pub extern "C" fn iim_audit(
     alloc: Global,
@@ -184,7 +189,7 @@ pub extern "C" fn iim_pack(
     iim_c::iim_pack(alloc, packing, script, out, answer);
 }
 
-/// Returns the number of octets that [`iim_pack`] would write.
+/// Computes the number of octets that [`iim_pack`] would write.
 #[unsafe(no_mangle)]
 pub extern "C" fn iim_pack_size(
     alloc: Global,
@@ -197,7 +202,7 @@ pub extern "C" fn iim_pack_size(
     iim_c::iim_pack_size(alloc, packing, script, answer);
 }
 
-/// Looks up the row of the dataset `rec`:`set`. Returns whether it has one.
+/// Looks up the row of the dataset `rec`:`set`. Returns whether the tables have such a row.
 #[unsafe(no_mangle)]
 pub extern "C" fn iim_row(rec: u8, set: u8, rule: &mut IimRule) -> bool
     ensures has { result ≡ is_some (row_of rec set) }
@@ -206,8 +211,8 @@ pub extern "C" fn iim_row(rec: u8, set: u8, rule: &mut IimRule) -> bool
     iim_c::iim_row(rec, set, rule)
 }
 
-/// Checks whether octets are a valid value of the dataset `rec`:`set`: it has a row, and the
-/// octets are as that requires.
+/// Checks whether octets are a valid value of the dataset `rec`:`set`: the tables have a row for
+/// it, and the octets meet the requirements of that row.
 #[unsafe(no_mangle)]
 pub extern "C" fn iim_admits(rec: u8, set: u8, octets: &[u8]) -> bool
     ensures { IsTrue result ↔ OctetsMeetRow rec set octets.now }
@@ -215,8 +220,8 @@ pub extern "C" fn iim_admits(rec: u8, set: u8, octets: &[u8]) -> bool
     iim_c::iim_admits(rec, set, octets)
 }
 
-/// Writes the name of a cause and a NUL into `out`, if they fit. Returns the number of octets of
-/// the name, or 0 if the cause is unknown.
+/// Writes the name of a cause and a NUL into `out`, if they fit. Returns the length of the name in
+/// octets, without the NUL, or 0 if no cause has this number.
 #[unsafe(no_mangle)]
 pub extern "C" fn iim_cause_name(cause: u8, out: &mut [u8]) -> usize
     ensures { WritesName (name_or_none (name_for_cause cause)) out.old out.new result }
@@ -224,8 +229,8 @@ pub extern "C" fn iim_cause_name(cause: u8, out: &mut [u8]) -> usize
     iim_c::iim_cause_name(cause, out)
 }
 
-/// Writes the meaning of a cause and a NUL into `out`, if they fit. Returns the number of octets
-/// of the sentence, or 0 if the cause is unknown.
+/// Writes the meaning of a cause and a NUL into `out`, if they fit. Returns the length of the
+/// sentence in octets, without the NUL, or 0 if no cause has this number.
 #[unsafe(no_mangle)]
 pub extern "C" fn iim_cause_text(cause: u8, out: &mut [u8]) -> usize
     ensures { WritesName (name_or_none (cause_text cause)) out.old out.new result }
@@ -233,8 +238,8 @@ pub extern "C" fn iim_cause_text(cause: u8, out: &mut [u8]) -> usize
     iim_c::iim_cause_text(cause, out)
 }
 
-/// Writes the name of a layer and a NUL into `out`, if they fit. Returns the number of octets of
-/// the name, or 0 if the layer is unknown.
+/// Writes the name of a layer and a NUL into `out`, if they fit. Returns the length of the name in
+/// octets, without the NUL, or 0 if no layer has this number.
 #[unsafe(no_mangle)]
 pub extern "C" fn iim_layer_name(layer: u8, out: &mut [u8]) -> usize
     ensures { WritesName (name_or_none (name_of_layer layer)) out.old out.new result }
@@ -242,8 +247,20 @@ pub extern "C" fn iim_layer_name(layer: u8, out: &mut [u8]) -> usize
     iim_c::iim_layer_name(layer, out)
 }
 
-/// Writes the name of a dataset of the tables and a NUL into `out`, if they fit. Returns the
-/// number of octets of the name, or 0 if the dataset is unknown.
+/// Writes the line that the command `check` prints for a refusal, and a NUL, into `out`, if they fit.
+/// Returns the length of the line in octets, without the NUL, or 0 if the answer reports neither a
+/// refusal nor a truncation.
+#[unsafe(no_mangle)]
+pub extern "C" fn iim_error_text(number: u64, answer: &IimAnswer, out: &mut [u8]) -> usize
+    ensures text { HasTaken out.new (result + 1) (error_text number answer.now ++ 0 ∷ []) }
+    ensures line { (e : Refusal) → answer.now.status ≡ status.refused → HasNumbersOf answer.now e
+        → IsLineOfCommand number e (error_text number answer.now) }
+{
+    iim_c::iim_error_text(number, answer, out)
+}
+
+/// Writes the name of a dataset and a NUL into `out`, if they fit. Returns the length of the name
+/// in octets, without the NUL, or 0 if the dataset is not in the tables.
 #[unsafe(no_mangle)]
 pub extern "C" fn iim_dataset_name(rec: u8, set: u8, out: &mut [u8]) -> usize
     ensures { WritesName (name_or_none (dataset_name_of rec set)) out.old out.new result }
@@ -271,7 +288,7 @@ pub extern "C" fn iim_unpacker_open(
     iim_handle::iim_unpacker_open(alloc, limits, handle)
 }
 
-/// Begins a new envelope, whatever was fed before, with the same limits and memory.
+/// Resets a handle to the beginning of a new envelope, with the same limits and memory.
 #[unsafe(no_mangle)]
 pub extern "C" fn iim_unpacker_reset(alloc: Global, handle: &mut IimUnpacker) -> u8
     ensures { HandleIsReset handle.old.owner.home handle.new.owner.home result }
@@ -279,8 +296,7 @@ pub extern "C" fn iim_unpacker_reset(alloc: Global, handle: &mut IimUnpacker) ->
     iim_handle::iim_unpacker_reset(alloc, handle)
 }
 
-/// Feeds the next octets of the envelope, up to its end, and writes the text of the story that they
-/// contain.
+/// Feeds the next octets of the envelope, up to its end, and writes the text of the story in them.
 #[unsafe(no_mangle)]
 pub extern "C" fn iim_unpacker_feed(
     alloc: Global,
@@ -294,7 +310,7 @@ pub extern "C" fn iim_unpacker_feed(
     iim_handle::iim_unpacker_feed(alloc, handle, piece, text_out, answer);
 }
 
-/// Returns what it means that the input ends here.
+/// Checks whether the input may end here.
 #[unsafe(no_mangle)]
 pub extern "C" fn iim_unpacker_end(alloc: Global, handle: &mut IimUnpacker, answer: &mut IimAnswer)
     ensures { HandleHasEnd handle.old.owner.home handle.new.owner.home answer.new }
@@ -302,7 +318,7 @@ pub extern "C" fn iim_unpacker_end(alloc: Global, handle: &mut IimUnpacker, answ
     iim_handle::iim_unpacker_end(alloc, handle, answer);
 }
 
-/// Writes the ticket of the present state.
+/// Writes the ticket of the current state.
 #[unsafe(no_mangle)]
 pub extern "C" fn iim_unpacker_save(
     alloc: Global,
@@ -315,7 +331,8 @@ pub extern "C" fn iim_unpacker_save(
     iim_handle::iim_unpacker_save(alloc, handle, ticket_out, answer);
 }
 
-/// Opens a closed handle in the state of a ticket, after `at` octets of the envelope.
+/// Opens a closed handle in the state of a ticket. `at` is the number of octets of the envelope
+/// that were consumed before.
 #[unsafe(no_mangle)]
 pub extern "C" fn iim_unpacker_restore(
     alloc: Global,
@@ -331,10 +348,100 @@ pub extern "C" fn iim_unpacker_restore(
     iim_handle::iim_unpacker_restore(alloc, limits, handle, ticket, at, answer);
 }
 
-/// Closes a handle, and frees its memory. A closed handle stays closed.
+/// Closes a handle, and frees its memory. Closing a closed handle has no effect.
 #[unsafe(no_mangle)]
 pub extern "C" fn iim_unpacker_close(alloc: Global, handle: &mut IimUnpacker)
     ensures { handle.new.owner.home ≡ None }
 {
     iim_handle::iim_unpacker_close(alloc, handle);
+}
+
+/// Writes the ticket of the present state into a buffer, and the datasets of records 1 and 2 so far
+/// into an array, whose slices are those of that buffer. Returns the status.
+#[unsafe(no_mangle)]
+pub extern "C" fn iim_unpacker_fields(
+    alloc: Global,
+    handle: &mut IimUnpacker,
+    ticket_out: &mut [u8],
+    datasets: &mut [IimDataset],
+    answer: &mut IimAnswer,
+) -> i32
+    ensures fields { HandleHasFields handle.old.owner.home handle.new.owner.home ticket_out.old ticket_out.new
+        datasets.old datasets.new answer.new }
+    ensures code { result ≡ pos answer.new.status }
+{
+    iim_handle::iim_unpacker_fields(alloc, handle, ticket_out, datasets, answer);
+    i32::from(answer.status)
+}
+
+/// Writes the ticket of the present state into a buffer, and returns the header and the trailer of
+/// the message so far, whose slices are those of that buffer. Returns the status.
+#[unsafe(no_mangle)]
+pub extern "C" fn iim_unpacker_header(
+    alloc: Global,
+    handle: &mut IimUnpacker,
+    ticket_out: &mut [u8],
+    message: &mut IimMessage,
+    answer: &mut IimAnswer,
+) -> i32
+    ensures header { HandleHasHeader handle.old.owner.home handle.new.owner.home ticket_out.old ticket_out.new
+        message.old message.new answer.new }
+    ensures code { result ≡ pos answer.new.status }
+{
+    iim_handle::iim_unpacker_header(alloc, handle, ticket_out, message, answer);
+    i32::from(answer.status)
+}
+
+/// Writes the ticket of the present state into a buffer, and returns the sizes of the object so far.
+/// Returns the status.
+#[unsafe(no_mangle)]
+pub extern "C" fn iim_unpacker_sizes(
+    alloc: Global,
+    handle: &mut IimUnpacker,
+    ticket_out: &mut [u8],
+    object: &mut IimObject,
+    answer: &mut IimAnswer,
+) -> i32
+    ensures sizes { HandleHasSizes handle.old.owner.home handle.new.owner.home ticket_out.old ticket_out.new
+        object.old object.new answer.new }
+    ensures code { result ≡ pos answer.new.status }
+{
+    iim_handle::iim_unpacker_sizes(alloc, handle, ticket_out, object, answer);
+    i32::from(answer.status)
+}
+
+/// Writes the data of the dataset with the index `n` of those with this record and number into a
+/// buffer, once the envelope is complete. Returns the status.
+#[unsafe(no_mangle)]
+pub extern "C" fn iim_unpacker_field(
+    alloc: Global,
+    handle: &mut IimUnpacker,
+    rec: u8,
+    set: u8,
+    n: usize,
+    out: &mut [u8],
+    answer: &mut IimAnswer,
+) -> i32
+    ensures field { HandleHasField handle.old.owner.home handle.new.owner.home rec set n out.old out.new answer.new }
+    ensures code { result ≡ pos answer.new.status }
+{
+    iim_handle::iim_unpacker_field(alloc, handle, rec, set, n, out, answer);
+    i32::from(answer.status)
+}
+
+/// Counts the datasets with this record and number, once the envelope is complete. Returns the
+/// status.
+#[unsafe(no_mangle)]
+pub extern "C" fn iim_unpacker_count(
+    alloc: Global,
+    handle: &mut IimUnpacker,
+    rec: u8,
+    set: u8,
+    answer: &mut IimAnswer,
+) -> i32
+    ensures count { HandleHasCount handle.old.owner.home handle.new.owner.home rec set answer.new }
+    ensures code { result ≡ pos answer.new.status }
+{
+    iim_handle::iim_unpacker_count(alloc, handle, rec, set, answer);
+    i32::from(answer.status)
 }

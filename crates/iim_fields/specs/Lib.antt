@@ -2,7 +2,7 @@
 pub mod Format
 -- The states of checks, readers and builders.
 pub mod States
--- Lemmas on these: statements, each the contract of a function without code.
+-- Statements of lemmas about these. Each is the contract of a function that does nothing.
 pub mod Laws
 -- Definitions that only proofs and private clauses cite.
 pub mod StoreLayout

@@ -17,8 +17,8 @@ use iim_tables::laws::each_row_has_values;
 use std::alloc::{AllocError, Global};
 use std::marker::Model;
 
-/// A builder of an envelope, which stores the datasets so far. Contracts see it as its limits, the
-/// list of datasets, and its capacity, which never changes.
+/// A builder of an envelope, which stores the datasets so far. Its model in contracts is its
+/// limits, the list of datasets, and its capacity, which never changes.
 #[derive(Drop)]
 pub struct EnvelopeBuilder {
     check: RecordCheck,
@@ -40,8 +40,8 @@ impl Model for EnvelopeBuilder {
 }
 
 impl EnvelopeBuilder {
-    /// Creates a builder without datasets, with memory for exactly what the limits allow. No later
-    /// call allocates.
+    /// Creates a builder without datasets. Allocates memory for exactly what the limits allow; no
+    /// later call allocates.
     ///
     /// **Errors:** the allocation fails.
     pub fn new(alloc: Global, limits: Limits) -> Result<EnvelopeBuilder, AllocError>
@@ -56,9 +56,9 @@ impl EnvelopeBuilder {
         })
     }
 
-    /// Creates a builder with the datasets of an envelope, to which others of record 2 can be
-    /// added, with memory for exactly what the limits allow. These may be other limits than those
-    /// under which the envelope was read.
+    /// Creates a builder that contains the datasets of an envelope, and to which further datasets
+    /// of record 2 can be added. Allocates memory for exactly what the limits allow. The limits may
+    /// differ from those under which the envelope was read.
     ///
     /// **Errors:** the envelope exceeds the limits, or the allocation fails.
     pub fn from(
@@ -86,8 +86,9 @@ impl EnvelopeBuilder {
 
     /// Adds a dataset.
     ///
-    /// **Errors:** the first fault of its head after the datasets so far, or else that of its
-    /// value. The builder is unchanged. Records other than 1 and 2 are out of order.
+    /// **Errors:** the first fault of the head after the datasets so far, or otherwise the fault of
+    /// the value. The builder is unchanged. A dataset of a record other than 1 and 2 is out of
+    /// order.
     pub fn add(&mut self, rec: u8, set: u8, octets: &[u8]) -> Result<(), FieldFault>
         ensures admitted { OnOk result (added_field_fault self.old.limits self.old.fields record
             { rec = rec; set = set; octets = octets.now } ≡ None) }
@@ -124,8 +125,8 @@ impl EnvelopeBuilder {
 
     /// Returns the envelope if no mandatory dataset is missing.
     ///
-    /// **Errors:** the builder as it was, and the first missing dataset: of record 1, or else of
-    /// record 2.
+    /// **Errors:** the unchanged builder, and the first missing dataset, of record 1 or otherwise
+    /// of record 2.
     pub fn finish(self) -> Result<Envelope, (EnvelopeBuilder, FieldFault)>
         ensures whole { OnOk result (missing_field_fault self.fields ≡ None) }
         ensures envelope { IfOk result (λ envelope. envelope ≡ self.fields) }

@@ -1,4 +1,5 @@
-//! The record layer alone: it checks the heads and values of an envelope's datasets, one by one.
+//! The record layer alone. It checks the heads and values of an envelope's datasets, one after
+//! another.
 
 ghost use Rattle.std.specs.Prelude.{◌≡◌, ◌≢◌, ◌⊎◌, ℕ, false, List, [], ◌∷◌, ◌++◌, length, Option, is_none, Some, None, IsSome, IsSomeAnd, IfOk, IfErr, OnOk, OnErr, ◌↔◌, IsTrue};
 ghost use Rattle.std.specs.Option.{ForSome, option_or};
@@ -26,22 +27,22 @@ use std::marker::Model;
 pub(crate) struct Begun {
     /// The head of the dataset.
     pub head: Head,
-    /// The row of the dataset.
+    /// The row of the dataset in the tables.
     pub row: Row,
 }
 
-/// The state after heads and values: the current record, the numbers that occurred in it, and the
-/// dataset in progress.
+/// The state after some heads and values: the current record, the datasets that have occurred in
+/// it, and the dataset in progress.
 #[derive(Drop)]
 pub(crate) struct RecordPlace {
-    /// The current record, and the numbers that occurred in it.
+    /// The current record, and the datasets that have occurred in it.
     pub order: Order,
     /// The dataset in progress, if there is one.
     pub begun: Option<Begun>,
 }
 
 impl RecordPlace {
-    /// Returns another state after the same heads and values.
+    /// Returns a copy of the state.
     fn copied(&self) -> RecordPlace
         ensures { result ≡ self.now }
     {
@@ -51,8 +52,8 @@ impl RecordPlace {
         }
     }
 
-    /// Accepts a complete dataset that may come next, if no dataset is in progress. Returns whether
-    /// it did; otherwise nothing changes.
+    /// Accepts a complete dataset, if no dataset is in progress and this one may come next. Returns
+    /// `true` if it was accepted; otherwise the state is unchanged.
     #[inline(always)]
     fn whole(&mut self, head: Head, octets: &[u8]) -> bool
         requires { head.count ≡ length octets.now }
@@ -84,8 +85,8 @@ impl RecordPlace {
         true
     }
 
-    /// Accepts a complete subfile whose head may come next. Returns whether it did; otherwise
-    /// nothing changes.
+    /// Accepts a complete subfile, if its head may come next. Returns `true` if it was accepted;
+    /// otherwise the state is unchanged.
     #[inline(always)]
     fn whole_subfile(&mut self, head: Head) -> bool
         requires subfile { head.rec ≡ 8 }
@@ -101,7 +102,7 @@ impl RecordPlace {
         true
     }
 
-    /// Accepts a head that may come next and has this row.
+    /// Accepts a head that may come next. `row` is the row of its dataset.
     #[inline(always)]
     fn accept_head(&mut self, head: Head, row: Row)
         ensures order { OrderAddsHead self.old.order head self.new.order }
@@ -113,11 +114,11 @@ impl RecordPlace {
 }
 
 /// A check of an envelope's datasets: of each head, and of each complete value except those of
-/// subfiles. It has no limits and stores no data. Contracts see it as its state, and as `None`
-/// after an error. Some heads and values reach each state that it may have.
+/// subfiles. It has no limits and stores no data. Its model in contracts is its state, or `None`
+/// after an error. Every state that it can have is reached by some heads and values.
 #[derive(Drop)]
 pub struct RecordCheck {
-    /// The state; `None` after an error.
+    /// The state, or `None` after an error.
     place: Option<RecordPlace>,
 }
 
@@ -144,14 +145,14 @@ impl RecordCheck {
         RecordCheck { place: Some(place) }
     }
 
-    /// Creates a check that has failed.
+    /// Creates a check that has already failed.
     pub(crate) fn refused() -> RecordCheck
         ensures { result ≡ None }
     {
         RecordCheck { place: None }
     }
 
-    /// Returns another check in the same state.
+    /// Returns a copy of the check.
     pub(crate) fn copied(&self) -> RecordCheck
         ensures { result ≡ self.now }
     {
@@ -162,7 +163,7 @@ impl RecordCheck {
         RecordCheck { place }
     }
 
-    /// Checks whether a call returned an error.
+    /// Returns whether a call has returned an error.
     pub fn is_failed(&self) -> bool
         ensures { result ≡ is_none self.now }
     {
@@ -197,11 +198,11 @@ impl RecordCheck {
         }
     }
 
-    /// Accepts the next head. After the head of a subfile no value follows, since the data of a
-    /// subfile do not concern the records.
+    /// Accepts the next head. No value follows the head of a subfile, since the data of a subfile
+    /// do not concern the records.
     ///
-    /// **Errors:** the first fault of the head, with which the datasets are no longer a viable
-    /// prefix. The check has then failed.
+    /// **Errors:** the first fault of the head. After this head, no further datasets can complete
+    /// the envelope, and the check has failed.
     #[inline(always)]
     pub fn head(&mut self, head: Head) -> Result<(), FieldFault>
         requires { AcceptsHead self.old }
@@ -229,8 +230,8 @@ impl RecordCheck {
         }
     }
 
-    /// Accepts a complete dataset that is no subfile. Returns whether it may come next; otherwise
-    /// nothing changes.
+    /// Accepts a complete dataset other than a subfile, if it may come next. Returns `true` if it
+    /// was accepted; otherwise the state is unchanged.
     #[inline(always)]
     pub(crate) fn whole(&mut self, head: Head, octets: &[u8]) -> bool
         requires between { IsBetweenHeads self.old }
@@ -250,7 +251,7 @@ impl RecordCheck {
         }
     }
 
-    /// Checks whether a complete dataset of record 7 or 9 may come next whose data encode this
+    /// Checks whether a complete dataset of record 7 or 9 may come next, if its data encode this
     /// number.
     #[inline(always)]
     pub(crate) fn admits_number(&self, head: Head, number: u64) -> bool
@@ -265,7 +266,7 @@ impl RecordCheck {
         }
     }
 
-    /// Accepts a complete dataset that is no subfile and may come next.
+    /// Accepts a complete dataset other than a subfile. The dataset must be one that may come next.
     #[inline(always)]
     pub(crate) fn put(&mut self, head: Head)
         requires between { IsBetweenHeads self.old }
@@ -282,8 +283,8 @@ impl RecordCheck {
         }
     }
 
-    /// Accepts a complete subfile, whatever its data. Returns whether its head may come next;
-    /// otherwise nothing changes.
+    /// Accepts a complete subfile with any data, if its head may come next. Returns `true` if it
+    /// was accepted; otherwise the state is unchanged.
     #[inline(always)]
     pub(crate) fn whole_subfile(&mut self, head: Head) -> bool
         requires between { IsBetweenHeads self.old }
@@ -302,11 +303,11 @@ impl RecordCheck {
         }
     }
 
-    /// Accepts the complete value of the dataset in progress. Returns the number that it encodes if
-    /// its record is 7 or 9.
+    /// Accepts the complete value of the dataset in progress. Returns the encoded number if the
+    /// record is 7 or 9.
     ///
-    /// **Errors:** the first fault of the value, with which the datasets are no longer a viable
-    /// prefix. The check has then failed.
+    /// **Errors:** the first fault of the value. After this value, no further datasets can complete
+    /// the envelope, and the check has failed.
     #[inline(always)]
     pub fn value(&mut self, octets: &[u8]) -> Result<Option<u64>, FieldFault>
         requires { AcceptsValue self.old (length octets.now) }
@@ -349,7 +350,7 @@ impl RecordCheck {
         }
     }
 
-    /// Checks whether the last dataset of an envelope, that of record 9, has ended.
+    /// Checks whether the dataset of record 9, the last of an envelope, has ended.
     pub(crate) fn is_ended(&self) -> bool
         ensures { IsTrue result ↔ LastRecordHasEnded self.now }
     {
@@ -359,7 +360,7 @@ impl RecordCheck {
         }
     }
 
-    /// Returns the first missing dataset if records 1 and 2 end here.
+    /// Returns the first dataset that is missing if records 1 and 2 end here.
     pub(crate) fn end_fault(&self) -> Option<FieldFault>
         requires { IsSome self.now }
         ensures { IsSomeAnd self.now (λ place. result ≡ end_fault place.order.rec (has_seen place.order)) }

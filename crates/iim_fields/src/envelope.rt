@@ -10,8 +10,8 @@ use jiff::Timestamp;
 use jiff::civil::Date;
 use std::marker::Model;
 
-/// The datasets of a complete record 1 and a complete record 2, each good. Contracts see it as the
-/// list of them, in order.
+/// The datasets of a complete record 1 and a complete record 2, each of them valid. Its model in
+/// contracts is the list of these datasets, in order.
 #[derive(Drop)]
 pub struct Envelope {
     pub(crate) store: Store,
@@ -66,8 +66,8 @@ impl Envelope {
         self.borrowed().fields()
     }
 
-    /// Returns the data of the first dataset with this record and number, whatever they are. The
-    /// data meet the row of the dataset.
+    /// Returns the data of the first dataset with this record and number, which may be any. The
+    /// data are valid for the dataset's row in the tables.
     pub fn first(&self, rec: u8, set: u8) -> Option<&[u8]>
         ensures data { option_map (λ x. x.now) result ≡ first_data rec set self.now }
         ensures meets { IfSome result (λ x. OctetsMeetRow rec set x.now) }
@@ -86,7 +86,7 @@ impl Envelope {
         }
     }
 
-    /// Returns the data of the first dataset with this record and number, which each envelope has.
+    /// Returns the data of the first dataset with this record and number, which must be mandatory.
     fn mandatory(&self, rec: u8, set: u8) -> &[u8]
         requires { (ds : List Dataset) → IsEnvelope ds → IsTrue (is_some (first_data rec set ds)) }
         ensures data { first_data rec set self.now ≡ Some result.now }
@@ -95,7 +95,7 @@ impl Envelope {
         self.borrowed().mandatory(rec, set)
     }
 
-    /// Returns 1:30 Service Identifier, of the Envelope Record.
+    /// Returns 1:30 Service Identifier.
     pub fn service(&self) -> &[u8]
         ensures data { first_data 1 30 self.now ≡ Some result.now }
         ensures fits { length result.now ≤ 10 }
@@ -128,18 +128,19 @@ impl Envelope {
         instants::date_sent(&self.borrowed())
     }
 
-    /// Returns the instant of 1:70 Date Sent and 1:80 Time Sent: local time less its offset. `None`
-    /// if no time was sent, or if `jiff` has no such instant: its last is
-    /// 9999-12-30T22:00:00.999999999Z.
+    /// Returns the instant of 1:70 Date Sent and 1:80 Time Sent: the local time minus its offset.
+    /// Returns `None` if no time was sent, or if the instant is out of range for `jiff`, whose last
+    /// instant is 9999-12-30T22:00:00.999999999Z.
     pub fn sent(&self) -> Option<Timestamp>
         ensures { option_map (λ t. t.nanosecond) result ≡ instant_sent self.now }
     {
         instants::sent(&self.borrowed())
     }
 
-    /// Returns the instant from which on the copy may be used: 2:30 Release Date and 2:35 Release
-    /// Time, local time less its offset, or the beginning of that day in universal time if no time
-    /// was sent. `None` if no date was sent, or if `jiff` has no such instant.
+    /// Returns the first instant at which the copy may be used: 2:30 Release Date and 2:35 Release
+    /// Time, as local time minus its offset, or the beginning of that day in universal time if no
+    /// time was sent. Returns `None` if no date was sent, or if the instant is out of range for
+    /// `jiff`.
     pub fn release(&self) -> Option<Timestamp>
         ensures { option_map (λ t. t.nanosecond) result ≡ instant_of_release self.now }
     {
@@ -147,8 +148,9 @@ impl Envelope {
     }
 
     /// Returns the last instant at which the copy may be used: 2:37 Expiration Date and 2:38
-    /// Expiration Time, local time less its offset, or the last second of that day in universal
-    /// time if no time was sent. `None` if no date was sent, or if `jiff` has no such instant.
+    /// Expiration Time, as local time minus its offset, or the last second of that day in universal
+    /// time if no time was sent. Returns `None` if no date was sent, or if the instant is out of
+    /// range for `jiff`.
     pub fn expires(&self) -> Option<Timestamp>
         ensures { option_map (λ t. t.nanosecond) result ≡ instant_of_expiration self.now }
     {
@@ -179,7 +181,7 @@ impl Envelope {
         self.mandatory(ENVELOPE, 22)
     }
 
-    /// Returns 2:00 Record Version, of the Application Record.
+    /// Returns 2:00 Record Version.
     pub fn record_version(&self) -> &[u8]
         ensures { first_data 2 0 self.now ≡ Some result.now }
     {

@@ -9,10 +9,10 @@ use jiff::Timestamp;
 use jiff::civil::Date;
 use std::marker::Model;
 
-/// A borrowed view of the datasets of a complete record 1 and a complete record 2, each good: those
-/// of an [`Envelope`](crate::Envelope), or of a reader that has read all of an envelope. Contracts
-/// see it as the list of them, in order. Use `first` and `fields` for what only an `Envelope` has a
-/// method for.
+/// A borrowed view of the datasets of a complete record 1 and a complete record 2, each of them
+/// valid. They belong to an [`Envelope`](crate::Envelope), or to an unpacker that has read a
+/// complete envelope. Its model in contracts is the list of these datasets, in order. Fields
+/// without a method here can be read by `first` and `fields`.
 #[derive(Drop)]
 pub struct EnvelopeRef<'a> {
     pub(crate) store: &'a Store,
@@ -55,8 +55,8 @@ impl<'a> EnvelopeRef<'a> {
         }
     }
 
-    /// Returns the data of the first dataset with this record and number, whatever they are. The
-    /// data meet the row of the dataset.
+    /// Returns the data of the first dataset with this record and number, which may be any. The
+    /// data are valid for the dataset's row in the tables.
     pub fn first(&self, rec: u8, set: u8) -> Option<&'a [u8]>
         ensures data { option_map (λ x. x.now) result ≡ first_data rec set self.now }
         ensures meets { IfSome result (λ x. OctetsMeetRow rec set x.now) }
@@ -70,18 +70,18 @@ impl<'a> EnvelopeRef<'a> {
         None
     }
 
-    /// Returns the data of the first dataset with this record and number, which each envelope has.
+    /// Returns the data of the first dataset with this record and number, which must be mandatory.
     pub(crate) fn mandatory(&self, rec: u8, set: u8) -> &'a [u8]
         requires { (ds : List Dataset) → IsEnvelope ds → IsTrue (is_some (first_data rec set ds)) }
         ensures data { first_data rec set self.now ≡ Some result.now }
         ensures meets { OctetsMeetRow rec set result.now }
     {
-        // Reading a field makes the invariant of the type known here.
+        // Reading a field makes the invariant of the type available to the proof.
         let _ = &self.store;
         self.first(rec, set).unwrap()
     }
 
-    /// Returns 1:30 Service Identifier, of the Envelope Record.
+    /// Returns 1:30 Service Identifier.
     pub fn service(&self) -> &'a [u8]
         ensures data { first_data 1 30 self.now ≡ Some result.now }
         ensures fits { length result.now ≤ 10 }
@@ -114,18 +114,19 @@ impl<'a> EnvelopeRef<'a> {
         instants::date_sent(self)
     }
 
-    /// Returns the instant of 1:70 Date Sent and 1:80 Time Sent: local time less its offset. `None`
-    /// if no time was sent, or if `jiff` has no such instant: its last is
-    /// 9999-12-30T22:00:00.999999999Z.
+    /// Returns the instant of 1:70 Date Sent and 1:80 Time Sent: the local time minus its offset.
+    /// Returns `None` if no time was sent, or if the instant is out of range for `jiff`, whose last
+    /// instant is 9999-12-30T22:00:00.999999999Z.
     pub fn sent(&self) -> Option<Timestamp>
         ensures { option_map (λ t. t.nanosecond) result ≡ instant_sent self.now }
     {
         instants::sent(self)
     }
 
-    /// Returns the instant from which on the copy may be used: 2:30 Release Date and 2:35 Release
-    /// Time, local time less its offset, or the beginning of that day in universal time if no time
-    /// was sent. `None` if no date was sent, or if `jiff` has no such instant.
+    /// Returns the first instant at which the copy may be used: 2:30 Release Date and 2:35 Release
+    /// Time, as local time minus its offset, or the beginning of that day in universal time if no
+    /// time was sent. Returns `None` if no date was sent, or if the instant is out of range for
+    /// `jiff`.
     pub fn release(&self) -> Option<Timestamp>
         ensures { option_map (λ t. t.nanosecond) result ≡ instant_of_release self.now }
     {
@@ -133,8 +134,9 @@ impl<'a> EnvelopeRef<'a> {
     }
 
     /// Returns the last instant at which the copy may be used: 2:37 Expiration Date and 2:38
-    /// Expiration Time, local time less its offset, or the last second of that day in universal
-    /// time if no time was sent. `None` if no date was sent, or if `jiff` has no such instant.
+    /// Expiration Time, as local time minus its offset, or the last second of that day in universal
+    /// time if no time was sent. Returns `None` if no date was sent, or if the instant is out of
+    /// range for `jiff`.
     pub fn expires(&self) -> Option<Timestamp>
         ensures { option_map (λ t. t.nanosecond) result ≡ instant_of_expiration self.now }
     {

@@ -9,25 +9,25 @@ use std::error::Error;
 use std::fmt;
 use std::fmt::{Display, Formatter};
 
-/// The cause of a fault, each with its number. If a dataset has several, the one with the lowest
-/// number is reported, so those of the record layer precede those of the limits.
+/// The cause of a fault, with its number. If a dataset has several faults, the one with the lowest
+/// number is reported, so that the causes of the record layer precede those of the limits.
 #[derive(Clone, Copy, Debug, PartialEq, Eq)]
 pub enum FieldCause {
     /// The record is neither the current one nor the next.
     RecordOrder = 10,
-    /// Record 7, 8 or 9 has no dataset of this number.
+    /// Record 7, 8 or 9 has no dataset with this number.
     UnknownDataset = 11,
-    /// The dataset does not repeat, and has occurred.
+    /// The dataset must not repeat, and has already occurred.
     Repeated = 12,
-    /// The number of octets is outside the bounds of the dataset's row.
+    /// The number of octets is outside the bounds of the dataset's row in the tables.
     CountRange = 13,
-    /// The next record begins, and a mandatory dataset of the current one is missing.
+    /// The next record begins, but a mandatory dataset of the current record is missing.
     Missing = 14,
-    /// The octets are not of the dataset's kind.
+    /// The octets are not a value of the dataset's kind.
     BadValue = 15,
     /// 1:20 File Format is not 2.
     FileFormat = 16,
-    /// The data of records 1 and 2 exceed the limit on octets.
+    /// The octets of data of records 1 and 2 exceed their limit.
     HeaderFull = 50,
     /// The datasets of records 1 and 2 exceed the limit on their number.
     TooManyFields = 51,
@@ -72,13 +72,13 @@ impl Display for FieldCause {
 
 impl Error for FieldCause {}
 
-/// A rejected dataset, and why. For [`FieldCause::Missing`] it is the missing dataset with the
-/// lowest number.
+/// A rejected dataset, and the reason. For [`FieldCause::Missing`] it is the missing dataset with
+/// the lowest number.
 #[derive(Clone, Copy, Debug, PartialEq, Eq)]
 pub struct FieldFault {
-    /// The number of the dataset's record.
+    /// The record of the dataset.
     pub rec: u8,
-    /// The number of the dataset in its record.
+    /// The number of the dataset within its record.
     pub set: u8,
     /// Why the dataset is rejected.
     pub cause: FieldCause,
@@ -103,14 +103,15 @@ impl Error for FieldFault {}
 /// Why an envelope cannot be copied into a builder.
 #[derive(Clone, Copy, Debug, PartialEq, Eq)]
 pub enum CopyFault {
-    /// Its datasets exceed a limit: `HeaderFull`, or else `TooManyFields`.
+    /// The datasets of the envelope exceed a limit: `HeaderFull` or, if the octets do not exceed
+    /// theirs, `TooManyFields`.
     Passed(FieldCause),
     /// The allocation failed.
     OutOfMemory,
 }
 
 impl CopyFault {
-    /// Returns the number, as it is printed. That of a failed allocation is 70.
+    /// Returns the number of the cause, as it is printed. A failed allocation has the number 70.
     pub fn number(self) -> u8
         ensures { result ≡ number_of_copy self }
     {
@@ -120,7 +121,7 @@ impl CopyFault {
         }
     }
 
-    /// Returns the name, as it is printed.
+    /// Returns the name of the cause, as it is printed.
     pub fn name(self) -> &'static str
         ensures { result.now ≡ name_of_copy self }
     {

@@ -25,8 +25,8 @@ use iim_tables::records::OBJECT;
 use std::alloc::{AllocError, Global};
 use std::marker::Model;
 
-/// Returns the first limit that a head exceeds, after `octets` stored octets and `fields` stored
-/// datasets.
+/// Returns the first limit that would be exceeded if a dataset with this head were added to
+/// `octets` stored octets in `fields` stored datasets, or `None`.
 #[inline(always)]
 pub(crate) fn room_fault(
     limits: Limits,
@@ -48,8 +48,8 @@ pub(crate) fn room_fault(
     None
 }
 
-/// Checks whether one more dataset with this head can be stored within the limits, after `octets`
-/// stored octets and `fields` stored datasets: whether `room_fault` returns `None`.
+/// Checks whether a dataset with this head can be added to `octets` stored octets in `fields`
+/// stored datasets within the limits, which is when `room_fault` returns `None`.
 #[inline(always)]
 fn has_room(limits: Limits, octets: usize, fields: usize, head: Head) -> bool
     requires kept { IsTrue (is_kept head.rec) }
@@ -60,16 +60,17 @@ fn has_room(limits: Limits, octets: usize, fields: usize, head: Head) -> bool
         && (fields as u64) < u64::from(limits.fields)
 }
 
-/// A reader of the datasets of an envelope. It checks them one by one, and stores those of records
-/// 1 and 2. Contracts see it as the state of its check, its limits, the datasets that it has
-/// stored, the octets received of the dataset in progress, and its capacity, which never changes.
+/// A reader of the datasets of an envelope. It checks them one after another, and stores those of
+/// records 1 and 2. Its model in contracts is the state of its check, its limits, the stored
+/// datasets, the octets received of the dataset in progress, and its capacity, which never changes.
 #[derive(Drop)]
 pub struct Fields {
     check: RecordCheck,
     limits: Limits,
-    /// The stored datasets, and the octets of the one in progress, if it will be stored.
+    /// The stored datasets, followed by the octets of the dataset in progress if that will be
+    /// stored.
     store: Store,
-    /// The octets of a size in progress, of record 7 or 9.
+    /// The octets of the value in progress, if its record is 7 or 9.
     size: ArrayVec<u8, SIZE_OCTETS>,
 }
 
@@ -89,8 +90,8 @@ impl Fields {
     ghost use Rattle.iim_fields.specs.States.Walks.{rest_of};
     ghost use Rattle.iim_fields.specs.States.Standing.{limits_of, reader_capacity, section_of, current_head_of, room_for, RecordReaderFailed, IsBetweenDatasets, IsInsideDataset, AcceptsData, AcceptsEnd, HasReadDatasets, IsReadingDataset, AcceptedDataset, AcceptedSubfile, HasSameBounds, IsHeadFault, IsDatasetOf, RecordReaderHasEnded, DatasetEncodesNumber, AdmitsDataset, added_field_fault};
 
-    /// Creates a reader at the beginning of an envelope, with memory for exactly what the limits
-    /// allow. No later call allocates.
+    /// Creates a reader at the beginning of an envelope. Allocates memory for exactly what the
+    /// limits allow; no later call allocates.
     ///
     /// **Errors:** the allocation fails.
     pub fn new(alloc: Global, limits: Limits) -> Result<Fields, AllocError>
@@ -107,8 +108,8 @@ impl Fields {
         })
     }
 
-    /// Resets the reader to the beginning of an envelope, with the same memory and the same limits,
-    /// whatever was read or rejected before. It does not allocate.
+    /// Resets the reader to the beginning of an envelope, with the same memory and limits, even
+    /// after an error. Does not allocate.
     pub fn again(&mut self)
         ensures stands { HasReadDatasets self.new [] }
         ensures bounds { HasSameBounds self.old self.new }
@@ -125,15 +126,15 @@ impl Fields {
         self.limits
     }
 
-    /// Checks whether a call returned an error.
+    /// Returns whether a call has returned an error.
     pub fn is_failed(&self) -> bool
         ensures { IsTrue result ↔ RecordReaderFailed self.now }
     {
         self.check.is_failed()
     }
 
-    /// Returns the current record, which is that of the last head; 0 at the beginning of an
-    /// envelope and after an error.
+    /// Returns the current record, which is the record of the last head. Returns 0 at the beginning
+    /// of an envelope and after an error.
     #[inline(always)]
     pub fn section(&self) -> u8
         ensures section { result ≡ section_of self.now }
@@ -144,8 +145,8 @@ impl Fields {
         self.check.section()
     }
 
-    /// Returns the head of the dataset in progress; `None` between datasets, at the beginning of an
-    /// envelope, and after an error.
+    /// Returns the head of the dataset in progress. Returns `None` between datasets, at the
+    /// beginning of an envelope, and after an error.
     #[inline(always)]
     pub fn current_head(&self) -> Option<Head>
         ensures head { result ≡ current_head_of self.now }
@@ -156,8 +157,8 @@ impl Fields {
         self.check.begun()
     }
 
-    /// Returns the octets received of the dataset in progress. The octets of a subfile do not pass
-    /// through this reader. The reader must not have failed.
+    /// Returns the octets received of the dataset in progress. The octets of a subfile are not
+    /// passed to this reader. The reader must not have failed.
     pub fn begun(&self) -> &[u8]
         requires { RecordReaderFailed self.now → ⊥ }
         ensures { result.now ≡ self.now.taken }
@@ -181,8 +182,8 @@ impl Fields {
 
     /// Accepts the next head.
     ///
-    /// **Errors:** the first fault of the head: the datasets are no longer a viable prefix, or a
-    /// limit is exceeded. The reader has then failed.
+    /// **Errors:** the first fault of the head. After this head, no further datasets can complete
+    /// the envelope, or exceed a limit. The reader has then failed.
     #[inline(always)]
     pub fn begin(&mut self, head: Head) -> Result<(), FieldFault>
         requires { IsBetweenDatasets self.old }
@@ -203,10 +204,10 @@ impl Fields {
         Ok(())
     }
 
-    /// Accepts a complete dataset of record 1 or 2, its head and all of its data, as `begin`,
-    /// `bytes` and `close` do. Returns `false` and changes nothing if the dataset is of another
-    /// record, its head or value has a fault, or it exceeds a limit; those calls then return the
-    /// fault.
+    /// Accepts a complete dataset of record 1 or 2, its head and all of its data, with the same
+    /// effect as `begin`, `bytes` and `close`. Returns `false` and changes nothing if the dataset
+    /// is of another record, has a fault in its head or value, or exceeds a limit. `begin` or
+    /// `close` then returns that fault.
     #[inline(always)]
     pub fn whole(&mut self, head: Head, octets: &[u8]) -> bool
         requires between { IsBetweenDatasets self.old }
@@ -234,9 +235,9 @@ impl Fields {
         true
     }
 
-    /// Checks whether a complete dataset of record 7 or 9 may come next whose data encode this
-    /// number: `begin`, `bytes` and `close` would accept its head and any such data. Otherwise
-    /// those calls return the fault.
+    /// Checks whether `begin`, `bytes` and `close` would accept a dataset of record 7 or 9 with
+    /// this head and with data that encode this number. If not, one of these calls returns the
+    /// fault.
     #[inline(always)]
     pub fn admits_number(&self, head: Head, number: u64) -> bool
         requires between { IsBetweenDatasets self.now }
@@ -250,8 +251,8 @@ impl Fields {
         self.check.admits_number(head, number)
     }
 
-    /// Accepts a complete dataset of record 7 or 9, its head and all of its data, as `begin`,
-    /// `bytes` and `close` do. It must be one for which `admits_number` returns true.
+    /// Accepts a complete dataset of record 7 or 9, with the same effect as `begin`, `bytes` and
+    /// `close`. `admits_number` must have returned `true` for this dataset.
     #[inline(always)]
     pub fn put_number(&mut self, head: Head)
         requires between { IsBetweenDatasets self.old }
@@ -265,8 +266,8 @@ impl Fields {
         self.check.put(head);
     }
 
-    /// Accepts a complete subfile, its head and its end, as `begin` and `close` do, whatever its
-    /// data. Returns `false` and changes nothing if its head has a fault; `begin` then returns the
+    /// Accepts a complete subfile with any data, with the same effect as `begin` and `close`.
+    /// Returns `false` and changes nothing if its head has a fault. `begin` then returns that
     /// fault.
     #[inline(always)]
     pub fn whole_subfile(&mut self, head: Head) -> bool
@@ -283,8 +284,9 @@ impl Fields {
         self.check.whole_subfile(head)
     }
 
-    /// Adds the next octets of the dataset in progress. It may be called any number of times, up to
-    /// the count of the head. Do not call it for a subfile, 8:10, whose data belong to the object.
+    /// Appends the next octets of the dataset in progress. It may be called any number of times, up
+    /// to the count of the head. It must not be called for a subfile, 8:10, whose data belong to
+    /// the object.
     #[inline(always)]
     pub fn bytes(&mut self, octets: &[u8])
         requires { AcceptsData self.old (length octets.now) }
@@ -305,10 +307,10 @@ impl Fields {
         self.size.try_extend_from_slice(octets).unwrap();
     }
 
-    /// Ends the dataset in progress. Returns the number that it encodes if its record is 7 or 9.
+    /// Ends the dataset in progress. Returns the encoded number if the record is 7 or 9.
     ///
-    /// **Errors:** the first fault of the value, with which the datasets are no longer a viable
-    /// prefix. The reader has then failed.
+    /// **Errors:** the first fault of the value. After this value, no further datasets can complete
+    /// the envelope, and the reader has failed.
     #[inline(always)]
     pub fn close(&mut self) -> Result<Option<u64>, FieldFault>
         requires { AcceptsEnd self.old }
@@ -340,8 +342,8 @@ impl Fields {
         Ok(number)
     }
 
-    /// Returns a borrowed view of the stored envelope, if 9:10 has ended and no call returned an
-    /// error.
+    /// Returns a borrowed view of the stored envelope, if 9:10 has ended and no call has returned
+    /// an error.
     pub fn envelope(&self) -> Option<EnvelopeRef<'_>>
         ensures ended { IsSome result ↔ RecordReaderHasEnded self.now }
         ensures whole { (ds : List Dataset) → HasReadDatasets self.now ds → IsSome result ↔ AreSections ds }
@@ -354,8 +356,8 @@ impl Fields {
         Some(EnvelopeRef { store: &self.store })
     }
 
-    /// Returns the stored envelope, if 9:10 has ended and no call returned an error. Otherwise
-    /// returns the reader as it was.
+    /// Returns the stored envelope, if 9:10 has ended and no call has returned an error. Otherwise
+    /// returns the unchanged reader.
     pub fn into_envelope(self) -> Result<Envelope, Fields>
         ensures ended { OnOk result (RecordReaderHasEnded self) }
         ensures whole { OnOk result ((ds : List Dataset) → HasReadDatasets self ds → AreSections ds) }

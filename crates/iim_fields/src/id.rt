@@ -9,16 +9,17 @@ ghost use Rattle.std.specs.Cmp.{partial_equiv_from_equiv, po};
 use std::cmp::Ordering;
 use std::marker::Model;
 
-/// The greatest number of octets of a service.
+/// The greatest length of a service in octets.
 const MAX_SERVICE: usize = 10;
 
 /// The identity of an envelope: the service that sent it, its number, and the date on which it was
-/// sent. By the standard a number is unique for a service and a date. It does not allocate.
+/// sent. According to the standard, a service sends each number at most once on a date. The type
+/// does not allocate.
 ///
-/// Identities are ordered by service, then by number, then by date, each compared octet by octet:
-/// the first difference decides, or else the shorter text is first.
+/// Identities are ordered by service, then by number, then by date, each compared octet by octet.
+/// If one service is a prefix of the other, the shorter one is less.
 ///
-/// Contracts see it as the three texts.
+/// Its model in contracts is these three texts.
 #[derive(Clone, Debug, Drop)]
 pub struct EnvelopeId {
     number: [u8; 8],
@@ -40,7 +41,7 @@ impl Model for EnvelopeId {
     ghost invariant = { λ id. id.service_len ≤ 10 };
 }
 
-/// Returns the octets, padded with zeros.
+/// Pads octets with zeros up to the length of the array.
 fn filled<const ROOM: usize>(octets: &[u8]) -> [u8; ROOM]
     requires { length octets.now ≤ ROOM }
     ensures { take (length octets.now) result ≡ octets.now }
@@ -51,7 +52,8 @@ fn filled<const ROOM: usize>(octets: &[u8]) -> [u8; ROOM]
 }
 
 impl EnvelopeId {
-    /// Creates the identity from these data, which are as long as their rows allow.
+    /// Creates the identity from these data, whose lengths are within the bounds of their rows in
+    /// the tables.
     pub(crate) fn new(service: &[u8], number: &[u8], date_sent: &[u8]) -> EnvelopeId
         requires service { length service.now ≤ 10 }
         requires number { length number.now ≡ 8 }
@@ -66,7 +68,7 @@ impl EnvelopeId {
         }
     }
 
-    /// Returns 1:30 Service Identifier, of the Envelope Record.
+    /// Returns 1:30 Service Identifier.
     pub fn service(&self) -> &[u8]
         ensures { result.now ≡ self.now.service }
     {

@@ -1,4 +1,4 @@
-//! The instants and the day of an envelope.
+//! Computes the instants and the day of an envelope.
 
 ghost use Rattle.std.specs.Prelude.{◌≡◌, IsSomeAnd, pos};
 ghost use Rattle.std.specs.Option.{option_map};
@@ -12,8 +12,9 @@ use iim_tables::{date_of, instant_of};
 use jiff::Timestamp;
 use jiff::civil::Date;
 
-/// Returns the instant of this date and time of the record, or `None` if there is no date or time,
-/// or they have no instant. If no time was sent, `absent` is used.
+/// Computes the instant of these two datasets, a date and a time. Returns `None` if there is no
+/// date, or if the date and time have no instant. If no time was sent, `absent` is used; if that is
+/// also `None`, so is the result.
 fn instant(
     envelope: &EnvelopeRef<'_>,
     rec: u8,
@@ -37,17 +38,18 @@ pub fn date_sent(envelope: &EnvelopeRef<'_>) -> Date
     date_of(envelope.date_sent_text()).unwrap()
 }
 
-/// Returns the instant of 1:70 Date Sent and 1:80 Time Sent: local time less its offset. `None` if
-/// no time was sent, or if `jiff` has no such instant: its last is 9999-12-30T22:00:00.999999999Z.
+/// Returns the instant of 1:70 Date Sent and 1:80 Time Sent: the local time minus its offset.
+/// Returns `None` if no time was sent, or if the instant is out of range for `jiff`, whose last
+/// instant is 9999-12-30T22:00:00.999999999Z.
 pub fn sent(envelope: &EnvelopeRef<'_>) -> Option<Timestamp>
     ensures { option_map (λ t. t.nanosecond) result ≡ instant_sent envelope.now }
 {
     instant(envelope, ENVELOPE, 70, 80, None)
 }
 
-/// Returns the instant from which on the copy may be used: 2:30 Release Date and 2:35 Release Time,
-/// local time less its offset, or the beginning of that day in universal time if no time was sent.
-/// `None` if no date was sent, or if `jiff` has no such instant.
+/// Returns the first instant at which the copy may be used: 2:30 Release Date and 2:35 Release
+/// Time, as local time minus its offset, or the beginning of that day in universal time if no time
+/// was sent. Returns `None` if no date was sent, or if the instant is out of range for `jiff`.
 pub fn release(envelope: &EnvelopeRef<'_>) -> Option<Timestamp>
     ensures { option_map (λ t. t.nanosecond) result ≡ instant_of_release envelope.now }
 {
@@ -56,8 +58,8 @@ pub fn release(envelope: &EnvelopeRef<'_>) -> Option<Timestamp>
 }
 
 /// Returns the last instant at which the copy may be used: 2:37 Expiration Date and 2:38 Expiration
-/// Time, local time less its offset, or the last second of that day in universal time if no time
-/// was sent. `None` if no date was sent, or if `jiff` has no such instant.
+/// Time, as local time minus its offset, or the last second of that day in universal time if no
+/// time was sent. Returns `None` if no date was sent, or if the instant is out of range for `jiff`.
 pub fn expires(envelope: &EnvelopeRef<'_>) -> Option<Timestamp>
     ensures { option_map (λ t. t.nanosecond) result ≡ instant_of_expiration envelope.now }
 {

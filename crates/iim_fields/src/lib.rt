@@ -1,11 +1,10 @@
-//! The records of an envelope (IIM version 4): each dataset is checked against its row, and records
-//! 1 and 2 are stored.
+//! The records of an envelope (IIM version 4). Each dataset is checked against its row in the
+//! tables, and the datasets of records 1 and 2 are stored.
 //!
 //! Depends on `iim_tables`, `iim_dataset` and `arrayvec`, and on `jiff` for the day and the
 //! instants of an envelope ([`instants`]). The crate above uses [`Fields`]. Its methods `begin`,
-//! `bytes` and `close` accept one more dataset, or return the first fault of the head or value:
-//! with it the datasets are no longer a viable prefix, or a limit is exceeded. Its method
-//! `into_envelope` returns what was stored. [`RecordCheck`] is the record layer alone.
+//! `bytes` and `close` accept one more dataset, or return the first fault of its head or value. Its
+//! method `into_envelope` returns the stored datasets. [`RecordCheck`] is the record layer alone.
 #![tactic(auto)]
 
 mod builder;

@@ -1,11 +1,11 @@
-//! Limits on the stored data of records 1 and 2.
+//! Limits on the data of records 1 and 2 that a reader stores.
 
 ghost use Rattle.std.specs.Prelude.{◌≡◌};
 ghost use Rattle.iim_fields.specs.Format.Causes.{limit_exceeded};
 
 use crate::fault::FieldCause;
 
-/// The most that records 1 and 2 of an envelope may have together.
+/// The limits on the data of records 1 and 2 of an envelope, both records together.
 #[derive(Clone, Copy, Debug, PartialEq, Eq)]
 pub struct Limits {
     /// The greatest number of octets of data.
@@ -15,14 +15,14 @@ pub struct Limits {
 }
 
 impl Limits {
-    /// The limits of receivers of wire copy: 65,536 octets in 512 datasets.
+    /// The limits for wire copy: 65,536 octets in 512 datasets.
     pub const WIRE: Limits = Limits {
         octets: 65_536,
         fields: 512,
     };
 
-    /// Returns the first limit that a total of `octets` octets and `fields` datasets exceeds:
-    /// `HeaderFull`, or else `TooManyFields`.
+    /// Returns the first limit that a total of `octets` octets in `fields` datasets exceeds:
+    /// `HeaderFull`, otherwise `TooManyFields`, otherwise `None`.
     pub fn passed(self, octets: u64, fields: u64) -> Option<FieldCause>
         ensures { result ≡ limit_exceeded self octets fields }
     {

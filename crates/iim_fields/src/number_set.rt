@@ -7,11 +7,11 @@ use std::marker::Model;
 /// The number of bits of a word.
 const BITS: u8 = 64;
 
-/// A set of numbers from 0 to 255. Contracts see it as a list of 256: whether each number is in the
-/// set.
+/// A set of numbers from 0 to 255. Its model in contracts is a list of 256 Booleans: whether each
+/// number is in the set.
 #[derive(Drop)]
 pub(crate) struct NumberSet {
-    /// A bit for each number, from the lowest bit of the first word up.
+    /// A bit for each number. The lowest bit of the first word is that of 0.
     words: [u64; 4],
 }
 
@@ -35,7 +35,7 @@ impl NumberSet {
         NumberSet { words: [0; 4] }
     }
 
-    /// Returns another set of the same numbers.
+    /// Returns a copy of the set.
     pub(crate) fn copied(&self) -> NumberSet
         ensures { result ≡ self.now }
     {

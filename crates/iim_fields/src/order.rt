@@ -1,4 +1,4 @@
-//! Which head may come next: the order of the records, and the rows of their datasets.
+//! Decides which head may come next: the order of the records, and the rows of their datasets.
 
 ghost use Rattle.std.specs.Prelude.{◌≡◌, ◌≢◌, false, ◌&&◌, ◌||◌, ◌==◌, nat_le, not, if◌then◌else◌, replicate, is_none, Some, None, IfOk, IfErr, OnOk, IsTrue};
 ghost use Rattle.std.specs.Int.{IsInRange};
@@ -16,15 +16,15 @@ use iim_dataset::{GREATEST_SIZE, Head};
 use iim_tables::records::{APPLICATION, ENVELOPE, OBJECT, POST_OBJECT, PRE_OBJECT, SUBFILE};
 use iim_tables::{Row, row};
 
-/// The state after the heads so far: the current record, 0 before the first, and the numbers that
-/// occurred in it.
+/// The state after the heads so far: the current record, which is 0 before the first head, and the
+/// numbers of the datasets that have occurred in it.
 #[derive(Drop)]
 pub(crate) struct Order {
     rec: u8,
     seen: NumberSet,
 }
 
-/// Returns a fault on the dataset of a head.
+/// Creates a fault for the dataset of a head.
 #[inline(always)]
 pub(crate) fn fault_on(head: Head, cause: FieldCause) -> FieldFault
     ensures { result ≡ record { rec = head.rec; set = head.set; cause = cause } }
@@ -46,14 +46,15 @@ fn missing_fault_on(rec: u8, set: u8) -> FieldFault
     }
 }
 
-/// Returns the fault of an envelope without record 2.
+/// Returns the fault of an envelope that has no record 2.
 fn no_application() -> Option<FieldFault>
     ensures { result ≡ missing_fault 2 (missing_of 2 (λ _. false)) }
 {
     Some(missing_fault_on(APPLICATION, 0))
 }
 
-/// Returns the first fault of a head by its row.
+/// Returns the first fault of a head with this row. `again` is whether its dataset has already
+/// occurred.
 #[inline(always)]
 fn row_fault(again: bool, row: &Row, head: Head) -> Option<FieldFault>
     ensures { result ≡ row_fault again (Some row.now) head }
@@ -67,7 +68,7 @@ fn row_fault(again: bool, row: &Row, head: Head) -> Option<FieldFault>
     None
 }
 
-/// Checks whether the count of a head is within the bounds of its row.
+/// Checks whether the count of a head is within the bounds of this row.
 #[inline(always)]
 fn is_counted(head: Head, row: &Row) -> bool
     ensures exactly { result ≡ within row.now.min row.now.max head.count }
@@ -76,8 +77,8 @@ fn is_counted(head: Head, row: &Row) -> bool
     row.min <= head.count && head.count <= row.max
 }
 
-/// Checks whether the number of a head is that of a subfile, and its count at most the greatest
-/// size, as the row of 8:10 requires.
+/// Checks whether a head is that of a subfile with a count of at most the greatest size, as the row
+/// of 8:10 requires.
 #[inline(always)]
 fn is_subfile(head: Head) -> bool
     ensures { result ≡ (head.set == 10 && nat_le head.count greatest_size) }
@@ -97,7 +98,7 @@ impl Order {
         }
     }
 
-    /// Returns another state after the same heads.
+    /// Returns a copy of the state.
     pub(crate) fn copied(&self) -> Order
         ensures { result ≡ self.now }
     {
@@ -107,14 +108,14 @@ impl Order {
         }
     }
 
-    /// Returns the current record, or 0 before the first.
+    /// Returns the current record, or 0 before the first head.
     pub(crate) fn present(&self) -> u8
         ensures { result ≡ self.now.rec }
     {
         self.rec
     }
 
-    /// Returns the lowest mandatory number of the record that has not occurred.
+    /// Returns the lowest number of a mandatory dataset of the record that has not occurred.
     #[inline(always)]
     fn missing(&self, rec: u8) -> Option<u8>
         ensures { result ≡ missing_of rec (has_seen self.now) }
@@ -125,7 +126,7 @@ impl Order {
             .find(|set| !self.seen.contains(*set))
     }
 
-    /// Checks whether the record follows the current one.
+    /// Checks whether the record is the one after the current record.
     #[inline(always)]
     fn begins(&self, rec: u8) -> bool
         ensures { result ≡ is_first rec (after self.now.rec) }
@@ -136,7 +137,7 @@ impl Order {
         }
     }
 
-    /// Checks whether the record is the current one, or the next.
+    /// Checks whether the record is the current one or the one after it.
     #[inline(always)]
     fn is_in_order(&self, rec: u8) -> bool
         ensures { result ≡ is_in_order self.now.rec rec }
@@ -144,7 +145,8 @@ impl Order {
         (rec == self.rec && rec != 0) || self.begins(rec)
     }
 
-    /// Returns the fault of a record that ends too early.
+    /// Returns the fault for the first mandatory dataset of the record that has not occurred, or
+    /// `None` if all of them have.
     #[inline(always)]
     fn missing_fault(&self, rec: u8) -> Option<FieldFault>
         ensures { result ≡ missing_fault rec (missing_of rec (has_seen self.now)) }
@@ -155,7 +157,7 @@ impl Order {
         }
     }
 
-    /// Returns the first missing dataset if the envelope's records 1 and 2 end here.
+    /// Returns the first dataset that is missing if records 1 and 2 of the envelope end here.
     pub(crate) fn end_fault(&self) -> Option<FieldFault>
         ensures { result ≡ end_fault self.now.rec (has_seen self.now) }
     {
@@ -168,7 +170,7 @@ impl Order {
         }
     }
 
-    /// Returns the row of a head that may come next.
+    /// Returns the row of a head, if that head may come next.
     ///
     /// **Errors:** the first fault of the head.
     #[inline(always)]
@@ -195,8 +197,9 @@ impl Order {
         Ok(row)
     }
 
-    /// Checks whether a record may begin: it follows the current one, which lacks nothing. Each
-    /// record has its own arm, so that its mandatory numbers are constants there.
+    /// Checks whether a record may begin: it is the one after the current record, in which no
+    /// mandatory dataset is missing. Each record has its own match arm, so that its mandatory
+    /// numbers are constants in it.
     #[inline(never)]
     fn may_begin(&self, rec: u8) -> bool
         ensures { result ≡ is_first rec (after self.now.rec) && is_none (missing_of self.now.rec (has_seen self.now)) }
@@ -211,8 +214,8 @@ impl Order {
         }
     }
 
-    /// Checks whether a head of the current record with this row may come next: whether `check`
-    /// accepts it.
+    /// Checks whether `check` accepts a head of the current record. `row` is the row of its
+    /// dataset.
     #[inline(always)]
     pub(crate) fn admits_more(&self, head: Head, row: &Row) -> bool
         requires row { row_of head.rec head.set ≡ Some row.now }
@@ -223,8 +226,7 @@ impl Order {
         is_counted(head, row) && (row.repeats || !self.seen.contains(head.set))
     }
 
-    /// Checks whether a head of another record with this row may come next: whether `check` accepts
-    /// it.
+    /// Checks whether `check` accepts a head of another record. `row` is the row of its dataset.
     #[inline(always)]
     pub(crate) fn admits_next(&self, head: Head, row: &Row) -> bool
         requires row { row_of head.rec head.set ≡ Some row.now }
@@ -235,8 +237,8 @@ impl Order {
         is_counted(head, row) && self.may_begin(head.rec)
     }
 
-    /// Checks whether a head may come next if its dataset does not repeat and its count is within
-    /// its row: what `admits_more` and `admits_next` check then.
+    /// Checks whether `check` accepts a head whose dataset must not repeat and whose count is
+    /// within the bounds of its row.
     #[inline(always)]
     pub(crate) fn admits_once(&self, head: Head) -> bool
         ensures { result ≡ (if head.rec == self.now.rec then not (has_seen self.now head.set)
@@ -260,8 +262,7 @@ impl Order {
         }
     }
 
-    /// Checks whether the head of a subfile may come next, as `admits_more` and `admits_next` do by
-    /// its row.
+    /// Checks whether `check` accepts the head of a subfile.
     #[inline(always)]
     pub(crate) fn admits_subfile(&self, head: Head) -> bool
         requires { head.rec ≡ 8 }
@@ -270,7 +271,7 @@ impl Order {
         is_subfile(head) && self.subfile_may_follow()
     }
 
-    /// Accepts a head of the current record that may come next.
+    /// Accepts a head of the current record. The head must be one that may come next.
     #[inline(always)]
     pub(crate) fn add(&mut self, head: Head)
         requires { head.rec ≡ self.old.rec }
@@ -279,7 +280,7 @@ impl Order {
         self.seen.insert(head.set);
     }
 
-    /// Accepts a head of another record that may come next.
+    /// Accepts a head of another record. The head must be one that may come next.
     #[inline(always)]
     pub(crate) fn begin(&mut self, head: Head)
         requires { head.rec ≢ self.old.rec }
@@ -290,7 +291,7 @@ impl Order {
         self.seen.insert(head.set);
     }
 
-    /// Accepts a head that may come next.
+    /// Accepts a head. The head must be one that may come next.
     #[inline(always)]
     pub(crate) fn take(&mut self, head: Head)
         ensures { OrderAddsHead self.old head self.new }

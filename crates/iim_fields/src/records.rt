@@ -1,4 +1,4 @@
-//! The records of an envelope, and the datasets that each must have.
+//! The order of the records of an envelope, and the mandatory datasets of each.
 
 ghost use Rattle.std.specs.Prelude.{◌≡◌, ◌∷◌, [], MatchOption};
 ghost use Rattle.iim_fields.specs.Format.Records.{after};
@@ -7,7 +7,7 @@ ghost use Rattle.iim_fields.specs.Format.Causes.{is_kept};
 
 use iim_tables::records::{APPLICATION, ENVELOPE, OBJECT, POST_OBJECT, PRE_OBJECT};
 
-/// Returns the numbers of the datasets that a record must have, lowest first.
+/// Returns the numbers of the mandatory datasets of a record, lowest first.
 #[inline(always)]
 pub(crate) fn mandatory(rec: u8) -> &'static [u8]
     ensures { result.now ≡ mandatory rec }
@@ -21,7 +21,8 @@ pub(crate) fn mandatory(rec: u8) -> &'static [u8]
     }
 }
 
-/// Returns the record that follows. An envelope begins with record 1, which follows 0.
+/// Returns the record that follows this one. Record 1 follows 0, which stands for the beginning of
+/// an envelope (fixed).
 #[inline(always)]
 pub(crate) fn next_record(rec: u8) -> Option<u8>
     ensures { MatchOption result (after rec ≡ []) (λ next. after rec ≡ next ∷ after next) }
@@ -36,7 +37,8 @@ pub(crate) fn next_record(rec: u8) -> Option<u8>
     }
 }
 
-/// Checks whether an envelope stores the datasets of a record: those of records 1 and 2.
+/// Checks whether an `Envelope` stores the datasets of this record, which is so for records 1 and
+/// 2.
 #[inline(always)]
 pub fn is_kept(rec: u8) -> bool
     ensures { result ≡ is_kept rec }

@@ -1,4 +1,4 @@
-//! The store of datasets: their octets in one buffer, and an entry for each.
+//! A store of datasets: their octets in one buffer, and an entry for each dataset.
 
 ghost use Rattle.std.specs.Prelude.{◌≡◌, ◌+◌, ◌≤◌, ◌<◌, ◌++◌, ◌∷◌, [], IfOk, length, vec_len, vec_capacity};
 ghost use Rattle.iim_fields.specs.StoreLayout.{ends_at, current_octets};
@@ -6,23 +6,23 @@ ghost use Rattle.iim_fields.specs.StoreLayout.{ends_at, current_octets};
 use iim_dataset::internals::ReservedOctets;
 use std::alloc::{AllocError, Global};
 
-/// A stored dataset: the numbers of its record and of itself, and where its octets end in the
-/// buffer. They begin where those of the entry before end.
+/// A stored dataset: its record, its number, and the offset at which its octets end in the buffer.
+/// The octets begin where those of the previous entry end.
 #[derive(Clone, Copy, Debug, PartialEq, Eq)]
 pub(crate) struct Entry {
     /// The number of the record.
     pub rec: u8,
-    /// The number of the dataset in its record.
+    /// The number of the dataset within its record.
     pub set: u8,
-    /// Where the octets of the dataset end in the buffer.
+    /// The offset at which the octets of the dataset end in the buffer.
     pub end: usize,
 }
 
-/// The octets of the stored datasets, joined, and after them those of the one in progress; and the
-/// entries.
+/// A store of datasets. The buffer has the octets of the stored datasets, followed by those of the
+/// dataset in progress.
 #[derive(Drop)]
 pub(crate) struct Store {
-    /// The octets of the stored datasets, joined, and then those of the one in progress.
+    /// The octets of the stored datasets, followed by those of the dataset in progress.
     pub octets: ReservedOctets,
     /// An entry for each stored dataset.
     pub entries: Vec<Entry>,
@@ -43,7 +43,7 @@ impl Store {
         Ok(store)
     }
 
-    /// Removes all datasets and octets. The capacity remains.
+    /// Removes all datasets and octets. The capacity is unchanged.
     pub(crate) fn empty(&mut self)
         ensures octets { self.new.octets.items ≡ [] }
         ensures entries { self.new.entries.items ≡ [] }
@@ -54,7 +54,7 @@ impl Store {
         self.entries.clear();
     }
 
-    /// Appends octets of the dataset in progress, for which there must be capacity.
+    /// Appends octets to the dataset in progress. The buffer must have capacity for them.
     #[inline(always)]
     pub(crate) fn take(&mut self, octets: &[u8])
         requires { length self.old.octets.items + length octets.now ≤ self.old.octets.room }
@@ -65,8 +65,8 @@ impl Store {
         self.octets.take(octets);
     }
 
-    /// Returns where the octets of the stored datasets end, and those of the dataset in progress
-    /// begin.
+    /// Returns the offset at which the octets of the stored datasets end and those of the dataset
+    /// in progress begin.
     #[inline(always)]
     fn end(&self) -> usize
         ensures { result ≡ ends_at 0 self.now.entries.items }
@@ -86,7 +86,7 @@ impl Store {
         &self.octets.as_slice()[self.end()..]
     }
 
-    /// Stores the dataset in progress, all of whose octets have been appended.
+    /// Stores the dataset in progress, whose octets have all been appended.
     #[inline(always)]
     pub(crate) fn keep(&mut self, rec: u8, set: u8)
         requires { vec_len self.old.entries < vec_capacity self.old.entries }

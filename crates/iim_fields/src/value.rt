@@ -1,4 +1,4 @@
-//! Checks of complete values.
+//! Checks complete values.
 
 ghost use Rattle.std.specs.Prelude.{◌≡◌, ◌==◌, ◌&&◌, ◌||◌, nat_le, if◌then◌else◌, IsTrue, is_none, Some, None, length, IfOk, IfErr, OnOk};
 ghost use Rattle.iim_tables.specs.Format.Rows.{row_of};
@@ -19,10 +19,10 @@ use iim_tables::records::{
 };
 use iim_tables::{Kind, Row, admits, number_of};
 
-/// The file format of a text for wire services, which the profile requires.
+/// The only value of 1:20 File Format that the profile allows: text for wire services.
 const WIRE_FORMAT: u64 = 2;
 
-/// Checks whether the dataset is not 1:20 File Format, or its value is 2.
+/// Checks whether a value of 1:20 File Format is 2. Returns `true` for every other dataset.
 #[inline(always)]
 fn has_file_format(head: Head, octets: &[u8]) -> bool
     requires { head.rec ≡ 1 → head.set ≡ 20 → length octets.now ≡ 2 }
@@ -49,8 +49,8 @@ fn value_fault(head: Head, row: &Row, octets: &[u8]) -> Option<FieldFault>
     None
 }
 
-/// Checks whether the octets are of the kind. Any octets are a binary number, so that kind needs no
-/// call.
+/// Checks whether the octets are a value of this kind. Every octet string is a binary number, so
+/// that kind needs no call.
 #[inline(always)]
 fn is_of_kind(kind: Kind, octets: &[u8]) -> bool
     ensures { result ≡ has_kind kind octets.now }
@@ -61,8 +61,8 @@ fn is_of_kind(kind: Kind, octets: &[u8]) -> bool
     }
 }
 
-/// Checks whether a value that is as long as its row allows has no fault: whether `value_fault`
-/// returns `None`.
+/// Checks whether a value has no fault, which is when `value_fault` returns `None`. The length of
+/// the value must be within the bounds of its row.
 #[inline(always)]
 pub(crate) fn is_value(head: Head, row: &Row, octets: &[u8]) -> bool
     requires row { row_of head.rec head.set ≡ Some row.now }
@@ -72,8 +72,8 @@ pub(crate) fn is_value(head: Head, row: &Row, octets: &[u8]) -> bool
     is_of_kind(row.kind, octets) && has_file_format(head, octets)
 }
 
-/// Checks whether a dataset of record 7 or 9 may have this number, encoded by as many octets as its
-/// head counts.
+/// Checks whether this number is a valid value of a dataset of record 7 or 9, encoded in as many
+/// octets as the head counts.
 #[inline(always)]
 pub(crate) fn is_number(head: Head, number: u64) -> bool
     ensures { result ≡ (if head.rec == 9 then head.set == 10 && nat_le number greatest_size
@@ -92,7 +92,7 @@ pub(crate) fn is_number(head: Head, number: u64) -> bool
     }
 }
 
-/// Returns the number that a value of record 7 or 9 encodes.
+/// Decodes the value of a dataset of record 7 or 9. Returns `None` for other records.
 #[inline(always)]
 fn encoded_number(head: Head, octets: &[u8]) -> Option<u64>
     requires { IsTrue (has_number_value head.rec) → IsInRange 1 size_octets (length octets.now) }
@@ -104,7 +104,7 @@ fn encoded_number(head: Head, octets: &[u8]) -> Option<u64>
     }
 }
 
-/// Returns the number that a complete value encodes, if its record is 7 or 9.
+/// Checks a complete value. Returns the encoded number if the record is 7 or 9.
 ///
 /// **Errors:** the first fault of the value.
 #[inline(always)]

@@ -1,4 +1,4 @@
-//! Commands over one of several files.
+//! Runs a command on one file after another.
 
 ghost use Rattle.std.specs.Prelude.{◌≡◌, ◌<◌, ◌⊎◌, ◌||◌, ℕ, IfOk, length, if◌then◌else◌, max};
 ghost use Rattle.iim_output.specs.Format.{fault_line, status_failed};
@@ -15,11 +15,11 @@ use iim_dataset::internals::ReservedOctets;
 use iim_dataset::{BLOCK, Source, Target, push_with_escapes, put};
 use std::alloc::{AllocError, Global};
 
-/// The result of a command over the files so far.
+/// The result of a command on the files so far.
 pub struct SoFar<W, E> {
-    /// The greatest exit status.
+    /// The greatest exit status so far.
     pub status: u8,
-    /// Whether a write failed. Then nothing more may be written.
+    /// Whether a write failed. If so, nothing more may be written.
     pub broken: bool,
     /// The output.
     pub output: W,
@@ -27,7 +27,7 @@ pub struct SoFar<W, E> {
     pub errors: E,
 }
 
-/// Returns the result of a command over no files.
+/// Returns the result of a command on no files.
 pub fn no_files<W, E>(output: W, errors: E) -> SoFar<W, E>
     ensures status { (result.status ≡ 0) }
     ensures targets { (result.output ≡ output) × (result.errors ≡ errors) }
@@ -40,7 +40,8 @@ pub fn no_files<W, E>(output: W, errors: E) -> SoFar<W, E>
     }
 }
 
-/// Returns the prefix of each line of a file's output: its escaped name, a colon and a space.
+/// Formats the prefix of each line of a file's output: the escaped name of the file, a colon and a
+/// space.
 fn prefix_of(alloc: Global, name: &str) -> Result<Vec<u8>, AllocError>
     ensures { IfOk result (λ prefix. prefix.items ≡ line_prefix name.now) }
 {
@@ -86,14 +87,14 @@ fn either(first: bool, second: bool) -> bool
     first || second
 }
 
-/// Returns the status, or that of a failure if a write failed.
+/// Returns the exit status, or the status of a failure if a write failed.
 fn status_after(status: u8, broken: bool) -> u8
     ensures { result ≡ (if broken then status_failed else status) }
 {
     if broken { FAILED } else { status }
 }
 
-/// Runs a job over a file, with a prefix before each line of its output and its errors.
+/// Runs a job on a file, with a prefix before each line of its output and of its error output.
 fn run_prefixed<R: Source + Drop, W: Target, E: Target>(
     alloc: Global,
     job: Job,
@@ -118,8 +119,8 @@ fn run_prefixed<R: Source + Drop, W: Target, E: Target>(
     }
 }
 
-/// The buffers for the lines of a file: their prefix, a block for the output and one for the
-/// errors.
+/// The buffers for the lines of a file: the prefix, a block for the output and a block for the
+/// error output.
 type Parts = (Vec<u8>, ReservedOctets, ReservedOctets);
 
 /// Allocates the buffers for the lines of a file.
@@ -133,7 +134,7 @@ fn allocate_parts(alloc: Global, name: &str) -> Result<Parts, AllocError>
     Ok((prefix, output, errors))
 }
 
-/// Runs a job over the file with this name.
+/// Runs a job on the file with this name.
 fn run_file<R: Source + Drop, W: Target, E: Target>(
     alloc: Global,
     name: &str,
@@ -155,7 +156,7 @@ fn run_file<R: Source + Drop, W: Target, E: Target>(
     }
 }
 
-/// Runs a job over the next file, which has this name. Returns the result for all files so far.
+/// Runs a job on the next file, which has this name. Returns the result for all files so far.
 pub fn run_next<R: Source + Drop, W: Target, E: Target>(
     alloc: Global,
     name: &str,
@@ -178,7 +179,7 @@ pub fn run_next<R: Source + Drop, W: Target, E: Target>(
     with_greater_status(ran, status)
 }
 
-/// Returns the result with the greater of two statuses.
+/// Returns the result with the greater of its status and `status`.
 fn with_greater_status<W, E>(so_far: SoFar<W, E>, status: u8) -> SoFar<W, E>
     ensures { result ≡ record so_far { status = max status so_far.status } }
 {
@@ -196,7 +197,7 @@ fn with_greater_status<W, E>(so_far: SoFar<W, E>, status: u8) -> SoFar<W, E>
     }
 }
 
-/// Prints a line to the errors, and sets the status of a failure.
+/// Prints a line to the error output, and sets the status of a failure.
 fn print_line<W, E: Target>(text: &[u8], so_far: SoFar<W, E>) -> SoFar<W, E>
     ensures told { LineIsPrinted text.now (E.state so_far.errors) (E.state result.errors) }
     ensures status { result.status ≡ status_failed }
@@ -218,7 +219,7 @@ fn print_line<W, E: Target>(text: &[u8], so_far: SoFar<W, E>) -> SoFar<W, E>
     }
 }
 
-/// Prints an error that belongs to no single file.
+/// Prints an error that does not concern one file.
 pub fn print_fault<W, E: Target>(fault: CommandFault, so_far: SoFar<W, E>) -> SoFar<W, E>
     ensures told { LineIsPrinted (fault_line fault) (E.state so_far.errors) (E.state result.errors) }
     ensures status { result.status ≡ status_failed }
@@ -227,7 +228,7 @@ pub fn print_fault<W, E: Target>(fault: CommandFault, so_far: SoFar<W, E>) -> So
     print_line(fault.line().as_bytes(), so_far)
 }
 
-/// Returns the line for a file that cannot be opened or, if `starved`, for which an allocation
+/// Formats the line for a file that cannot be opened or, if `starved`, for which an allocation
 /// failed.
 fn cannot_open_line(alloc: Global, name: &str, starved: bool) -> Result<Vec<u8>, AllocError>
     ensures { IfOk result (λ line. line.items ≡ cannot_open_line name.now starved) }
@@ -243,8 +244,8 @@ fn cannot_open_line(alloc: Global, name: &str, starved: bool) -> Result<Vec<u8>,
     Ok(line)
 }
 
-/// Prints that the file with this name cannot be opened or, if `starved`, that an allocation
-/// failed for it.
+/// Prints that the file with this name cannot be opened or, if `starved`, that an allocation for it
+/// failed.
 pub fn print_cannot_open<W, E: Target>(
     alloc: Global,
     name: &str,
@@ -262,7 +263,7 @@ pub fn print_cannot_open<W, E: Target>(
     }
 }
 
-/// Returns the prefix of the line for a file whose name is not UTF-8.
+/// Formats the prefix of the line for a file whose name is not UTF-8.
 fn non_utf8_prefix(alloc: Global, name: &[u8]) -> Result<Vec<u8>, AllocError>
     ensures { IfOk result (λ prefix. prefix.items ≡ non_utf8_prefix name.now) }
 {
@@ -272,7 +273,7 @@ fn non_utf8_prefix(alloc: Global, name: &[u8]) -> Result<Vec<u8>, AllocError>
     Ok(prefix)
 }
 
-/// Returns the line for a file that cannot be opened and whose name is not UTF-8.
+/// Formats the line for a file that cannot be opened and whose name is not UTF-8.
 fn non_utf8_line(alloc: Global, name: &[u8]) -> Result<Vec<u8>, AllocError>
     ensures { IfOk result (λ line. line.items ≡ non_utf8_line name.now) }
 {

@@ -1,10 +1,10 @@
-//! Commands over more than one file.
+//! Runs commands on more than one file.
 //!
-//! [`file::run_next`] runs a job over one file of several, and [`names::Names`] reads a list of
-//! their names. [`prefixed::Prefixed`] is a target that begins each line with a prefix.
+//! [`file::run_next`] runs a job on one of several files, and [`names::Names`] reads a list of file
+//! names. [`prefixed::Prefixed`] is a target that begins each line with a prefix.
 //!
-//! Depends on `iim_commands`, whose `run` it calls for each file, and on the crates below it. The
-//! command `iimwire` depends on it, and opens the files.
+//! Depends on `iim_commands`, whose `run` it calls for each file, and on the crates below. The
+//! program `iimwire` depends on this crate, and opens the files.
 #![tactic(auto)]
 
 pub mod file;

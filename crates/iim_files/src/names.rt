@@ -6,11 +6,12 @@ use iim_commands::fault::CommandFault;
 use iim_dataset::octets::LF;
 use iim_dataset::{BLOCK, Source, take};
 
-/// The octet that ends a name, if LF does not.
+/// The octet that ends a name if the names are not separated by LF.
 const NUL: u8 = 0;
 
-/// Reads the names of a list, one after the other. Each name ends in LF, or each in NUL: the first
-/// of these in the list decides. The last name may end with the list. Empty names are skipped.
+/// A reader of a list of file names. Either each name ends in LF, or each name ends in NUL: the
+/// first LF or NUL of the list decides which. The last name may end with the list. Empty names are
+/// skipped.
 #[derive(Drop)]
 pub struct Names<R> {
     /// The reader of the list.
@@ -21,13 +22,13 @@ pub struct Names<R> {
     at: usize,
     /// The number of buffered octets.
     end: usize,
-    /// The octet that ends a name, once a name has ended.
+    /// The octet that ends a name, or `None` before the end of the first name.
     separator: Option<u8>,
     ghost within: { at ≤ end × end ≤ 4096 },
 }
 
 impl<R: Source> Names<R> {
-    /// Creates a list from which nothing was read.
+    /// Creates a list of which nothing was read yet.
     pub fn new(reader: R) -> Names<R> {
         Names {
             reader,
@@ -63,7 +64,7 @@ impl<R: Source> Names<R> {
         Ok(Some(octet))
     }
 
-    /// Checks whether an octet ends a name. The first LF or NUL decides which of the two ends the
+    /// Returns whether an octet ends a name. The first LF or NUL decides which of the two ends all
     /// names.
     fn ends_name(&mut self, octet: u8) -> bool {
         match self.separator {
@@ -78,7 +79,7 @@ impl<R: Source> Names<R> {
         }
     }
 
-    /// Replaces `name` by the next name. Returns whether there is one.
+    /// Replaces `name` with the next name. Returns whether there is a next name.
     pub fn next_name(&mut self, name: &mut Vec<u8>) -> Result<bool, CommandFault>
         ensures { IfOk result (λ more. more ≡ true → 0 < length name.new.items) }
     {

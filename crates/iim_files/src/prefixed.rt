@@ -7,9 +7,9 @@ use iim_dataset::internals::ReservedOctets;
 use iim_dataset::octets::LF;
 use iim_dataset::{IoFault, Target, put};
 
-/// Writes lines to a target, each with a prefix. Contracts see it as a target of the text alone,
-/// after the earlier octets of the target, which are preceded by their number. After a failed
-/// write it writes nothing more.
+/// A target that writes each line to another target, with a prefix. Its model in contracts is a
+/// target that accepts the text without the prefixes, after the octets of the other target, which
+/// are preceded by their number. After a failed write it writes nothing more.
 #[derive(Drop)]
 pub struct Prefixed<'p, W> {
     /// The target of the lines.
@@ -18,28 +18,29 @@ pub struct Prefixed<'p, W> {
     prefix: &'p [u8],
     /// A buffer in which lines are built.
     block: ReservedOctets,
-    /// Whether the next octet begins a line.
+    /// Whether the next octet is the first of a line.
     fresh: bool,
     /// Whether a write failed.
     broken: bool,
-    /// The number of octets of a prefix that were written, if a write failed inside it.
+    /// The number of octets of a prefix that were written, if a write failed inside that prefix.
     cut: usize,
-    /// The number of octets written since the value was created.
+    /// The number of octets of text written since the value was created.
     count: u64,
     /// The number of failed writes.
     failures: u64,
     ghost room: { length prefix.now < block.room },
 }
 
-/// Returns the prefix if a line begins, otherwise nothing.
+/// Returns the prefix if `fresh` is true, otherwise an empty slice.
 fn front_of(prefix: &[u8], fresh: bool) -> &[u8]
     ensures { result.now ≡ front prefix.now fresh }
 {
     if fresh { prefix } else { &[] }
 }
 
-/// Appends a chunk to an empty block, each line with its prefix, as far as it fits. Returns how
-/// many octets of the chunk were appended, and whether a line begins after them.
+/// Appends to an empty block as much of a chunk as fits, each line with its prefix. Returns the
+/// number of octets of the chunk that were appended, and whether the next octet is the first of a
+/// line.
 fn append_prefixed(
     block: &mut ReservedOctets,
     prefix: &[u8],
@@ -69,9 +70,9 @@ fn append_prefixed(
     (taken, begins)
 }
 
-/// Finds how much of a chunk is within its first `out` octets with prefixes. Returns the number of
-/// complete octets of the chunk, the number of octets of a prefix after them, and whether a line
-/// begins after the complete ones.
+/// Determines how much of a chunk the first `out` octets of its prefixed form contain. Returns the
+/// number of octets of the chunk in them, the number of octets of an incomplete prefix at their
+/// end, and whether the next octet is the first of a line.
 fn count_complete(prefix: &[u8], fresh: bool, piece: &[u8], out: usize) -> (usize, usize, bool)
     requires { out ≤ length (prefixed prefix.now fresh piece.now) }
     ensures within { result.0 ≤ length piece.now × result.1 ≤ length prefix.now }
@@ -101,8 +102,8 @@ impl<'p, W: Target> Prefixed<'p, W> {
     ghost use Rattle.iim_dataset.specs.States.Devices.{WriteAccepted, CountedFault};
     ghost use Rattle.iim_files.specs.States.Seen.{empty_prefixed_device, seen, IsFinishedOutput, IsReturnedOutput, IsSameButFailures};
 
-    /// Creates a target to which nothing was written. `block` must have the capacity for the
-    /// prefix and one more octet.
+    /// Creates a target to which nothing was written. The capacity of `block` must be greater than
+    /// the length of the prefix.
     pub fn new(writer: W, prefix: &'p [u8], block: ReservedOctets) -> Prefixed<'p, W>
         requires { length prefix.now < block.room }
         ensures { seen W.state result ≡ empty_prefixed_device prefix.entry.now (W.state writer) }
@@ -119,7 +120,7 @@ impl<'p, W: Target> Prefixed<'p, W> {
         }
     }
 
-    /// Returns the target, and whether a write failed.
+    /// Returns the inner target, and whether a write failed.
     fn into_parts(self) -> (W, bool)
         ensures parts { IsReturnedOutput (seen W.state self.entry).octets self.entry.fresh
             (W.state result.0).octets result.1 }
@@ -138,8 +139,8 @@ impl<'p, W: Target> Prefixed<'p, W> {
         (writer, broken)
     }
 
-    /// Ends the last line with LF, if it is not ended. Returns the target, and whether a write
-    /// failed.
+    /// Ends the last line with LF, unless it has ended. Returns the inner target, and whether a
+    /// write failed.
     pub fn finish(self) -> (W, bool)
         ensures { IsFinishedOutput (seen W.state self.entry).octets (W.state result.0).octets result.1 }
     {
@@ -166,7 +167,7 @@ impl<'p, W: Target> Prefixed<'p, W> {
         IoFault::Failed
     }
 
-    /// Writes octets of a non-empty chunk. Returns how many were written.
+    /// Writes octets of a non-empty chunk. Returns the number of octets written.
     fn write_some(&mut self, piece: &[u8]) -> Result<usize, IoFault>
         requires { 0 < length piece.now }
         ensures ok { IfOk result (WriteAccepted (seen W.state self.old) (seen W.state self.new) piece.now) }

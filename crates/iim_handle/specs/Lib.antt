@@ -1,4 +1,8 @@
--- What the calls over a handle return, and the state that follows.
+-- The results of calls with a handle, and the state of the handle afterwards.
 pub mod Format
--- What a handle owns.
+-- What the owner in a handle owns.
 pub mod Owners
+-- What the readers return.
+pub mod States
+-- What remains of an iteration.
+pub mod Walks

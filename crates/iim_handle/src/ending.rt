@@ -1,4 +1,4 @@
-//! The end of the input, and the end of a handle.
+//! The end of the input, and closing a handle.
 
 ghost use Rattle.std.specs.Prelude.{◌≡◌, None};
 ghost use Rattle.iim_handle.specs.Format.{UnpackerHasEnd, HandleHasEnd};
@@ -11,7 +11,7 @@ use iim_c::status::{DONE, REFUSED, TRUNCATED};
 use iim_unpack::Unpacker;
 use std::alloc::Global;
 
-/// Returns what it means for an unpacker that the input ends.
+/// Returns the answer for an input that ends in the state of an unpacker.
 fn end_unpacker(unpacker: &Unpacker) -> IimAnswer
     ensures { UnpackerHasEnd unpacker.now result }
 {
@@ -25,10 +25,11 @@ fn end_unpacker(unpacker: &Unpacker) -> IimAnswer
     }
 }
 
-/// Returns what it means that the input ends here.
+/// Checks whether the input may end here.
 ///
-/// `answer.status` is `DONE` after the end of an envelope, `TRUNCATED`, `REFUSED` with `cause` 61 if
-/// an octet was rejected before, or `BAD_HANDLE` if the handle is closed. The handle stays as it is.
+/// `answer.status` is `DONE` after the end of an envelope, `TRUNCATED` inside an envelope,
+/// `REFUSED` with `cause` 61 if an octet was rejected earlier, and `BAD_HANDLE` if the handle is
+/// closed. The handle is unchanged.
 pub fn iim_unpacker_end(alloc: Global, handle: &mut IimUnpacker, answer: &mut IimAnswer)
     ensures { HandleHasEnd handle.old.owner.home handle.new.owner.home answer.new }
 {
@@ -41,7 +42,7 @@ pub fn iim_unpacker_end(alloc: Global, handle: &mut IimUnpacker, answer: &mut Ii
     put_back(handle, unpacker);
 }
 
-/// Closes a handle, and frees its memory. A closed handle stays closed.
+/// Closes a handle, and frees its memory. Closing a closed handle has no effect.
 pub fn iim_unpacker_close(alloc: Global, handle: &mut IimUnpacker)
     ensures { handle.new.owner.home ≡ None }
 {

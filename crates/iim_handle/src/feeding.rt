@@ -11,7 +11,7 @@ use iim_dataset::laws::dataset_laws;
 use iim_unpack::Unpacker;
 use std::alloc::Global;
 
-/// Feeds a piece to an unpacker, and writes the text that it delivers into the buffer.
+/// Feeds a chunk to an unpacker, and writes the text that the unpacker delivers into the buffer.
 fn feed_unpacker(unpacker: &mut Unpacker, piece: &[u8], text_out: &mut [u8]) -> IimAnswer
     ensures { UnpackerIsFed unpacker.old piece.now text_out.new unpacker.new result }
 {
@@ -34,12 +34,13 @@ fn feed_unpacker(unpacker: &mut Unpacker, piece: &[u8], text_out: &mut [u8]) -> 
     }
 }
 
-/// Feeds the next octets of the envelope, up to its end, and writes the text of the story that they
-/// contain: its lines, joined by LF. The buffer must have room for as many octets as the piece has.
+/// Feeds the next octets of the envelope, up to its end, and writes the text of the story in them:
+/// its lines, joined by LF. The buffer must be at least as long as the chunk.
 ///
-/// `answer.status` is `MORE`, `DONE` at the end of the envelope, after which no octet is used,
-/// `REFUSED` (with `cause` 61 if an octet was rejected before), `SHORT`, or `BAD_HANDLE` if the
-/// handle is closed; the last two leave everything as it is. It allocates nothing.
+/// `answer.status` is `MORE`; `DONE` at the end of the envelope, after which no octet is consumed;
+/// `REFUSED`, with `cause` 61 if an octet was rejected earlier; `SHORT` if the buffer is too short;
+/// or `BAD_HANDLE` if the handle is closed. After `SHORT` and `BAD_HANDLE` nothing has changed.
+/// Allocates nothing.
 pub fn iim_unpacker_feed(
     alloc: Global,
     handle: &mut IimUnpacker,

@@ -1,4 +1,4 @@
-//! The handle, and how a call takes the unpacker out of it and puts it back.
+//! The handle. Each call takes the unpacker out of it, and puts the unpacker back.
 
 ghost use Rattle.std.specs.Prelude.{◌≡◌, ◌⊎◌, IsSome, is_some, Some, None};
 ghost use Rattle.iim_c.specs.Format.Statuses as status;
@@ -10,17 +10,17 @@ use iim_unpack::Unpacker;
 use std::alloc::Global;
 use std::mem::replace;
 
-/// An unpacker, for C. With all members zero it is closed, and owns nothing.
+/// An unpacker for C. A handle in which all fields are zero is closed and owns nothing.
 #[repr(C)]
 pub struct IimUnpacker {
-    /// The owner of the unpacker, or of nothing.
+    /// The owner of the unpacker, if the handle is open.
     pub owner: Owner,
-    /// Whether the handle is open: whether it owns an unpacker.
+    /// Whether the handle is open, which means that it owns an unpacker.
     pub is_open: bool,
     ghost owned: { is_open ≡ is_some owner.home },
 }
 
-/// Takes the unpacker out of an open handle, which is closed then.
+/// Takes the unpacker out of an open handle. The handle is then closed.
 pub(crate) fn take_out(alloc: Global, handle: &mut IimUnpacker) -> Box<Unpacker>
     requires { IsSome handle.old.owner.home }
     ensures unpacker { Some result.value ≡ handle.old.owner.home }
@@ -34,7 +34,7 @@ pub(crate) fn take_out(alloc: Global, handle: &mut IimUnpacker) -> Box<Unpacker>
     owner.into_parts().into_box()
 }
 
-/// Puts an unpacker into a closed handle, which is open then.
+/// Puts an unpacker into a closed handle. The handle is then open.
 pub(crate) fn put_back(handle: &mut IimUnpacker, unpacker: Box<Unpacker>)
     requires { handle.old.owner.home ≡ None }
     ensures { handle.new.owner.home ≡ Some unpacker.value }
@@ -47,8 +47,8 @@ pub(crate) fn put_back(handle: &mut IimUnpacker, unpacker: Box<Unpacker>)
     owner.end();
 }
 
-/// Puts a new unpacker into a closed handle. Returns `DONE`, or `NO_MEMORY` if there is no memory
-/// for it, and the handle stays closed.
+/// Puts a new unpacker into a closed handle. Returns `DONE`, or `NO_MEMORY` if the allocation
+/// fails, in which case the handle is still closed.
 pub(crate) fn put_new(alloc: Global, handle: &mut IimUnpacker, unpacker: Unpacker) -> u8
     requires { handle.old.owner.home ≡ None }
     ensures { ((handle.new.owner.home ≡ Some unpacker) × (result ≡ status.done))

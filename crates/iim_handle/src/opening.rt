@@ -1,4 +1,4 @@
-//! Calls that begin an envelope.
+//! Opening and resetting a handle.
 
 ghost use Rattle.iim_c.specs.Format.Checking.{limits_for};
 ghost use Rattle.iim_handle.specs.Format.{HandleIsOpened, HandleIsReset};
@@ -10,10 +10,11 @@ use iim_c::status::{DONE, NO_MEMORY};
 use iim_unpack::Unpacker;
 use std::alloc::Global;
 
-/// Opens a closed handle at the beginning of an envelope, with memory for what the limits allow.
+/// Opens a closed handle at the beginning of an envelope. Allocates all the memory that the limits
+/// allow.
 ///
-/// Returns `DONE`; `NO_MEMORY`, and the handle stays closed; or `BAD_HANDLE` if it is open already,
-/// and stays as it is.
+/// Returns `DONE`; `NO_MEMORY` if the allocation fails, in which case the handle is still closed;
+/// or `BAD_HANDLE` if the handle is already open, in which case it is unchanged.
 pub fn iim_unpacker_open(alloc: Global, limits: IimLimits, handle: &mut IimUnpacker) -> u8
     ensures { HandleIsOpened (limits_for limits) handle.old.owner.home handle.new.owner.home result }
 {
@@ -26,9 +27,9 @@ pub fn iim_unpacker_open(alloc: Global, limits: IimLimits, handle: &mut IimUnpac
     put_new(alloc, handle, unpacker)
 }
 
-/// Begins a new envelope, whatever was fed before, with the same limits and memory.
+/// Resets a handle to the beginning of a new envelope, with the same limits and memory.
 ///
-/// Returns `DONE`, or `BAD_HANDLE` if the handle is closed. It allocates nothing.
+/// Returns `DONE`, or `BAD_HANDLE` if the handle is closed. Allocates nothing.
 pub fn iim_unpacker_reset(alloc: Global, handle: &mut IimUnpacker) -> u8
     ensures { HandleIsReset handle.old.owner.home handle.new.owner.home result }
 {

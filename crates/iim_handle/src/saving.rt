@@ -1,4 +1,4 @@
-//! Saving the state of a handle, and opening one in a saved state.
+//! Saving the state of a handle, and opening a handle in a saved state.
 
 ghost use Rattle.iim_c.specs.Format.Checking.{limits_for};
 ghost use Rattle.iim_handle.specs.Format.{HandleIsRestored, HandleIsSaved, UnpackerIsSaved};
@@ -11,8 +11,8 @@ use iim_c::{IimAnswer, IimLimits};
 use iim_unpack::Unpacker;
 use std::alloc::Global;
 
-/// Writes the ticket of an unpacker into a buffer, if it has room for it.
-fn save_unpacker(unpacker: &Unpacker, ticket_out: &mut [u8]) -> IimAnswer
+/// Writes the ticket of an unpacker into a buffer, if the buffer is long enough.
+pub(crate) fn save_unpacker(unpacker: &Unpacker, ticket_out: &mut [u8]) -> IimAnswer
     ensures { UnpackerIsSaved unpacker.now ticket_out.new result }
 {
     let Ok(ticket) = unpacker.save_at(ticket_out) else {
@@ -31,12 +31,12 @@ fn save_unpacker(unpacker: &Unpacker, ticket_out: &mut [u8]) -> IimAnswer
     }
 }
 
-/// Writes the ticket of the present state, from which [`iim_unpacker_restore`] or
+/// Writes the ticket of the current state, from which [`iim_unpacker_restore`] or
 /// [`iim_feed`](iim_c::iim_feed) continues.
 ///
-/// `answer.status` is `DONE`, `SHORT` with the length that the ticket has, `FAILED` if an octet was
-/// rejected before, or `BAD_HANDLE` if the handle is closed. It allocates nothing, and the handle
-/// stays as it is.
+/// `answer.status` is `DONE`; `SHORT` with the length of the ticket if the buffer is too short;
+/// `FAILED` if an octet was rejected earlier; or `BAD_HANDLE` if the handle is closed. The handle
+/// is unchanged. Allocates nothing.
 pub fn iim_unpacker_save(
     alloc: Global,
     handle: &mut IimUnpacker,
@@ -54,10 +54,11 @@ pub fn iim_unpacker_save(
     put_back(handle, unpacker);
 }
 
-/// Opens a closed handle in the state of a ticket, after `at` octets of the envelope.
+/// Opens a closed handle in the state of a ticket. `at` is the number of octets of the envelope
+/// that were consumed before.
 ///
-/// `answer.status` is `DONE`; `BAD_TICKET` with a cause, or `NO_MEMORY`, and the handle stays
-/// closed; or `BAD_HANDLE` if it is open already, and stays as it is.
+/// `answer.status` is `DONE`; `BAD_TICKET` with a cause, or `NO_MEMORY`, in which case the handle
+/// is still closed; or `BAD_HANDLE` if the handle is already open, in which case it is unchanged.
 pub fn iim_unpacker_restore(
     alloc: Global,
     limits: IimLimits,

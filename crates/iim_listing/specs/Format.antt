@@ -1,4 +1,5 @@
--- What the commands write for an input: `check` and `show` a listing, `story` the texts.
+-- The output of the commands for an input: `check` and `show` write a listing, and `story` writes
+-- the texts.
 use Rattle.std.specs.Prelude.{◌≡◌, ℕ, ◌+◌, length, List, [], ◌∷◌, ◌++◌, codes, decimal, ◌⊎◌, ◌≤◌, map, take}
 use Rattle.std.specs.{List.flat_map, List.join_with_byte, Io.KnownBytes.Appends}
 use Rattle.wire_story.specs.Format.Texts.{StoryEvent, delivered, octet_for}
@@ -14,7 +15,7 @@ use Rattle.wire_story.specs.States.Reading.{TargetFailed}
 pub use Rattle.iim_output.specs.declared.fault.CommandFault.{CommandFault}
 pub use Rattle.iim_output.specs.declared.fault.CommandFault.TheVariants.{CannotRead, CannotWrite, OutOfMemory}
 
--- a number of octets as it is counted: capped at the greatest number of 64 bits
+-- a length as a counter of 64 bits has it, which saturates at the greatest number
 abbrev pub told : ℕ → ℕ
 told n = sum_capped 0 n
 
@@ -26,7 +27,7 @@ EventsAreDelivered octets more = (text : List ℕ) × IsTextOf octets text × (m
 abbrev pub check_line_of : ℕ → Listed → List ℕ
 check_line_of number e = accepted_line number (told (length e.octets))
 
--- the texts of envelopes in their order, numbered from n
+-- the texts of envelopes, in order, numbered from n
 abbrev pub texts_from : (ℕ → Listed → List ℕ) → ℕ → List Listed → List ℕ
 texts_from text n [] = []
 texts_from text n (e ∷ es) = text n e ++ texts_from text (n + 1) es
@@ -46,7 +47,7 @@ abbrev pub listing_status : InputEnding → ℕ
 listing_status Whole = status_accepted
 listing_status _ = status_refused
 
--- the first line
+-- the first line of `show` for an envelope, with its number
 abbrev pub number_line : ℕ → List ℕ
 number_line number = codes "envelope " ++ (decimal number ++ codes "\n")
 
@@ -61,20 +62,20 @@ abbrev pub show_text_of : ℕ → Listed → List ℕ
 show_text_of number e = number_line number
     ++ (flat_map field_line e.value.fields ++ (message_line e.value.head ++ (trailer_line e.value.trailer ++ sizes_line e.value.sizes)))
 
--- The listing of the whole input is written, and this is its status. (The input before and after,
--- then the output.)
+-- The listing of the whole input is written, and this is its status. (The arguments are the input
+-- before and after, and then the output.)
 abbrev pub WritesListing : (ℕ → Listed → List ℕ) → Device → Device → Device → Device → ℕ → Type 0
 WritesListing text source rest old new status = (input : List ℕ) × (envelopes : List Listed) × (ending : InputEnding) × HasOctets source.octets input × CountedNoFailure source rest
     × IsListing limits input envelopes ending × (status ≡ listing_status ending) × WroteAllOf old new (listing text envelopes ending)
 
--- The text is that of the envelopes, possibly with the last line.
+-- The text is that of the envelopes, possibly followed by the last line.
 abbrev pub IsListingText : (ℕ → Listed → List ℕ) → List Listed → List ℕ → List ℕ → Type 0
 IsListingText text envelopes rest words = (words ≡ texts_from text 1 envelopes)
     ⊎ ((ending : InputEnding) × HasEnd limits (length envelopes) rest ending × (words ≡ listing text envelopes ending))
 
--- Why the listing is not complete. A read failed after envelopes and a viable prefix: all these
--- envelopes are listed. Or a write failed inside the listing. Or an allocation failed: some of the
--- envelopes that were read are listed.
+-- Why the listing is incomplete. A read failed after envelopes and a viable prefix, and all these
+-- envelopes are listed; or a write failed inside the listing; or an allocation failed, and some of
+-- the envelopes that were read are listed.
 abbrev pub ListingFails : (ℕ → Listed → List ℕ) → Device → Device → Device → Device → CommandFault → Type 0
 ListingFails text source rest old new CannotRead = (input : List ℕ) × (envelopes : List Listed) × (begun : List ℕ) × (fault : IoFault)
     × SplitsInto limits input envelopes begun × IsIncomplete limits begun × ReadFailedAfter source rest input fault × WroteAllOf old new (texts_from text 1 envelopes)
@@ -83,34 +84,35 @@ ListingFails text source rest old new CannotWrite = (input : List ℕ) × (envel
 ListingFails text source rest old new OutOfMemory = (input : List ℕ) × (envelopes : List Listed) × (begun : List ℕ)
     × SplitsInto limits input envelopes begun × ReadsGave source rest input × WroteAllOf old new (texts_from text 1 envelopes)
 
--- ---- What `story` writes: the text of each envelope to the output, and the lines of `check` to
--- the errors.
+-- ---- The output of `story`: the text of each envelope in the output, and the lines of `check` in
+-- the error output.
 
 -- the text of an envelope: its lines, joined by LF
 abbrev pub text_of : Listed → List ℕ
 text_of e = join_with_byte lf e.value.lines
 
--- the text of an envelope, and an LF
+-- the text of an envelope, followed by an LF
 abbrev pub story_of : ℕ → Listed → List ℕ
 story_of number e = text_of e ++ (lf ∷ [])
 
--- the stories of all envelopes, in their order
+-- the stories of all envelopes, in order
 abbrev pub stories : List Listed → List ℕ
 stories envelopes = texts_from story_of 1 envelopes
 
--- The words are the text delivered for the octets, with each line end as LF.
+-- The text is delivered for the octets, with each line end as LF.
 abbrev pub TextIsDelivered : List ℕ → List ℕ → Type 0
 TextIsDelivered octets words = (more : List StoryEvent) × EventsAreDelivered octets more × (words ≡ map octet_for more)
 
--- The text of the octets after the envelopes: for a refusal the text before the rejected octet,
--- and for one envelope too many its text, without an LF.
+-- The text of the octets after the envelopes: for a refusal, the text before the rejected octet;
+-- for an envelope over the limit, its text without an LF.
 abbrev pub WritesTextAfter : List ℕ → InputEnding → List ℕ → Type 0
 WritesTextAfter rest Whole words = words ≡ []
 WritesTextAfter rest (RefusedBy refusal) words = (k : ℕ) × IsRefusedAfter limits rest k refusal × TextIsDelivered (take k rest) words
 WritesTextAfter rest TooMany words = (e : Listed) × IsListed limits e × (more : List ℕ) × (rest ≡ e.octets ++ more) × (words ≡ text_of e)
 
--- The whole input is written: its stories to the output, and the lines of `check` to the errors.
--- (The input before and after, then the output, then the errors.)
+-- Everything is written: the stories of the input to the output, and the lines of `check` to the
+-- error output. (The arguments are the input, the output and the error output, each before and
+-- after.)
 abbrev pub WritesStories : Device → Device → Device → Device → Device → Device → ℕ → Type 0
 WritesStories source rest old new errors_old errors_new status =
     (input : List ℕ) × (envelopes : List Listed) × (ending : InputEnding) × (words : List ℕ) × HasOctets source.octets input × CountedNoFailure source rest
@@ -119,24 +121,25 @@ WritesStories source rest old new errors_old errors_new status =
 
 -- ---- where an error occurs
 
--- A write to the output failed after these stories, inside the text of the octets. The words are
--- written; the text of the first k octets begins with them. If these are all octets, and all of
--- their text is written, then they are an envelope, and the write of the LF after its text failed.
+-- A write to the output failed after these stories, inside the text of the following octets.
+-- `words` is written, and the text of the first k octets begins with it. If these are all octets,
+-- and all of their text is written, they are an envelope, and the write of the LF after its text
+-- failed.
 abbrev pub TextWriteFails : Device → Device → List Listed → List ℕ → Type 0
 TextWriteFails old new envelopes octets = (k : ℕ) × (words : List ℕ) × (rest : List ℕ) × (k ≤ length octets)
     × (k ≡ length octets → rest ≡ [] → (e : Listed) × IsListed limits e × (e.octets ≡ octets))
     × TextIsDelivered (take k octets) (words ++ rest) × Appends old.octets new.octets (stories envelopes ++ words) × TargetFailed old new
 
--- Of the envelopes whose stories are written, the lines of the first ones are written to the
--- errors, each completely. (All envelopes that ended before the last read are among them: nothing
--- is buffered at a read. That is the condition of `Input::next_piece`, and not part of this
--- definition.)
+-- Of the envelopes whose stories are written, the lines of the first ones are written to the error
+-- output, all of them complete. (They include all envelopes that ended before the last read, since
+-- nothing is buffered at a read. That is the precondition of `Input::next_piece`, and not part of
+-- this definition.)
 abbrev pub WritesFirstLines : Device → Device → List Listed → Type 0
 WritesFirstLines errors_old errors_new envelopes = (front : List Listed) × (others : List Listed) × (envelopes ≡ front ++ others)
     × WroteAllOf errors_old errors_new (texts_from check_line_of 1 front)
 
--- A write to the errors failed inside these lines, after these words, which are the text of the
--- first k octets after the envelopes; or the lines include the one for what follows the envelopes.
+-- A write to the error output failed inside these lines. Before it the text of the first k octets
+-- after the envelopes was written; or the lines include the line for what follows the envelopes.
 abbrev pub LinesFollowText : List Listed → List ℕ → List ℕ → List ℕ → Type 0
 LinesFollowText envelopes rest told words = ((told ≡ texts_from check_line_of 1 envelopes) × (k : ℕ) × TextIsDelivered (take k rest) words)
     ⊎ ((ending : InputEnding) × HasEnd limits (length envelopes) rest ending × WritesTextAfter rest ending words × (told ≡ listing check_line_of envelopes ending))
@@ -145,11 +148,12 @@ abbrev pub LineWriteFails : Device → Device → Device → Device → List Lis
 LineWriteFails old new errors_old errors_new envelopes rest = (told : List ℕ) × (words : List ℕ) × (n : ℕ) × LinesFollowText envelopes rest told words
     × WroteAllOf old new (stories envelopes ++ words) × WroteOnlyPrefixOf errors_old errors_new told n
 
--- Why the output is not complete. A read failed after envelopes and a viable prefix. Or a write to
--- the output failed inside a story, possibly that of an earlier envelope than the last one read:
--- then the buffered lines are lost, and no line is written before its story. Or a write to the
--- errors failed inside the lines, when all stories were written. Or an allocation failed: the
--- stories of some of the envelopes are written, and the text of the first k octets after them.
+-- Why the output is incomplete. A read failed after envelopes and a viable prefix. Or a write to
+-- the output failed inside a story, which may be that of an earlier envelope than the last one
+-- read: then the buffered lines are lost, and no line is written before its story. Or a write to
+-- the error output failed inside the lines, after all stories were written. Or an allocation
+-- failed: the stories of some of the envelopes are written, and the text of the first k octets
+-- after them.
 abbrev pub StoriesFail : Device → Device → Device → Device → Device → Device → CommandFault → Type 0
 StoriesFail source rest old new errors_old errors_new CannotRead =
     (input : List ℕ) × (envelopes : List Listed) × (begun : List ℕ) × (fault : IoFault) × (words : List ℕ)

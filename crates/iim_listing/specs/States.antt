@@ -12,7 +12,7 @@ use Rattle.iim_listing.specs.Format.{told, EventsAreDelivered, CommandFault, Can
 use Rattle.iim_listing.specs.declared.coming.Next.{Next}
 use Rattle.iim_listing.specs.declared.coming.Next.TheVariants as next
 
--- An envelope was read, the unpacker is done with it, and its text was passed to the sink.
+-- An envelope was read, the unpacker has completed it, and its text was passed to the sink.
 pub record EnvelopeIsRead {S : Type 0} (goes : S → List StoryEvent → S → Type 0) (old new : Device) (u : Unpacking) (a b : S) (octets : ℕ) : Type 0 where
   pub envelope : Listed
   pub is : IsListed limits envelope
@@ -23,8 +23,8 @@ pub record EnvelopeIsRead {S : Type 0} (goes : S → List StoryEvent → S → T
   pub came : ReadsInput goes old new a b envelope.octets more
   pub delivered : EventsAreDelivered envelope.octets more
 
--- Octets were read that are rejected, and the text of those before the rejected one was passed to
--- the sink.
+-- The octets that were read are rejected, and the text of those before the rejected one was passed
+-- to the sink.
 pub record RefusalIsRead {S : Type 0} (goes : S → List StoryEvent → S → Type 0) (old new : Device) (a b : S) (e : Refusal) : Type 0 where
   pub octets : List ℕ
   pub more : List StoryEvent
@@ -34,7 +34,7 @@ pub record RefusalIsRead {S : Type 0} (goes : S → List StoryEvent → S → Ty
   pub at_end : k ≡ length octets → IsAtEnd new.octets
   pub delivered : EventsAreDelivered (take k octets) more
 
--- Octets were read, of which the sink consumed the text of the first k and then stopped.
+-- Octets were read, and the sink stopped after it had received the text of the first k of them.
 pub record SinkStops {S : Type 0} (goes : S → List StoryEvent → S → Type 0) (failures : S → ℕ) (old new : Device) (a b : S) : Type 0 where
   pub octets : List ℕ
   pub more : List StoryEvent
@@ -65,9 +65,9 @@ pub record FlushFailsInside {S : Type 0} (goes : S → List StoryEvent → S →
   pub delivered : EventsAreDelivered octets more
   pub holds_back : write_failed told b
 
--- The next item, or why there is no item; nothing is allocated. (First: when the buffer of a sink
--- is empty, and how a failed flush changes the sink. Then the input and the sink, before and
--- after; after, also the unpacker.)
+-- The next item, or the reason why there is none. Nothing is allocated. (The arguments are the
+-- condition that the buffer of a sink is empty, the effect of a failed flush on the sink, the input
+-- and the sink, before and after, and the unpacker afterwards.)
 abbrev pub IsNextItem : {S : Type 0} → (S → List StoryEvent → S → Type 0) → (S → ℕ) → (S → Type 0) → (S → S → Type 0) → Device × S
     → Device × Unpacking × S → Result Next CommandFault → Type 0
 IsNextItem goes failures is_flushed write_failed (old, a) (new, u, b) (Ok (next.Envelope octets)) = EnvelopeIsRead goes old new u a b octets
@@ -82,7 +82,8 @@ abbrev pub CountsFailuresOfSink : ℕ → ℕ → Result Next CommandFault → T
 CountsFailuresOfSink before now (Err CannotWrite) = ⊤
 CountsFailuresOfSink before now _ = now ≡ before
 
--- After an envelope the next one can be read. (The octet that a failed intake stores.)
+-- After an envelope the next one can be read. (The argument is the octet that an intake stores
+-- after an error.)
 abbrev pub CanReadNext : Option ℕ → Result Next CommandFault → Type 0
 CanReadNext failed (Ok (next.Envelope octets)) = failed ≡ None
 CanReadNext failed _ = ⊤

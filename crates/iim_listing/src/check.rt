@@ -1,4 +1,4 @@
-//! One line for each envelope.
+//! The command `check`: one line for each envelope.
 
 ghost use Rattle.iim_listing.specs.Format.{check_line_of};
 
@@ -7,7 +7,7 @@ use iim_output::lines::push_accepted;
 use iim_unpack::UnpackedRef;
 use std::alloc::AllocError;
 
-/// Lists the number and the length in octets of each envelope.
+/// Lists the number of each envelope and its length in octets.
 #[derive(Clone, Copy)]
 pub struct Check;
 

@@ -1,4 +1,4 @@
-//! The next envelope of an input.
+//! Reads the next envelope of an input.
 
 ghost use Rattle.std.specs.Prelude.{◌≡◌, [], None, OnOk, OnErr};
 ghost use Rattle.iim_unpack.specs.States.Intakes.{input_of};
@@ -21,7 +21,7 @@ use wire_story::laws::delivery_of_chunks_joins;
 /// The next item of an input.
 #[derive(Clone, Copy, Debug, PartialEq, Eq)]
 pub enum Next {
-    /// A complete envelope of this length in octets. The unpacker is done with it.
+    /// A complete envelope of this length in octets. The unpacker is in the state after it.
     Envelope(u64),
     /// The end of the input.
     End,
@@ -29,7 +29,7 @@ pub enum Next {
     Refused(Refusal),
 }
 
-/// Flushes the sink if the input has no buffered octets and must be read.
+/// Flushes the sink if the input has no buffered octets and the next call will read.
 fn flush_before_read<R: Source, S: FlushSink>(intake: &Input<R>, sink: &mut S) -> Result<(), Stop>
     ensures told { OnOk result (S.goes sink.old [] sink.new) }
     ensures no_failure { OnOk result (S.failures sink.new ≡ S.failures sink.old) }
@@ -42,7 +42,7 @@ fn flush_before_read<R: Source, S: FlushSink>(intake: &Input<R>, sink: &mut S) -
     sink.flush_all()
 }
 
-/// Returns the next item for a refusal, or an error if the refusal is that of the sink.
+/// Converts a refusal to the next item. Returns an error if the sink caused the refusal.
 fn next_of_refusal(refusal: Refusal) -> Result<Next, CommandFault>
     ensures { IsNextForFault (Refused refusal) result }
 {
@@ -52,7 +52,7 @@ fn next_of_refusal(refusal: Refusal) -> Result<Next, CommandFault>
     Ok(Next::Refused(refusal))
 }
 
-/// Returns the next item for an error of an intake, or the error of the command.
+/// Converts an error of an intake to the next item, or to an error of the command.
 fn next_of_fault(fault: IntakeFault) -> Result<Next, CommandFault>
     ensures { IsNextForFault fault result }
 {
@@ -63,9 +63,9 @@ fn next_of_fault(fault: IntakeFault) -> Result<Next, CommandFault>
     }
 }
 
-/// Resets an unpacker, and feeds it the next envelope of an input. The sink receives the text of
-/// the envelope, and is flushed before each read of the input. Errors are those of the input and
-/// the output; a refusal is an item.
+/// Resets an unpacker, and feeds the next envelope of an input to it. The sink receives the text of
+/// the envelope, and is flushed before each read of the input. Returns an error if the input or the
+/// output fails; a refusal is an item.
 pub fn next_item<R: Source, S: FlushSink>(
     intake: &mut Input<R>,
     unpacker: &mut Unpacker,

@@ -1,4 +1,4 @@
-//! An input that is read only when all earlier output is written.
+//! An input that can be read only after all earlier output is written.
 
 ghost use Rattle.std.specs.Prelude.{◌≡◌, ◌↔◌, ◌<◌, [], None, IsTrue, IfOk, IfErr, OnOk, length};
 ghost use Rattle.iim_unpack.specs.States.Intakes.{FedChunk, ReturnsNone, AcceptsInput, ReadsOnlyIfEmpty, input_of};
@@ -9,10 +9,10 @@ use iim_unpack::{Fed, Intake, IntakeFault, Unpacker};
 use std::marker::Model;
 
 /// The input of a listing or of stories: an [`Intake`] that can be read only when the sink has
-/// nothing buffered. A command has no other way to read its input. So it cannot wait for input
+/// nothing buffered. A command has no other way to read its input, so it cannot wait for input
 /// while output is pending.
 ///
-/// Contracts see it as the intake.
+/// Its model in contracts is the intake.
 #[derive(Drop)]
 pub struct Input<R> {
     intake: Intake<R>,
@@ -38,16 +38,17 @@ impl<R: Source> Input<R> {
         }
     }
 
-    /// Checks whether octets were read and not consumed. Then [`Input::next_piece`] does not read.
+    /// Checks whether the input has octets that were read but not consumed. If it has,
+    /// [`Input::next_piece`] does not read.
     pub fn has_buffered_octets(&self) -> bool
         ensures { IsTrue result ↔ (0 < length self.now.block) }
     {
         self.intake.has_buffered_octets()
     }
 
-    /// Feeds an unpacker the octets that were read and not consumed. If there are no such octets,
-    /// reads once, as [`Intake::next_piece`] does, and feeds what it has read. The sink must have
-    /// nothing buffered in that case.
+    /// Feeds to an unpacker the octets that were read but not consumed. If there are none, reads
+    /// once, as [`Intake::next_piece`] does, and feeds the new octets. In that case the sink must
+    /// have nothing buffered.
     pub fn next_piece<S: FlushSink>(
         &mut self,
         unpacker: &mut Unpacker,

@@ -1,11 +1,11 @@
 //! The commands `check`, `show` and `story`.
 //!
 //! [`list::list`] writes a text for each envelope of an input, up to the first refusal, and
-//! [`story::write_stories`] writes the story of each. Both call [`coming::next_item`] to read an
-//! [`input::Input`], which can be read only when all earlier output is written.
+//! [`story::write_stories`] writes the story of each envelope. Both call [`coming::next_item`] to
+//! read an [`input::Input`], which can be read only after all earlier output is written.
 //!
-//! Depends on `iim_unpack`, on `iim_output` for writers, on `iim_script` for escaped values, and
-//! on the crates below them. `iim_commands` depends on it.
+//! Depends on `iim_unpack`, on `iim_output` for writers, on `iim_script` for escaped values, and on
+//! the crates below these. `iim_commands` depends on this crate.
 #![tactic(auto)]
 
 pub mod check;

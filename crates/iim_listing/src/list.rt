@@ -1,4 +1,4 @@
-//! Listings of inputs: a text for each envelope, and a last line.
+//! Lists an input: a text for each envelope, and a last line.
 
 ghost use Rattle.std.specs.Prelude.{◌≡◌, ◌<◌, ◌≤◌, ◌++◌, ℕ, List, length, None, Ok, Err, IfOk, IfErr, OnOk};
 ghost use Rattle.iim_unpack.specs.States.Intakes.{input_of};
@@ -23,7 +23,7 @@ use iim_output::status::{ACCEPTED, REFUSED};
 use iim_unpack::{MAX_ENVELOPES, UnpackedRef, Unpacker};
 use std::alloc::{AllocError, Global};
 
-/// Appends the text of the envelope with which an unpacker is done.
+/// Appends the text of the envelope that an unpacker has completed.
 #[inline]
 fn push_envelope<P: EnvelopeLines>(
     texts: &P,
@@ -42,9 +42,9 @@ fn push_envelope<P: EnvelopeLines>(
     texts.push_text(text, number, octets, &got)
 }
 
-/// Lists the next item of an input, after `count` envelopes, and returns the status if it is the
-/// last. `text` is a buffer for the text of the item. If an allocation fails, some of the listing
-/// may be buffered.
+/// Lists the next item of an input, after `count` envelopes. Returns the exit status if this item
+/// is the last. `text` is a buffer for the text of the item. If an allocation fails, part of the
+/// listing may still be buffered.
 #[inline]
 fn list_next<P: EnvelopeLines, R: Source, W: Target>(
     texts: &P,
@@ -89,8 +89,8 @@ fn list_next<P: EnvelopeLines, R: Source, W: Target>(
     }
 }
 
-/// Lists the envelopes of an input, and returns the status. If an allocation fails, some of the
-/// listing may be buffered.
+/// Lists the envelopes of an input, and returns the exit status. If an allocation fails, part of
+/// the listing may still be buffered.
 fn list_texts<P: EnvelopeLines, R: Source, W: Target>(
     alloc: Global,
     texts: &P,
@@ -137,12 +137,11 @@ fn flush_after_failure<W: Target>(
     }
 }
 
-/// Lists an input: each envelope, up to the end, to the first refusal or to one envelope too many.
-/// Returns the status.
+/// Lists an input: each envelope, up to the end of the input, to the first refusal or to the first
+/// envelope over the limit. Returns the exit status.
 ///
-/// The texts of the envelopes read so far are written before the input is read again. If an
-/// allocation or a read fails, they are written, too. If a write fails, those that are not written
-/// are lost.
+/// The texts of the envelopes read so far are written before the input is read again. They are also
+/// written if an allocation or a read fails. If a write fails, the rest of the listing is lost.
 pub fn list<P: EnvelopeLines, R: Source, W: Target>(
     alloc: Global,
     texts: &P,
@@ -166,25 +165,26 @@ pub fn list<P: EnvelopeLines, R: Source, W: Target>(
             let answer = list_texts(alloc, texts, intake, &mut null_sink);
             let NullSink { mut output } = null_sink;
             let answer = flush_after_failure(&mut output, answer);
-            // No effect at run time: the proof needs this use of the returned target to know its
-            // contents.
+            // This line has no effect at run time. The proof needs this use of the returned target
+            // to know its contents.
             let _ = &*output.into_writer();
             answer
         }
         Err(same) => {
-            // The same for the target that is returned if the allocation fails.
+            // As above, for the target that is returned if the allocation fails.
             let _ = &*same;
             Err(CommandFault::OutOfMemory)
         }
     }
 }
 
-/// The text that a command writes for each envelope.
+/// The text that a command prints for each envelope.
 pub trait EnvelopeLines {
     /// The text of the envelope with this number.
     ghost written: { ℕ → Listed → List ℕ };
 
-    /// Appends the text of an envelope. `number` is its number from 1, and `octets` is its length.
+    /// Appends the text of an envelope. `number` is the number of the envelope, from 1, and
+    /// `octets` is its length.
     fn push_text(
         &self,
         text: &mut Vec<u8>,

@@ -1,4 +1,4 @@
-//! All parts of each envelope except its story.
+//! The command `show`: everything in an envelope except its story.
 
 ghost use Rattle.std.specs.Prelude.{◌≡◌, ◌+◌, ◌≤◌, ◌++◌, length, drop, OnOk, codes, decimal};
 ghost use Rattle.iim_dataset.specs.Format.Datasets.{number_or_dash};
@@ -12,7 +12,7 @@ use iim_unpack::UnpackedRef;
 use itoa::write_digits;
 use std::alloc::AllocError;
 
-/// Shows the fields of each envelope, the header and the trailer of its message, and its sizes.
+/// Lists the fields of each envelope, the header and the trailer of its message, and its sizes.
 #[derive(Clone, Copy)]
 pub struct Show;
 
@@ -34,7 +34,7 @@ impl EnvelopeLines for Show {
     }
 }
 
-/// Appends the first line.
+/// Appends the first line, which has the number of the envelope.
 fn push_number(text: &mut Vec<u8>, number: u64) -> Result<(), AllocError>
     ensures { OnOk result (text.new.items ≡ text.old.items ++ number_line number) }
 {
@@ -51,8 +51,8 @@ fn push_word_and_number(text: &mut Vec<u8>, word: &[u8], number: u64) -> Result<
     push_decimal(text, number)
 }
 
-/// Writes a number into a line, ending just before the offset `end`. Returns the offset at which
-/// it begins.
+/// Writes a number into a line so that it ends just before the offset `end`. Returns the offset at
+/// which the number begins.
 #[inline(always)]
 fn write_number(number: u64, line: &mut [u8], end: usize) -> usize
     requires { 20 ≤ end × end ≤ length line.old }
@@ -62,8 +62,8 @@ fn write_number(number: u64, line: &mut [u8], end: usize) -> usize
     write_digits(number, line, end)
 }
 
-/// Writes a number, or `-` for `None`, into a line, ending just before the offset `end`. Returns
-/// the offset at which it begins.
+/// Writes a number, or `-` for `None`, into a line so that it ends just before the offset `end`.
+/// Returns the offset at which the number begins.
 #[inline(always)]
 fn write_number_or_dash(number: Option<u64>, line: &mut [u8], end: usize) -> usize
     requires { 20 ≤ end × end ≤ length line.old }
@@ -83,8 +83,8 @@ fn mode(known: bool) -> u64
     if known { 1 } else { 0 }
 }
 
-/// Writes the first half of the line of sizes, ending just before the offset `end`. Returns the
-/// offset at which it begins.
+/// Writes the first half of the line of sizes so that it ends just before the offset `end`. Returns
+/// the offset at which it begins.
 fn write_counts(sizes: Sizes, line: &mut [u8], end: usize) -> usize
     requires { 92 ≤ end × end ≤ length line.old }
     ensures { drop result line.new ≡ codes "object " ++ (decimal sizes.total
@@ -99,8 +99,8 @@ fn write_counts(sizes: Sizes, line: &mut [u8], end: usize) -> usize
     write_word(b"object ", line, total)
 }
 
-/// Writes the second half of the line of sizes, ending just before the offset `end`. Returns the
-/// offset at which it begins.
+/// Writes the second half of the line of sizes so that it ends just before the offset `end`.
+/// Returns the offset at which it begins.
 fn write_bounds(sizes: Sizes, line: &mut [u8], end: usize) -> usize
     requires { 91 ≤ end × end ≤ length line.old }
     ensures start { end ≤ result + 91 }
@@ -117,7 +117,7 @@ fn write_bounds(sizes: Sizes, line: &mut [u8], end: usize) -> usize
     write_word(b", limit ", line, subfile)
 }
 
-/// The capacity for the line of sizes. The longest line has six numbers of 20 digits, and 63
+/// The capacity for the line of sizes. The longest line has six numbers of 20 digits, and 63 other
 /// octets.
 const SIZES: usize = 192;
 

@@ -1,4 +1,4 @@
-//! The text of each envelope, while it is read.
+//! The command `story`: the text of each envelope, written while it is read.
 
 ghost use Rattle.std.specs.Prelude.{◌≡◌, ◌<◌, ◌≤◌, None, Ok, Err, IfOk, IfErr};
 ghost use Rattle.iim_unpack.specs.States.Intakes.{input_of};
@@ -22,8 +22,8 @@ use iim_unpack::{MAX_ENVELOPES, Unpacker};
 use std::alloc::Global;
 use wire_story::laws::story_laws;
 
-/// Writes the story of the next envelope of an input, after `count` envelopes, and returns the
-/// status if there are no more.
+/// Writes the story of the next envelope of an input, after `count` envelopes. Returns the exit
+/// status if there is no further envelope.
 #[inline]
 fn write_next_story<R: Source, W: Target, E: Target>(
     intake: &mut Input<R>,
@@ -65,8 +65,8 @@ fn write_next_story<R: Source, W: Target, E: Target>(
     }
 }
 
-/// Writes the story of each envelope while it is read, and its line. Nothing may be buffered
-/// before. Afterwards nothing is buffered, unless a write failed.
+/// Writes the story and the line of each envelope while the envelope is read. The writer must have
+/// nothing buffered at first. Unless a write fails, it has nothing buffered afterwards.
 fn write_all_stories<R: Source, W: Target, E: Target>(
     alloc: Global,
     intake: &mut Input<R>,
@@ -97,13 +97,14 @@ fn write_all_stories<R: Source, W: Target, E: Target>(
     }
 }
 
-/// Writes the text of each envelope while it is read, with its lines joined by LF, and an LF after
-/// each envelope. Writes the lines of `check` to `errors`: each envelope, up to the end, to the
-/// first refusal or to one envelope too many. Returns the status.
+/// Writes the text of each envelope while the envelope is read, with its lines joined by LF, and an
+/// LF after each envelope. Writes the lines of `check` to `errors`: one for each envelope, up to
+/// the end of the input, to the first refusal or to the first envelope over the limit. Returns the
+/// exit status.
 ///
-/// All output for the octets read so far is written to both targets before the input is read
-/// again. No line is written before the text of its envelope. If a write fails, what is not
-/// written is lost on both targets.
+/// All output for the octets read so far is written to both targets before the input is read again.
+/// The line of an envelope is written after its text. If a write fails, the rest of the output is
+/// lost on both targets.
 pub fn write_stories<R: Source, W: Target, E: Target>(
     alloc: Global,
     intake: &mut Input<R>,
@@ -123,15 +124,15 @@ pub fn write_stories<R: Source, W: Target, E: Target>(
         Ok(made) => {
             let mut story_writer = StoryWriter::new(alloc, made, errors);
             let answer = write_all_stories(alloc, intake, &mut story_writer);
-            // No effect at run time: the proof needs this use of the returned targets to know
-            // their contents.
+            // This line has no effect at run time. The proof needs this use of the returned targets
+            // to know their contents.
             let (output, errors) = story_writer.into_targets();
             let _ = &*output;
             let _ = &*errors;
             answer
         }
         Err(same) => {
-            // The same for the target that is returned if the allocation fails.
+            // As above, for the target that is returned if the allocation fails.
             let _ = &*same;
             Err(CommandFault::OutOfMemory)
         }

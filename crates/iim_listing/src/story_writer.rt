@@ -1,4 +1,4 @@
-//! The output of `story`: the text in blocks, and the lines of the envelopes beside it.
+//! The output of `story`: the text in blocks, and the lines of the envelopes on a second target.
 
 ghost use Rattle.std.specs.Prelude.{◌≡◌, [], ◌∷◌, IfErr, OnOk, OnErr};
 ghost use Rattle.iim_output.specs.Format.{accepted_line, refused_line};
@@ -15,13 +15,13 @@ use std::alloc::{AllocError, Global};
 use wire_story::StorySink;
 
 /// Writes the text of stories in blocks to one target, and the lines of the envelopes to another.
-/// The lines are buffered until it is flushed: they are written after all text that it received
-/// before them.
+/// The lines are buffered until the writer is flushed: each line is written after the text that was
+/// received before it.
 #[derive(Drop)]
 pub(crate) struct StoryWriter<'o, 'e, W, E> {
-    /// The writer of the text.
+    /// The writer for the text.
     pub output: BlockWriter<'o, W>,
-    /// The target of the lines.
+    /// The target for the lines.
     pub errors: &'e mut E,
     /// The lines that are not written yet.
     pub lines: Vec<u8>,
@@ -34,7 +34,7 @@ impl<'o, 'e, W: Target, E: Target> StoryWriter<'o, 'e, W, E> {
     ghost use Rattle.iim_output.specs.States.Holding.{BuffersText};
     ghost use Rattle.iim_listing.specs.Steps.{BuffersLines, EndStoryFails, LastLineFails, FlushesBefore, stops_of};
 
-    /// Creates a writer of stories that has no line buffered.
+    /// Creates a writer that has no line buffered.
     pub(crate) fn new(
         alloc: Global,
         output: BlockWriter<'o, W>,
@@ -52,7 +52,7 @@ impl<'o, 'e, W: Target, E: Target> StoryWriter<'o, 'e, W, E> {
         }
     }
 
-    /// Returns both targets. What is still buffered is lost.
+    /// Returns both targets. Everything that is still buffered is lost.
     pub(crate) fn into_targets(self) -> (&'o mut W, &'e mut E)
         ensures output { result.0 ≡ self.entry.output.writer }
         ensures errors { result.1 ≡ self.entry.errors }
@@ -66,8 +66,8 @@ impl<'o, 'e, W: Target, E: Target> StoryWriter<'o, 'e, W, E> {
         (output.into_writer(), errors)
     }
 
-    /// Flushes all that is buffered after an allocation failed. Returns the error: that failure,
-    /// or the failure of a write.
+    /// Flushes everything that is buffered, after an allocation failed. Returns the error of that
+    /// allocation, or of a write that fails now.
     fn flush_without_memory(&mut self) -> CommandFault
         ensures { LastLineFails W.state E.state self.old self.new [] result }
     {
@@ -77,7 +77,7 @@ impl<'o, 'e, W: Target, E: Target> StoryWriter<'o, 'e, W, E> {
         }
     }
 
-    /// Buffers the line of an accepted envelope, or nothing if the allocation fails.
+    /// Buffers the line of an accepted envelope. If the allocation fails, nothing is buffered.
     fn buffer_line(&mut self, number: u64, octets: u64) -> Result<(), AllocError>
         ensures ok { OnOk result (BuffersLines self.old self.new (accepted_line number octets)) }
         ensures err { OnErr result (BuffersLines self.old self.new []) }
@@ -89,7 +89,7 @@ impl<'o, 'e, W: Target, E: Target> StoryWriter<'o, 'e, W, E> {
     }
 
     /// Ends the story of an envelope: writes an LF after its text, and buffers its line. If the
-    /// allocation of the line fails, flushes all that is buffered, and writes no LF.
+    /// allocation for the line fails, flushes everything that is buffered, and writes no LF.
     pub(crate) fn end_story(&mut self, number: u64, octets: u64) -> Result<(), CommandFault>
         ensures ok { OnOk result (BuffersText W.state self.old.output self.new.output (lf ∷ [])
             × (stops_of self.new ≡ stops_of self.old) × BuffersLines self.old self.new (accepted_line number octets)) }
@@ -104,7 +104,7 @@ impl<'o, 'e, W: Target, E: Target> StoryWriter<'o, 'e, W, E> {
         }
     }
 
-    /// Flushes all that is buffered, and then writes a last line.
+    /// Flushes everything that is buffered, and then writes a last line.
     pub(crate) fn write_last_line(&mut self, line: &[u8]) -> Result<(), CommandFault>
         ensures ok { OnOk result (FlushesBefore W.state E.state self.old self.new line.now) }
         ensures err { IfErr result (LastLineFails W.state E.state self.old self.new line.now) }
@@ -116,7 +116,7 @@ impl<'o, 'e, W: Target, E: Target> StoryWriter<'o, 'e, W, E> {
         }
     }
 
-    /// Flushes all that is buffered, and then writes the line of a refusal.
+    /// Flushes everything that is buffered, and then writes the line of a refusal.
     pub(crate) fn tell_refusal(&mut self, number: u64, refusal: Refusal) -> Result<(), CommandFault>
         ensures ok { OnOk result (FlushesBefore W.state E.state self.old self.new (refused_line number refusal)) }
         ensures err { IfErr result (LastLineFails W.state E.state self.old self.new (refused_line number refusal)) }

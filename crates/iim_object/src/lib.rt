@@ -2,7 +2,7 @@
 //! version 4).
 //!
 //! Depends on `iim_tables` and `iim_dataset`. The crate above uses [`ObjectReader`], which accepts
-//! a token or returns the first cause for which the tokens are no longer a viable prefix.
+//! a token, or returns the first cause for which the tokens are no longer a viable prefix.
 #![tactic(auto)]
 
 pub mod laws;

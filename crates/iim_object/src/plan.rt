@@ -1,4 +1,4 @@
-//! Plans of how an object is divided into subfiles.
+//! Plans for dividing an object into subfiles.
 
 ghost use Rattle.std.specs.Prelude.{◌≡◌, ◌≤◌, ◌↔◌, IsTrue, IsSome, IfSome};
 ghost use Rattle.iim_dataset.specs.Format.Octets.{greatest_size};
@@ -10,7 +10,7 @@ use iim_dataset::GREATEST_SIZE;
 /// The greatest number of subfiles of one envelope.
 pub const MAX_SUBFILES: u64 = 4_294_967_295;
 
-/// A plan for an object: the length of its full subfiles, and what is known of its size.
+/// A plan for an object: the length of a full subfile, and what is known of the size of the object.
 #[derive(Clone, Copy, Debug, PartialEq, Eq)]
 pub struct Plan {
     /// The number of octets of a full subfile.
@@ -20,7 +20,7 @@ pub struct Plan {
     ghost valid: { IsTrue (is_plan subfile size) },
 }
 
-/// Checks whether a plan with subfiles of `subfile` octets may have the size.
+/// Checks whether the size is possible in a plan with subfiles of `subfile` octets.
 fn fits(subfile: u64, size: Size) -> bool
     requires { subfile ≤ greatest_size }
     ensures { result ≡ fits subfile size }
@@ -45,9 +45,9 @@ fn limit_of(size: Size) -> u64
 }
 
 impl Plan {
-    /// Creates a plan. Returns `None` if a subfile has no octet or more than the greatest size of
-    /// an object ([`GREATEST_SIZE`]), if a size is above that, or if a known size needs more than
-    /// 4,294,967,295 subfiles.
+    /// Creates a plan. Returns `None` if the length of a subfile is 0 or above the greatest size of
+    /// an object ([`GREATEST_SIZE`]), if a size is above the greatest size, or if a known size
+    /// needs more than 4,294,967,295 subfiles.
     pub fn new(subfile: u64, size: Size) -> Option<Plan>
         ensures exactly { IsSome result ↔ IsTrue (is_plan subfile size) }
         ensures value { IfSome result (λ plan. (plan.subfile ≡ subfile) × (plan.size ≡ size)) }
@@ -58,16 +58,16 @@ impl Plan {
         Some(Plan { subfile, size })
     }
 
-    /// Returns the greatest number of octets of an object under the plan: the known size, the
-    /// maximum or the greatest size, and never more than 4,294,967,295 full subfiles hold. The
-    /// lemma `subfiles_are_few` proves that this bound is exact.
+    /// Returns the greatest number of octets that an object may have under the plan: the known
+    /// size, the maximum or the greatest size, but never more than 4,294,967,295 full subfiles
+    /// contain. The lemma `subfiles_are_few` proves that this bound is exact.
     pub fn bound(&self) -> u64
         ensures { result ≡ bound_of self.now.subfile self.now.size }
     {
         limit_of(self.size).min(self.subfile.saturating_mul(MAX_SUBFILES))
     }
 
-    /// Checks whether an object of `total` octets is below a known size.
+    /// Checks whether `total` octets are fewer than a known size requires.
     pub fn is_short(&self, total: u64) -> bool
         ensures { result ≡ is_short self.now.size total }
     {

@@ -1,4 +1,4 @@
-//! The reader of an object: its state, its steps, and why it rejects a token.
+//! The reader of an object: its state, its transitions, and its errors.
 
 pub(crate) mod fault;
 pub(crate) mod place;

@@ -1,17 +1,17 @@
 //! The sizes of an object.
 
-/// What a packer is given of the size of an object before it begins.
+/// What a packer knows of the size of an object before the object begins.
 #[derive(Clone, Copy, Debug, PartialEq, Eq)]
 pub enum Size {
-    /// The object has exactly this number of octets: size mode 1, and 7:90 ObjectData Size
+    /// The object has exactly this number of octets. It has size mode 1, and 7:90 ObjectData Size
     /// Announced.
     Known(u64),
-    /// The number of octets is not known: size mode 0, and 7:95 Maximum ObjectData Size if a
-    /// maximum is given.
+    /// The number of octets is not known. The object has size mode 0, and 7:95 Maximum ObjectData
+    /// Size if a maximum is given.
     Unknown(Option<u64>),
 }
 
-/// What records 7 to 9 state of an object. All sizes are in octets; `subfiles` is a number of
+/// What records 7 to 9 state about an object. All sizes are in octets; `subfiles` is a number of
 /// subfiles.
 #[derive(Clone, Copy, Debug, PartialEq, Eq)]
 pub struct Sizes {

@@ -1,5 +1,5 @@
-//! The writer of an object, which divides it into subfiles as octets arrive, and why it rejects a
-//! call.
+//! The writer of an object, which divides the object into subfiles as octets are received, and its
+//! errors.
 
 pub(crate) mod buffer;
 pub(crate) mod cause;

@@ -1,4 +1,4 @@
--- The lemmas of buffered writers, for their impls.
+-- Lemmas about buffered writers, for the implementations of the traits.
 use Rattle.std.proofs.Common.{◌≡◌, ℕ, List, [], ◌++◌, map, refl, sym, ◌∙◌, append-nil, append_assoc, length-append, arith}
 use Rattle.std.proofs.lemmas.List.{map-append}
 use Rattle.iim_dataset.specs.{States.Devices.Device, Steps.appends_nothing, Steps.appends_joined}
@@ -11,7 +11,7 @@ writes_on a b c i j k xs ys h l =
     rw (map-append octet_for (map LineOctet xs) (map LineOctet ys), octets_of_line xs, octets_of_line ys)
     at (writes_joined a b c i j k (map LineOctet xs) (map LineOctet ys) (rw (octets_of_line xs) h) (rw (octets_of_line ys) l))
 
--- for two texts that follow one another
+-- for two texts, one after the other
 pub parts_on : (pending mid rest first second out more : List ℕ) → pending ++ first ≡ out ++ mid → mid ++ second ≡ more ++ rest → pending ++ (first ++ second) ≡ (out ++ more) ++ rest
 parts_on pending mid rest first second out more one two =
     rw (← append_assoc pending first second, one, append_assoc out mid second, two) (sym (append_assoc out more rest))
@@ -31,7 +31,7 @@ pub buffered_events_joined : {W : Type 0} (state : W → Device) (a b c : BlockW
 buffered_events_joined state a b c xs ys first then =
     rw (map-append octet_for xs ys) (buffers_joined state a b c (map octet_for xs) (map octet_for ys) first then)
 
--- ---- if no write failed
+-- ---- the case that no write failed
 
 pub buffered_nothing : {W : Type 0} (state : W → Device) (b : BlockWriter W) → HasBuffered state b b []
 buffered_nothing state b = record { out = []; same = refl; parts = append-nil (buffered_octets b); wrote = (appends_nothing (device_of state b).octets, (refl, omega arith)); retry_limit = omega arith }

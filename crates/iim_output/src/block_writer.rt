@@ -13,9 +13,9 @@ use iim_dataset::{Stop, Target, put};
 use std::alloc::Global;
 use wire_story::StorySink;
 
-/// A writer that buffers octets up to a block of 4,096, and writes them to a target when the block
-/// is full or at [`BlockWriter::flush`]. An octet that it consumed is written or buffered; a
-/// failed write loses none. It counts its failed writes, up to the greatest number of 64 bits.
+/// A writer with a buffer of 4,096 octets, which are written to a target when the buffer is full or
+/// at [`BlockWriter::flush`]. Every octet that it consumed is written or still buffered; a failed
+/// write loses none. It counts failed writes, up to `u64::MAX`.
 #[derive(Drop)]
 pub struct BlockWriter<'w, W> {
     writer: &'w mut W,
@@ -67,7 +67,7 @@ impl<'w, W: Target> BlockWriter<'w, W> {
         ensures front { OnErr result (BuffersText W.state self.old self.new []) }
         ensures none { IfErr result (λ stop. stop.taken ≡ 0) }
         ensures counted { OnErr result (CounterRose (stops_of self.old) (stops_of self.new)) }
-        // At most a million interruptions for each octet that was buffered.
+        // At most a million interruptions occurred for each octet that was buffered.
         ensures retry_limit { WithinInterruptionLimit (length (buffered_octets self.old)) (device_of W.state self.old)
             (device_of W.state self.new) }
     {
@@ -84,8 +84,7 @@ impl<'w, W: Target> BlockWriter<'w, W> {
         }
     }
 
-    /// Writes or buffers a text. If a write fails, consumes only the octets before the one at
-    /// which it failed.
+    /// Writes or buffers a text. If a write fails, only the octets before the failure are consumed.
     #[inline(always)]
     pub fn put(&mut self, text: &[u8]) -> Result<(), Stop>
         ensures put { OnOk result (HasBuffered W.state self.old self.new text.now) }
@@ -96,8 +95,8 @@ impl<'w, W: Target> BlockWriter<'w, W> {
             (take stop.taken text.now)) }
         ensures front { IfErr result (λ stop. BuffersText W.state self.old self.new (take stop.taken text.now)) }
         ensures counted { OnErr result (CounterRose (stops_of self.old) (stops_of self.new)) }
-        // At most a million interruptions for each octet that was buffered, and for each octet of
-        // the text.
+        // At most a million interruptions occurred for each octet that was buffered and for each
+        // octet of the text.
         ensures retry_limit { WithinInterruptionLimit (length (buffered_octets self.old) + length text.now)
             (device_of W.state self.old) (device_of W.state self.new) }
     {
@@ -130,7 +129,8 @@ impl<'w, W: Target> BlockWriter<'w, W> {
         }
     }
 
-    /// Buffers a text in the empty buffer, or writes it at once if it is longer than a block.
+    /// Buffers a text in the empty buffer, or writes the text directly if it is longer than a
+    /// block.
     fn write_to_empty_buffer(&mut self, text: &[u8]) -> Result<(), Stop>
         requires { HasEmptyBuffer self.old }
         ensures put { OnOk result (HasBuffered W.state self.old self.new text.now) }
@@ -157,7 +157,7 @@ impl<'w, W: Target> BlockWriter<'w, W> {
         }
     }
 
-    /// Buffers a text that fits.
+    /// Buffers a text that fits into the buffer.
     #[inline(always)]
     fn buffer_text(&mut self, text: &[u8])
         requires { length text.now ≤ self.old.pending.room }
@@ -193,7 +193,7 @@ impl<'w, W: Target> StorySink for BlockWriter<'w, W> {
             BuffersEvents W.state self.old (map LineOctet (take stop.taken run.now)) self.new) }
         ensures counted { OnErr result (CounterRose (stops_of self.old) (stops_of self.new)) }
 
-        // As for `put`.
+        // The limit on interruptions is that of `put`.
         ensures retry_limit { WithinInterruptionLimit (length (buffered_octets self.old) + length run.now)
             (device_of W.state self.old) (device_of W.state self.new) }
     {
@@ -207,7 +207,7 @@ impl<'w, W: Target> StorySink for BlockWriter<'w, W> {
         ensures front { OnErr result (BuffersEvents W.state self.old [] self.new) }
         ensures counted { OnErr result (CounterRose (stops_of self.old) (stops_of self.new)) }
 
-        // As for `put`, for the octet LF.
+        // The limit on interruptions is that of `put` for one octet, LF.
         ensures retry_limit { WithinInterruptionLimit (length (buffered_octets self.old) + 1)
             (device_of W.state self.old)
             (device_of W.state self.new) }
@@ -229,7 +229,7 @@ impl<'w, W: Target> FlushSink for BlockWriter<'w, W> {
         ensures is_flushed { OnOk result (HasEmptyBuffer self.new) }
         ensures write_failed { OnErr result (FlushFails W.state self.old self.new) }
 
-        // As for `flush`.
+        // The limit on interruptions is that of `flush`.
         ensures retry_limit { WithinInterruptionLimit (length (buffered_octets self.old)) (device_of W.state self.old)
             (device_of W.state self.new) }
     {

@@ -7,7 +7,7 @@ use std::error::Error;
 use std::fmt;
 use std::fmt::{Display, Formatter};
 
-/// An error that is not in the octets of the input.
+/// An error that does not concern the octets of the input.
 #[derive(Clone, Copy, Debug, PartialEq, Eq)]
 pub enum CommandFault {
     /// A read of the input failed, or was interrupted too often.
@@ -21,7 +21,7 @@ pub enum CommandFault {
 impl CommandFault {
     ghost use Rattle.iim_output.specs.Format.{fault_line};
 
-    /// Returns the line that the command prints.
+    /// Returns the line that the command prints for this error.
     pub fn line(self) -> &'static str
         ensures { result.now ≡ fault_line self }
     {

@@ -1,12 +1,13 @@
 //! Output of the commands: lines, buffered output, errors and exit statuses.
 //!
-//! [`block_writer::BlockWriter`] buffers octets up to a block, and [`flush_sink::FlushSink`] is a sink
-//! that can be flushed. [`lines`] has the lines that all commands print, [`fault::CommandFault`]
-//! the errors of a command, and [`limits::LIMITS`] the limits on an envelope.
+//! [`block_writer::BlockWriter`] buffers octets up to a block, and [`flush_sink::FlushSink`] is a
+//! sink that can be flushed. [`lines`] has the lines that all commands print,
+//! [`fault::CommandFault`] has the errors of a command, and [`limits::LIMITS`] are the limits on an
+//! envelope.
 //!
 //! Depends on `iim_places` for refusals, on `iim_script` for escaped text, and on the crates below
-//! them, but on no unpacker. The crates `iim_listing`, `iim_pack_script` and `iim_commands` depend
-//! on it.
+//! these, but on no unpacker. The crates `iim_listing`, `iim_pack_script` and `iim_commands` depend
+//! on this crate.
 #![tactic(auto)]
 
 pub mod block_writer;

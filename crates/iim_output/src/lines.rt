@@ -15,14 +15,14 @@ use iim_script::{push_display, write_word};
 use itoa::write_digits;
 use std::alloc::AllocError;
 
-/// The line that replaces the line of the first envelope beyond the limit.
+/// The line that is printed for the first envelope over the limit.
 pub const TOO_MANY: &str = "too many envelopes\n";
 
-/// Writes a text to a target, unbuffered.
+/// Writes a text to a target without buffering.
 pub fn write_text<W: Target>(output: &mut W, text: &[u8]) -> Result<(), CommandFault>
     ensures ok { OnOk result (WroteAllOf (W.state output.old) (W.state output.new) text.now) }
     ensures err { IfErr result (WriteFails (W.state output.old) (W.state output.new) text.now) }
-    // At most a million interruptions for each octet of the text.
+    // At most a million interruptions occurred for each octet of the text.
     ensures retry_limit { WithinInterruptionLimit (length text.now) (W.state output.old) (W.state output.new) }
 {
     match put(output, text) {
@@ -59,11 +59,10 @@ pub fn append_and_flush<W: Target>(
     }
 }
 
-/// Writes a text to a target. Returns `status`, or the status of a failure if the text cannot be
-/// written.
+/// Writes a text to a target. Returns `status`, or the status of a failure if the write fails.
 pub fn write_with_status<E: Target>(errors: &mut E, text: &[u8], status: u8) -> u8
     ensures said { IsPrinted (E.state errors.old) (E.state errors.new) text.now status result }
-    // As for `write_text`.
+    // The limit on interruptions is that of `write_text`.
     ensures retry_limit { WithinInterruptionLimit (length text.now) (E.state errors.old) (E.state errors.new) }
 {
     match put(errors, text) {
@@ -73,10 +72,10 @@ pub fn write_with_status<E: Target>(errors: &mut E, text: &[u8], status: u8) -> 
 }
 
 /// The capacity for the line of an accepted envelope. The longest line has two numbers of 20
-/// digits, and 18 octets.
+/// digits, and 18 other octets.
 const LINE: usize = 64;
 
-/// Appends the line of an accepted envelope: its number, and its length in octets.
+/// Appends the line of an accepted envelope, with its number and its length in octets.
 pub fn push_accepted(text: &mut Vec<u8>, number: u64, used: u64) -> Result<(), AllocError>
     ensures { OnOk result (text.new.items ≡ text.old.items ++ accepted_line number used) }
 {

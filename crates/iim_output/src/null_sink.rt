@@ -7,10 +7,11 @@ use crate::flush_sink::FlushSink;
 use iim_dataset::{Stop, Target};
 use wire_story::StorySink;
 
-/// Discards the text of a story. It flushes the writer, which the lines of the listing go to.
+/// A sink that discards the text of a story. Flushing it flushes the writer to which the lines of
+/// the listing are written.
 #[derive(Drop)]
 pub struct NullSink<'w, W> {
-    /// The writer.
+    /// The writer of the lines.
     pub output: BlockWriter<'w, W>,
 }
 

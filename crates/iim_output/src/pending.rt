@@ -7,11 +7,11 @@ use iim_dataset::internals::ReservedOctets;
 use std::alloc::{AllocError, Global};
 use std::marker::Model;
 
-/// A buffer of one block of octets that are not written yet. Contracts see it as these octets and
-/// the capacity for more.
+/// A buffer for one block of octets that are not written yet. Its model in contracts is these
+/// octets, and the number of octets that still fit.
 #[derive(Drop)]
 pub(crate) struct PendingOctets {
-    /// The octets that were consumed since the last `clear`.
+    /// The octets appended since the last `clear`.
     block: ReservedOctets,
     /// The number of these octets that are written.
     out: usize,
@@ -77,7 +77,7 @@ impl PendingOctets {
         take(&mut self.block, more);
     }
 
-    /// Skips the first `out` octets, which are written.
+    /// Marks the first `out` octets as written.
     pub(crate) fn skip_written(&mut self, out: usize)
         requires { out ≤ length self.old.octets }
         ensures { self.new.octets ≡ drop out self.old.octets }
@@ -85,7 +85,7 @@ impl PendingOctets {
         self.out += out;
     }
 
-    /// Removes all octets. The memory is kept.
+    /// Removes all octets. The memory is reused.
     pub(crate) fn clear(&mut self)
         ensures { self.new.octets ≡ [] }
     {

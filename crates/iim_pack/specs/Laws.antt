@@ -39,8 +39,8 @@ abbrev pub PackedSubfilesAreBounded : Type 0
 PackedSubfilesAreBounded = (fields : List Dataset) (head : Header) (lines : List (List ℕ)) (trailer : List ℕ) (plan : Plan) (octets : List ℕ)
     → (p : Packed fields head lines trailer plan octets) → length p.written.parts ≤ max_subfiles
 
--- A packed form is shorter than the most octets that are ever written, if it has no more fields
--- than limits can allow.
+-- A packed form is shorter than the upper bound on the length of an envelope, if it has no more
+-- fields than limits can allow.
 abbrev pub PackedFormIsBounded : Type 0
 PackedFormIsBounded = (fields : List Dataset) (head : Header) (lines : List (List ℕ)) (trailer : List ℕ) (plan : Plan) (octets : List ℕ)
     → Packed fields head lines trailer plan octets → FitAnyLimits fields → length octets < most_out

@@ -5,13 +5,13 @@ use Rattle.iim_dataset.specs.States.Devices.{Device, WroteAllOf, WithinInterrupt
 use Rattle.iim_object.specs.{States.Writing.Writing, declared.plan.Plan.Plan}
 use Rattle.iim_object.specs.States.Writing as object
 
--- The events of a line, as lines are packed one after another: a line end precedes each line but
--- the first.
+-- The events of a line, if lines are packed one after another: each line but the first is preceded
+-- by a line end.
 abbrev pub line_events : Bool → List ℕ → List StoryEvent
 line_events true line = map LineOctet line
 line_events false line = LineEnd ∷ map LineOctet line
 
--- The object begins with these octets. There were at most a million interruptions per octet
+-- The object begins with these octets. At most a million interruptions occurred for each octet
 -- written.
 pub record OpensObject {W : Type 0} (state : W → Device) (writer : W) (plan : Plan) (front : List ℕ) (w : Writing W) : Type 0 where
   pub out : List ℕ

@@ -1,4 +1,4 @@
-//! Why a packer rejects a call, decided by numbers alone.
+//! Decides from numbers alone why a packer rejects a call.
 
 ghost use Rattle.std.specs.Prelude.{◌≡◌, ◌+◌, ◌≤◌, length};
 ghost use Rattle.iim_dataset.specs.Format.Octets.{greatest_size};
@@ -10,10 +10,11 @@ ghost use Rattle.iim_pack.specs.States.Packing as words;
 use iim_object::{PackCause, Plan};
 use wire_message::is_trailer;
 
-/// The least ending of an object, in octets: ETX and EOT.
+/// The length of the shortest ending of an object, in octets: ETX and EOT.
 pub(crate) const LEAST_ENDING: u64 = 2;
 
-/// Checks whether `octets` octets after the first `total` exceed the plan's bound.
+/// Checks whether an object of `total` octets exceeds the plan's bound if `octets` more octets are
+/// added.
 pub(crate) fn exceeds_plan(plan: Plan, total: u64, octets: u64) -> bool
     ensures { result ≡ object.exceeds_plan plan (total + octets) }
 {

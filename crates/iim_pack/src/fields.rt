@@ -9,8 +9,8 @@ use iim_dataset::device_laws::writes_join;
 use iim_dataset::{Target, put_dataset};
 use iim_fields::Envelope;
 
-/// Writes records 1 and 2. Returns how many octets were written, also as the error if a write
-/// fails.
+/// Writes records 1 and 2. Returns the number of octets written, as the result or, if a write
+/// fails, as the error.
 pub(crate) fn put_fields<W: Target>(writer: &mut W, envelope: &Envelope) -> Result<u64, u64>
     ensures ok { OnOk result (WroteAllOf (W.state writer.old) (W.state writer.new) (canonical_stream envelope.now)) }
     ensures all { IfOk result (λ out. out ≡ length (canonical_stream envelope.now)) }
@@ -18,7 +18,7 @@ pub(crate) fn put_fields<W: Target>(writer: &mut W, envelope: &Envelope) -> Resu
     ensures envelope { IsEnvelope envelope.now }
     ensures err { IfErr result (WroteOnlyPrefixOf (W.state writer.old) (W.state writer.new)
         (canonical_stream envelope.now)) }
-    // There were at most a million interruptions per octet written, and one million more if a write
+    // At most a million interruptions occurred for each octet written, plus one million if a write
     // failed.
     ensures retry_limit { IfOk result (λ out. WithinInterruptionLimit out (W.state writer.old) (W.state writer.new)) }
     ensures given_up { IfErr result (λ out.

@@ -1,13 +1,13 @@
 //! Packs envelopes of the Information Interchange Model.
 //!
-//! Depends on the crates of the layers, and writes only by their calls: fields and tags by
-//! `iim_dataset`, header and trailer by `wire_message`, line ends by `wire_story`, subfiles by
-//! `iim_object`. The crates above use [`packed_size`], [`pack`] and [`Packer`]. What is written is
+//! Depends on the crates of the layers, which do all the writing: `iim_dataset` writes fields and
+//! tags, `wire_message` writes header and trailer, `wire_story` writes line ends, and `iim_object`
+//! writes subfiles. The crates above use [`packed_size`], [`pack`] and [`Packer`]. Their output is
 //! the packed form (`specs/Format/Packed.antt`).
 //!
-//! A call that is rejected changes nothing and writes nothing, except for
+//! A call that is rejected changes nothing and writes nothing. The exception is
 //! [`PackCause::Write`](iim_object::PackCause::Write): then a prefix of the packed form was
-//! written, of the length that `written` returns, and each later call is rejected.
+//! written, whose length `written` returns, and each later call is rejected.
 #![tactic(auto)]
 
 mod cause;

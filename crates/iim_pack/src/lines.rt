@@ -1,4 +1,4 @@
-//! Packs lines, one after another.
+//! Packs the lines of a story.
 
 ghost use Rattle.std.specs.Prelude.{◌≡◌, ◌+◌, ◌≤◌, false, length, OnOk, OnErr, IfErr};
 ghost use Rattle.iim_object.specs.States.Writing.{plan_bound, total_of};
@@ -14,7 +14,7 @@ use iim_dataset::device_laws::writes_join;
 use iim_object::PackCause;
 use wire_story::Lines;
 
-/// Packs a line, after the end of the previous line unless this line is the first.
+/// Packs a line. Unless the line is the first one, writes the end of the previous line before it.
 fn put_line<W: Target>(packer: &mut Packer<W>, line: &[u8], is_first: bool) -> Result<(), PackCause>
     requires line { IsLine line.now }
     requires unfailed { packer.old.object.failed ≡ false }

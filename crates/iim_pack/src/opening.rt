@@ -10,7 +10,7 @@ use iim_dataset::Target;
 use iim_dataset::device_laws::writes_join;
 use iim_object::{StartFault, SubfileBuffer, SubfileWriter};
 
-/// Writes record 7, and begins the object with these octets.
+/// Writes record 7, and writes these octets at the beginning of the object.
 pub(crate) fn open_object<W: Target>(
     buffer: SubfileBuffer,
     front: &[u8],

@@ -1,4 +1,4 @@
-//! The streaming packer.
+//! A packer that writes while it receives text.
 
 ghost use Rattle.std.specs.Prelude.{◌≡◌, ◌+◌, ◌<◌, ◌^◌, [], ◌∷◌, false, length, map, IfOk, IfErr, OnOk, OnErr, IfSome, IfNone, MatchResult, Err};
 ghost use Rattle.wire_story.specs.Format.Texts.{LineOctet, LineEnd, IsLine};
@@ -27,15 +27,15 @@ use wire_story::laws::{
 };
 use wire_story::{LINE_END, is_text};
 
-/// Packs an envelope, a header and a text that is passed in chunks.
+/// Packs an envelope and a header, and a text that is received in chunks.
 ///
-/// It buffers at most one subfile of the plan's size, or the plan's bound if that is less, in
-/// octets of the object. [`Packer::start`] allocates memory for exactly that, in one request, and
-/// no later call allocates. Everything else has a fixed size, less than 256 octets: the plan, four
-/// counts, whether a write failed, and the writer.
+/// It buffers at most one subfile of the plan's size, or the plan's bound if that is less.
+/// [`Packer::start`] allocates exactly that much memory at once, and no later call allocates.
+/// Everything else has a fixed size of less than 256 octets: the plan, four counts, whether a write
+/// failed, and the writer.
 ///
-/// Contracts view it as the length of records 1 and 2, and the writer of its object. `HasPackedSoFar`
-/// (`specs/States/Packing.antt`) relates it to what it has consumed and written.
+/// Its model in contracts is the length of records 1 and 2, and the writer of its object.
+/// `HasPackedSoFar` (`specs/States/Packing.antt`) relates it to what it has consumed and written.
 #[derive(Drop)]
 pub struct Packer<W> {
     before: u64,
@@ -53,8 +53,8 @@ impl<W> Model for Packer<W> {
     ghost invariant = { λ k. k.before < 2 ^ 40 };
 }
 
-/// Returns the error of a packer that could not be started: the cause, the writer, and how many
-/// octets were written.
+/// Returns the error of a packer that could not be started: the cause, the writer, and the number
+/// of octets written.
 fn start_fault<W>(cause: PackCause, writer: W, written: u64) -> StartFault<W>
     ensures { result ≡ record { cause = cause; writer = writer; written = written } }
 {
@@ -68,10 +68,10 @@ fn start_fault<W>(cause: PackCause, writer: W, written: u64) -> StartFault<W>
 impl<W: Target> Packer<W> {
     /// Writes records 1, 2 and 7, and begins the object with the header.
     ///
-    /// **Errors**, in this order: `PastAnnounced` if the header and the least ending (ETX and EOT)
-    /// exceed the plan's bound; `OutOfMemory` if the allocation fails; `Write` if a write fails.
-    /// Nothing is written for the first two. After `Write` the octets written, `written` of them,
-    /// are a prefix of each packed form of the envelope, header and plan. Each error returns the
+    /// **Errors**, in this order: `PastAnnounced` if the header and the shortest ending (ETX and
+    /// EOT) exceed the plan's bound; `OutOfMemory` if the allocation fails; `Write` if a write
+    /// fails. The first two write nothing. After `Write`, the `written` octets that were written
+    /// are a prefix of each packed form of the envelope, header and plan. Each error has the
     /// writer.
     pub fn start(
         alloc: Global,
@@ -111,13 +111,13 @@ impl<W: Target> Packer<W> {
         }
     }
 
-    /// Appends octets to the current line. What is written in the end does not depend on how the
-    /// text is split into calls.
+    /// Appends octets to the current line. The packed form does not depend on how the text is split
+    /// into calls.
     ///
     /// **Errors**, in this order: `Failed` after a failed write; `BadTextOctet` if an octet is not
-    /// allowed in a line (nor are CR and LF: `line_end` writes them); `PastAnnounced` if the object
-    /// so far, these octets and the least ending exceed the plan's bound; `Write` if a write fails.
-    /// Except for `Write`, nothing is written and nothing changes.
+    /// allowed in a line (CR and LF are not: `line_end` writes them); `PastAnnounced` if the object
+    /// so far, these octets and the shortest ending exceed the plan's bound; `Write` if a write
+    /// fails. The first three write and change nothing.
     pub fn text(&mut self, octets: &[u8]) -> Result<(), PackCause>
         ensures refused { IfSome (text_cause self.old octets.now)
             (λ cause. (result ≡ Err cause) × (self.new ≡ self.old)) }
@@ -140,12 +140,12 @@ impl<W: Target> Packer<W> {
         self.text_unchecked(octets)
     }
 
-    /// Appends octets to the current line like [`Packer::text`], if the caller guarantees that each
-    /// is allowed in a line: they are not checked.
+    /// Appends octets to the current line as [`Packer::text`] does, but does not check that each is
+    /// allowed in a line: the caller must guarantee this.
     ///
     /// **Errors**, in this order: `Failed` after a failed write; `PastAnnounced` if the object so
-    /// far, these octets and the least ending exceed the plan's bound; `Write` if a write fails.
-    /// Except for `Write`, nothing is written and nothing changes.
+    /// far, these octets and the shortest ending exceed the plan's bound; `Write` if a write fails.
+    /// The first two write and change nothing.
     pub fn text_unchecked(&mut self, octets: &[u8]) -> Result<(), PackCause>
         requires { IsLine octets.now }
         ensures refused { IfSome (text_cause self.old octets.now)
@@ -178,8 +178,8 @@ impl<W: Target> Packer<W> {
     /// Ends the current line with CR and LF.
     ///
     /// **Errors**, in this order: `Failed` after a failed write; `PastAnnounced` if the object so
-    /// far, the line end and the least ending exceed the plan's bound; `Write` if a write fails.
-    /// Except for `Write`, nothing is written and nothing changes.
+    /// far, the line end and the shortest ending exceed the plan's bound; `Write` if a write fails.
+    /// The first two write and change nothing.
     pub fn line_end(&mut self) -> Result<(), PackCause>
         ensures refused { IfSome (line_end_cause self.old) (λ cause. (result ≡ Err cause) × (self.new ≡ self.old)) }
         ensures order { IsFirstInOrder (CauseHolds self.old.object.failed [] [] self.old.object.plan
@@ -204,14 +204,14 @@ impl<W: Target> Packer<W> {
         self.object.write(&LINE_END)
     }
 
-    /// Ends the message with the trailer, and returns the writer, to which the complete packed form
-    /// was written.
+    /// Ends the message with the trailer. Returns the writer, to which the complete packed form was
+    /// written.
     ///
     /// **Errors**, in this order: `Failed` after a failed write; `BadTrailer` if the octets are not
     /// a valid trailer; `PastAnnounced` if the object with its ending (ETX, the trailer and EOT)
-    /// exceeds the plan's bound; `ShortOfAnnounced` if it is below a known size; `Write` if a write
-    /// fails. Each error returns the packer; except for `Write`, nothing is written and nothing
-    /// changes.
+    /// exceeds the plan's bound; `ShortOfAnnounced` if the object is shorter than a known size;
+    /// `Write` if a write fails. Each error has the packer. All but `Write` write and change
+    /// nothing.
     pub fn finish(self, trailer: &[u8]) -> Result<W, (Packer<W>, PackCause)>
         ensures refused { IfSome (finish_cause self trailer.now) (λ cause. result ≡ Err (self, cause)) }
         ensures order { IsFirstInOrder (CauseHolds self.object.failed [] trailer.now self.object.plan
@@ -243,14 +243,14 @@ impl<W: Target> Packer<W> {
         }
     }
 
-    /// Returns how many octets were written, those of a failed write included.
+    /// Returns the number of octets written, including those of a write that failed.
     pub fn written(&self) -> u64
         ensures { result ≡ written_of self.now }
     {
         self.before + self.object.written()
     }
 
-    /// Returns the writer as it is.
+    /// Returns the writer, in its current state.
     pub fn into_writer(self) -> W
         ensures { result ≡ self.object.writer }
     {

@@ -22,7 +22,7 @@ use wire_story::laws::{
     lines_are_packed_as_their_events, story_laws, texts_are_delivered_as_lines,
 };
 
-/// Returns why an envelope cannot be packed by a plan, or `None` if it can.
+/// Returns why an envelope cannot be packed under a plan, or `None` if it can.
 fn pack_cause(head: &MessageHead, lines: &Lines, trailer: &[u8], plan: Plan) -> Option<PackCause>
     ensures { result ≡ words.pack_cause head.now lines.now.lines trailer.now plan }
 {
@@ -56,14 +56,14 @@ fn write_fault<W: Target>(packer: Packer<W>, cause: PackCause) -> StartFault<W>
     }
 }
 
-/// Packs an envelope, a header, lines and a trailer by a plan, and returns the writer, to which the
+/// Packs an envelope, a header, lines and a trailer under a plan. Returns the writer, to which the
 /// packed form was written.
 ///
 /// **Errors**, in this order: `BadTrailer` if the octets are not a valid trailer; `PastAnnounced`
-/// if the object exceeds the plan's bound; `ShortOfAnnounced` if it is below a known size;
-/// `OutOfMemory` if the allocation fails; `Write` if a write fails. Nothing is written except for
-/// `Write`: then the octets written, `written` of them, are a prefix of the packed form. Each error
-/// returns the writer.
+/// if the object exceeds the plan's bound; `ShortOfAnnounced` if the object is shorter than a known
+/// size; `OutOfMemory` if the allocation fails; `Write` if a write fails. All but `Write` write
+/// nothing. After `Write`, the `written` octets that were written are a prefix of the packed form.
+/// Each error has the writer.
 pub fn pack<W: Target>(
     alloc: Global,
     envelope: &Envelope,

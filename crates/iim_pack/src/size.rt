@@ -9,7 +9,7 @@ use iim_dataset::GREATEST_SIZE;
 use wire_message::{MessageHead, head_text, is_trailer};
 use wire_story::{Lines, text_len};
 
-/// Returns the size in octets of the object that is packed from a header, lines and a trailer.
+/// Returns the size in octets of the object that a header, lines and a trailer are packed into.
 /// Returns `None` if the trailer is invalid, or if the size would exceed the greatest size of an
 /// object.
 pub fn packed_size(head: &MessageHead, lines: &Lines, trailer: &[u8]) -> Option<u64>

@@ -1,4 +1,4 @@
--- The effect of `pack` on its input, its output and its errors.
+-- The effect of `pack` on its input, its output and its error output.
 use Rattle.std.specs.Prelude.{◌≡◌, ◌≢◌, ℕ, min, ◌+◌, ◌<◌, ◌≤◌, ◌⊎◌, Bool, if◌then◌else◌, List, ◌++◌, length, codes, decimal, Option}
 use Rattle.std.specs.{Option.unwrap_or, Io.KnownBytes.IsAtEnd}
 use Rattle.iim_dataset.specs.Format.{Octets.greatest_size, Datasets.Dataset}
@@ -18,8 +18,8 @@ pub use Rattle.iim_pack_script.specs.declared.packing.PackFault.{PackFault, TheV
 use Rattle.iim_output.specs.States.Devices.{Devices}
 use Rattle.iim_output.specs.Format.{limits, IsPrinted, status_accepted, status_refused}
 
--- A request: the size of a full subfile in octets; whether the size is left unknown, and if so the
--- maximum size of the object.
+-- A request: the length of a full subfile in octets; whether the size is left unknown; and in that
+-- case the maximum size of the object, if any.
 pub record Asked : Type 0 where
   pub subfile : ℕ
   pub unknown : Bool
@@ -28,13 +28,13 @@ pub record Asked : Type 0 where
 abbrev pub asked : ℕ → Bool → Option ℕ → Asked
 asked subfile unknown max = record { subfile = subfile; unknown = unknown; max = max }
 
--- The maximum size of an object: the maximum of an unknown size, otherwise the greatest size; and
--- at most what the maximum number of subfiles contains.
+-- The maximum size of an object: the maximum of an unknown size, otherwise the greatest size; but
+-- no more than the greatest number of subfiles can contain.
 abbrev pub max_object_size : Asked → ℕ
 max_object_size a = min (if a.unknown then unwrap_or a.max greatest_size else greatest_size) (most_in a.subfile)
 
--- The plan is the requested one for this object: its size is the requested maximum, or the object's
--- own.
+-- The plan is the one that is requested for this object: its size is unknown with the requested
+-- maximum, or is the length of the object.
 pub record IsRequestedPlan (a : Asked) (object : List ℕ) (plan : Plan) : Type 0 where
   pub subfile_is : plan.subfile ≡ a.subfile
   pub size_is : plan.size ≡ (if a.unknown then Unknown a.max else Known (length object))
@@ -56,25 +56,25 @@ object_of t = canonical t.head t.lines t.trailer
 abbrev pub IsPast : Asked → ScriptContent → Type 0
 IsPast a t = max_object_size a < length (object_of t)
 
--- The octets are a script, within the program's limits, with these contents.
+-- The octets are a script, within the limits of the command, with these contents.
 abbrev pub IsScriptOf : List ℕ → ScriptContent → Type 0
 IsScriptOf octets t = IsScript limits octets t.fields t.head t.trailer t.lines t.text_line
 
--- The form is the packed form of the contents, as requested.
+-- The form is the packed form of the contents, under the requested plan.
 pub record IsRequestedForm (a : Asked) (t : ScriptContent) (form : List ℕ) : Type 0 where
   pub plan : Plan
   pub is_plan : IsRequestedPlan a (object_of t) plan
   pub packed : Packed t.fields t.head t.lines t.trailer plan form
 
--- the line that reports a refusal: the number of a line of the script, and a cause's number and
--- name
+-- the line that reports a refusal: the number of a line of the script, and the number and the name
+-- of a cause
 abbrev pub refusal_line : ℕ → ℕ → List ℕ → List ℕ
 refusal_line line number name =
     codes "refused: script line " ++ (decimal line ++ (codes " cause " ++ (decimal number ++ (codes " " ++ (name ++ codes "\n")))))
 
--- Why the octets are not packed, and the line that reports it: they are no script, with their first
--- error; or they are a script whose object exceeds the requested size, which is reported at the
--- line `text`.
+-- Why the octets are not packed, and the line that reports it. Either the octets are not a script,
+-- and the line has their first error; or they are a script whose object exceeds the requested size,
+-- which is reported for the line `text`.
 abbrev pub IsScriptRefusal : Asked → List ℕ → List ℕ → Type 0
 IsScriptRefusal a octets text = ((line : ℕ) × (cause : ScriptCause) × IsScriptFault limits octets line cause × (cause ≢ script.OutOfMemory)
     × (text ≡ refusal_line line (script_cause_number cause) (script_cause_name cause)))
@@ -103,14 +103,14 @@ FailsToRead old new OutOfMemory = (octets : List ℕ) × (length octets ≤ max_
 abbrev pub WritesForm : Asked → List ℕ → Device → Device → Type 0
 WritesForm a octets old new = (t : ScriptContent) × (form : List ℕ) × IsScriptOf octets t × IsRequestedForm a t form × WroteAllOf old new form
 
--- The octets are a script whose object is within the requested size, and a write failed after
--- octets that are a prefix of the packed form by the requested plan.
+-- The octets are a script whose object is within the requested size, and a write failed after a
+-- prefix of the packed form under the requested plan.
 abbrev pub BreaksOffPacking : Asked → List ℕ → Device → Device → Type 0
 BreaksOffPacking a octets old new = (t : ScriptContent) × (plan : Plan) × (out : List ℕ) × IsScriptOf octets t × (IsPast a t → ⊥)
     × IsRequestedPlan a (object_of t) plan × WriteFailedAfter old new out × ((form : List ℕ) → Packed t.fields t.head t.lines t.trailer plan form → IsPrefix out form)
 
 -- Why the octets are not packed: they are rejected, and this is the line that reports it; or a
--- write failed; or an allocation failed. Only if a write failed, anything is written.
+-- write failed; or an allocation failed. Something is written only if a write failed.
 abbrev pub FailsToPack : Asked → List ℕ → Device → Device → PackFault → Type 0
 FailsToPack a octets old new (Refused line number name) = (new ≡ old) × IsScriptRefusal a octets (refusal_line line number name.now)
 FailsToPack a octets old new (Around CannotRead) = ⊥
@@ -120,14 +120,14 @@ FailsToPack a octets old new (Around OutOfMemory) = new ≡ old
 -- ---- the effect
 
 -- The envelope of the script is packed, and nothing is printed; or the script is rejected, nothing
--- is written to the output, and the errors report it.
+-- is written to the output, and the error output has the line that reports it.
 abbrev pub CompletesPack : Asked → Devices → Devices → ℕ → Type 0
 CompletesPack a old new status = (octets : List ℕ) × IsReadInput old.input new.input octets
     × ((WritesForm a octets old.output new.output × (new.errors ≡ old.errors) × (status ≡ status_accepted))
     ⊎ ((text : List ℕ) × IsScriptRefusal a octets text × (new.output ≡ old.output) × IsPrinted old.errors new.errors text status_refused status))
 
 -- Why no status is returned: the input was not read; or an allocation failed; or a write failed.
--- Only in the last case anything is written.
+-- Something is written only in the last case.
 abbrev pub FailsToComplete : Asked → Devices → Devices → CommandFault → Type 0
 FailsToComplete a old new CannotWrite = (octets : List ℕ) × IsReadInput old.input new.input octets × BreaksOffPacking a octets old.output new.output
 FailsToComplete a old new fault = FailsToRead old.input new.input fault × (new.output ≡ old.output)

@@ -3,4 +3,4 @@ pub mod Format
 -- Definitions that only proofs and private clauses cite.
 pub mod Steps
 
--- A target with a buffer of one block.
+-- The model of a target with a buffer of one block.

@@ -14,19 +14,20 @@ use Rattle.iim_script.specs.declared.fault.ScriptCause.TheVariants as script
 abbrev pub buffer_of : {W : Type 0} → BlockTarget W → List ℕ
 buffer_of b = take b.used b.block.now
 
--- the remaining capacity of the block
+-- the number of octets that still fit into the block
 abbrev pub remaining_capacity : {W : Type 0} → BlockTarget W → ℕ
 remaining_capacity b = length b.block.now - b.used
 
--- The octets of a target that first had `first`, and then those that are buffered. The number of
--- the first octets precedes them, so that two targets that agree started from the same number. They
--- are known if the first octets were, and are no fewer.
+-- The octets of a target, starting with the octets `first` that it had initially, and including
+-- those that are buffered. They are preceded by the number of the first octets, so that two targets
+-- with equal models started from the same number. They are known if the octets at first and now are
+-- known, and the octets now are no fewer.
 abbrev pub octets_from : Option (List ℕ) → List ℕ → Option (List ℕ) → Option (List ℕ)
 octets_from None held now = None
 octets_from (Some first) held None = None
 octets_from (Some first) held (Some now) = cond (nat_le (length first) (length now)) (Some (length first ∷ (now ++ held))) None
 
--- the block target, viewed as a plain target
+-- the model of the block target as a plain target
 abbrev pub block_device : {W : Type 0} → (W → Device) → BlockTarget W → Device
 block_device state b = record {
   octets = octets_from (state b.first.value).octets (buffer_of b) (state b.writer).octets;
@@ -34,12 +35,13 @@ block_device state b = record {
   interruptions = (state b.writer).interruptions;
 }
 
--- Nothing is buffered, and nothing was written through it.
+-- Nothing is buffered, and nothing was written through the block target.
 pub record IsFresh {W : Type 0} (b : BlockTarget W) : Type 0 where
   pub first_is : b.first.value ≡ b.writer
   pub empty : b.used ≡ 0
 
--- One read, retried after interruptions, added `count` octets: 0 only at the end.
+-- One read, with retries after interruptions, appended `count` octets. The number is 0 only at the
+-- end of the input.
 pub record ReadsSome (old new : Device) (before after : List ℕ) (count : ℕ) : Type 0 where
   pub more : List ℕ
   pub given : ReadsGave old new more
@@ -47,7 +49,7 @@ pub record ReadsSome (old new : Device) (before after : List ℕ) (count : ℕ) 
   pub counted : count ≡ length more
   pub at_end : count ≡ 0 → IsAtEnd new.octets
 
--- A read failed; or it returned octets, at most as many as fit into the buffer, and the allocation
+-- A read failed; or a read returned octets, no more than fit into the buffer, and the allocation
 -- for them failed.
 abbrev pub IsFailedRead : Device → Device → ℕ → CommandFault → Type 0
 IsFailedRead old new room CannotRead = (fault : IoFault) × ReadFailed old new fault
@@ -58,13 +60,13 @@ IsFailedRead old new room OutOfMemory = (more : List ℕ) × (0 < length more) �
 abbrev pub content_of : Script → ScriptContent
 content_of s = record { fields = s.envelope; head = s.head; trailer = s.trailer.items; lines = text_lines s.text.now; text_line = s.text_line }
 
--- The error is reported by its line, or is an allocation failure.
+-- The error is reported with its line, or is a failed allocation.
 abbrev pub IsFaultOfScript : ScriptFault → PackFault → Type 0
 IsFaultOfScript f (Refused line number name) = (f.cause ≢ script.OutOfMemory) × (line ≡ f.line) × (number ≡ script_cause_number f.cause) × (name.now ≡ script_cause_name f.cause)
 IsFaultOfScript f (Around OutOfMemory) = f.cause ≡ script.OutOfMemory
 IsFaultOfScript f (Around _) = ⊥
 
--- The error for a cause of the packer, for a script whose line `text` has that number.
+-- The error for a cause of the packer. `text_line` is the number of the line `text` of the script.
 abbrev pub IsFaultFor : PackCause → ℕ → PackFault → Type 0
 IsFaultFor causes.PastAnnounced text_line (Refused line number name) = (line ≡ text_line) × (number ≡ pack_number causes.PastAnnounced) × (name.now ≡ codes "PastAnnounced")
 IsFaultFor causes.OutOfMemory text_line (Around OutOfMemory) = Unit {0}

@@ -6,8 +6,8 @@ ghost use Rattle.iim_dataset.specs.States.Devices.{WriteAccepted, CountedFault};
 use iim_dataset::{IoFault, Target, put};
 use std::snapshot::Snapshot;
 
-/// Writes the first `used` octets of a block once, and moves those that were not written to its
-/// start.
+/// Calls `write` once for the first `used` octets of a block, and moves those that were not written
+/// to the start of the block. Returns the number of octets written.
 fn write_front<W: Target>(writer: &mut W, block: &mut [u8], used: usize) -> Result<usize, IoFault>
     requires { used ≤ length block.old }
     ensures ok { IfOk result (WriteAccepted (W.state writer.old) (W.state writer.new) (take used block.old)) }
@@ -27,14 +27,14 @@ fn write_front<W: Target>(writer: &mut W, block: &mut [u8], used: usize) -> Resu
 
 /// A target that collects octets in a block, and writes the block to another target when it is
 /// full. Octets that it accepted were written or are buffered; a failed write loses none of them.
-/// Contracts view it as a target that accepted the octets written and those buffered, with the
-/// failures of the inner target.
+/// Its model in contracts is a target that accepted both the octets written and those buffered,
+/// with the failures of the inner target.
 pub(crate) struct BlockTarget<'b, W> {
     pub(crate) writer: W,
-    /// The inner target as it was at first, for contracts.
+    /// The initial value of the inner target, for contracts.
     first: Snapshot<W>,
     block: &'b mut [u8],
-    /// How many octets of the block are buffered.
+    /// The number of octets of the block that are buffered.
     used: usize,
     ghost some: { 0 < length block.now },
     ghost within: { used ≤ length block.now },
@@ -60,7 +60,7 @@ impl<'b, W: Target> BlockTarget<'b, W> {
         }
     }
 
-    /// Returns the inner target. Octets still buffered are lost.
+    /// Returns the inner target. Octets that are still buffered are lost.
     pub(crate) fn into_writer(self) -> W
         ensures { result ≡ self.entry.writer }
     {
@@ -73,7 +73,7 @@ impl<'b, W: Target> BlockTarget<'b, W> {
         writer
     }
 
-    /// Flushes the buffer, and returns the inner target, also if a write fails.
+    /// Flushes the buffer. Returns the inner target, as the error if a write fails.
     pub(crate) fn finish(self) -> Result<W, W>
         ensures ok { IfOk result (λ last. WroteAllOf (W.state self.entry.writer) (W.state last)
             (buffer_of self.entry)) }
@@ -92,7 +92,7 @@ impl<'b, W: Target> BlockTarget<'b, W> {
         }
     }
 
-    /// Buffers as much of the chunk as fits, and returns how much that is.
+    /// Buffers as much of the chunk as fits. Returns the number of octets buffered.
     fn buffer_some(&mut self, piece: &[u8]) -> usize
         ensures count { result ≡ min (length piece.now) (remaining_capacity self.old) }
         ensures held { Appends (block_device W.state self.old).octets (block_device W.state self.new).octets
@@ -105,8 +105,8 @@ impl<'b, W: Target> BlockTarget<'b, W> {
         count
     }
 
-    /// Writes the buffered octets once, and returns how many were written. If any were, the block
-    /// has capacity again; 0 is a failure.
+    /// Calls `write` once for the buffered octets. Returns the number of octets written. If it is
+    /// not 0, the block has capacity again; 0 is a failure.
     fn flush_once(&mut self) -> Result<usize, IoFault>
         requires { 0 < self.old.used }
         ensures ok { IfOk result (λ count.

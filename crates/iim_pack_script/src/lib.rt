@@ -1,12 +1,12 @@
-//! Packs the envelope that a script describes: the command `pack`.
+//! The command `pack`, which packs the envelope that a script specifies.
 //!
-//! [`script::read_script`] parses a script within the limits of the commands;
-//! [`packing::pack_octets`] packs a script from memory, and [`packing::pack_script`] one from a
-//! source.
+//! [`script::read_script`] parses a script within the limits of the commands,
+//! [`packing::pack_octets`] packs a script in memory, and [`packing::pack_script`] packs a script
+//! from a source.
 //!
 //! Depends on `iim_pack` and `iim_script`, on `iim_output` for what it prints, on `iim_request` for
-//! the requests, and on the crates below these. It uses no unpacker. `iim_commands` and the C
-//! interface depend on it.
+//! the requests, and on the crates below these, but on no unpacker. `iim_commands` and `iim_c`
+//! depend on this crate.
 #![tactic(auto)]
 
 mod blocks;

@@ -1,4 +1,4 @@
-//! The command `pack`: packs the envelope that a script describes.
+//! Packs the envelope that a script specifies.
 
 ghost use Rattle.std.specs.Prelude.{◌≡◌, ℕ, ◌<◌, ◌≤◌, ◌⊎◌, List, None, length, IfOk, IfErr, IfSome, IfNone, OnErr};
 ghost use Rattle.wire_message.specs.Format.Messages.{IsTrailer};
@@ -34,7 +34,7 @@ use std::fmt::{Display, Formatter};
 pub enum PackFault {
     /// The script is rejected.
     Refused {
-        /// The number of the reported line, from 1, or 0 if the script is too long.
+        /// The line that is reported, from 1, or 0 if the script is too long.
         line: u64,
         /// The number of the cause.
         number: u8,
@@ -59,8 +59,8 @@ impl Display for PackFault {
 
 impl Error for PackFault {}
 
-/// Reads once, retrying after interruptions, and appends what was read to the script. Returns how
-/// many octets were read: 0 only at the end.
+/// Reads once, with retries after interruptions, and appends what was read to the script. Returns
+/// the number of octets read, which is 0 only at the end.
 fn read_some<R: Source>(
     reader: &mut R,
     block: &mut [u8],
@@ -82,7 +82,7 @@ fn read_some<R: Source>(
     }
 }
 
-/// Reads a complete input, but at most one octet more than a script may have.
+/// Reads a complete input, up to one octet more than a script may have.
 fn read_input<R: Source>(alloc: Global, reader: &mut R) -> Result<Vec<u8>, CommandFault>
     ensures read { IfOk result (λ script. IsReadInput (R.state reader.old) (R.state reader.new) script.items) }
     ensures unread { IfErr result (FailsToRead (R.state reader.old) (R.state reader.new)) }
@@ -102,7 +102,7 @@ fn read_input<R: Source>(alloc: Global, reader: &mut R) -> Result<Vec<u8>, Comma
     Ok(script)
 }
 
-/// Returns the requested plan, or `None` if the object exceeds the size that it allows.
+/// Returns the plan that is requested, or `None` if the object exceeds the requested size.
 fn plan_of(request: PackRequest, told: &Script<'_>) -> Option<Plan>
     requires trailer { IsTrailer told.now.trailer.items }
     requires len { told.now.text_len ≡ length (packed_text (text_lines told.now.text.now)) }
@@ -130,8 +130,9 @@ fn plan_of(request: PackRequest, told: &Script<'_>) -> Option<Plan>
     Some(plan)
 }
 
-/// Converts a packer's cause to an error, for a script whose line `text` has this number. No other
-/// cause is possible if the trailer is valid and a known size is the object's.
+/// Converts the cause of a packer to an error. `text_line` is the number of the line `text` of the
+/// script. Only one cause is possible if the trailer is valid and a known size equals that of the
+/// object.
 fn fault_for(cause: PackCause, text_line: u64) -> PackFault
     requires { (cause ≡ causes.PastAnnounced) ⊎ (cause ≡ causes.OutOfMemory) ⊎ (cause ≡ causes.Write) }
     ensures { IsFaultFor cause text_line result }
@@ -203,13 +204,12 @@ fn fault_of(fault: ScriptFault) -> PackFault
     }
 }
 
-/// Packs the envelope that the octets describe if they are a script, and returns the output, to
-/// which the packed form was written.
+/// Packs the envelope that a script in memory specifies. Returns the output, to which the packed
+/// form was written.
 ///
-/// **Errors:** the first error of the script; `80 PastAnnounced` at the line `text` if the object
+/// **Errors:** the first error of the script; `80 PastAnnounced` for the line `text` if the object
 /// exceeds the requested size; `CannotWrite` if a write fails, after which a prefix of the packed
-/// form was written; `OutOfMemory`. Each error returns the output. Except for `CannotWrite`,
-/// nothing is written.
+/// form was written; `OutOfMemory`. Each error has the output. All but `CannotWrite` write nothing.
 pub fn pack_octets<W: Target>(
     alloc: Global,
     request: PackRequest,
@@ -228,7 +228,7 @@ pub fn pack_octets<W: Target>(
     }
 }
 
-/// Prints the refusal of a line, and returns the status.
+/// Prints the refusal of a line, and returns the exit status.
 fn print_refusal<E: Target>(
     alloc: Global,
     errors: &mut E,
@@ -247,18 +247,19 @@ fn print_refusal<E: Target>(
     }
 }
 
-/// Packs the envelope that a script describes: reads the script from `reader`, at most one octet
-/// more than a script may have, and writes the packed form to `output`. Returns the status and the
+/// Packs the envelope that a script specifies: reads the script from `reader`, up to one octet more
+/// than a script may have, and writes the packed form to `output`. Returns the exit status and the
 /// output.
 ///
-/// The status is 0 if the packed form was written. It is 1 if the script is rejected; then a line
-/// on `errors` reports it, such as `refused: script line 4 cause 13 CountRange`: its first error,
-/// or `80 PastAnnounced` at the line `text` if its object exceeds the requested size. It is 3 if
-/// that line cannot be written.
+/// The status is 0 if the packed form was written. It is 1 if the script is rejected, which a line
+/// on `errors` reports, such as `refused: script line 4 cause 13 CountRange`: the first error of
+/// the script, or `80 PastAnnounced` for the line `text` if the object exceeds the requested size.
+/// It is 3 if that line cannot be written.
 ///
 /// **Errors**, which are not printed here: `CannotRead` if a read fails; `CannotWrite` if a write
 /// to the output fails, after which a prefix of the packed form was written; `OutOfMemory` if an
-/// allocation fails. Except for status 0 and `CannotWrite`, nothing is written to the output.
+/// allocation fails. Nothing is written to the output unless the status is 0 or the error is
+/// `CannotWrite`.
 pub fn pack_script<R: Source, W: Target, E: Target>(
     alloc: Global,
     request: PackRequest,

@@ -1,4 +1,4 @@
-//! Scripts within the limits of the commands.
+//! Parses scripts within the limits of the commands.
 
 ghost use Rattle.std.specs.Prelude.{◌≡◌, length, IfOk, IfErr};
 ghost use Rattle.iim_script.specs.Format.Causes.{IsScriptFault};
@@ -11,7 +11,7 @@ use iim_script::{Script, ScriptFault};
 use std::alloc::Global;
 
 /// Parses a script whose datasets are within [`LIMITS`]. Returns its contents, or its first error
-/// by line.
+/// with the number of the line.
 pub fn read_script<'a>(alloc: Global, octets: &'a [u8]) -> Result<Script<'a>, ScriptFault>
     ensures script { IfOk result (λ told. IsScript limits octets.now told.envelope told.head told.trailer.items
         (text_lines told.text.now) told.text_line) }

@@ -1,4 +1,4 @@
-//! Packs the text of a script without a copy.
+//! Packs the text of a script without copying it.
 
 ghost use Rattle.std.specs.Prelude.{◌≡◌, ◌+◌, ◌<◌, ◌≤◌, ◌++◌, ◌∷◌, [], None, false, length, map, IfOk, IfErr, IfSome, IfNone, OnOk, OnErr};
 ghost use Rattle.iim_dataset.specs.Format.Octets.{greatest_size};
@@ -21,11 +21,11 @@ use std::alloc::Global;
 use wire_message::{MessageHead, head_text};
 use wire_story::laws::{lines_are_packed_as_their_events, texts_are_delivered_as_lines};
 
-/// The least ending of an object, in octets: ETX and EOT.
+/// The length of the shortest ending of an object, in octets: ETX and EOT.
 const LEAST_ENDING: u64 = 2;
 
-/// Returns the size in octets of the object that is packed from a header, a text of `text_len`
-/// packed octets and a trailer. Returns `None` if it does not fit into 64 bits.
+/// Returns the size in octets of the object that a header, a text of `text_len` packed octets and a
+/// trailer are packed into. Returns `None` if the size exceeds 64 bits.
 pub(crate) fn object_len(
     head: &MessageHead,
     text: &[u8],
@@ -42,7 +42,7 @@ pub(crate) fn object_len(
     text_len.checked_add(front.len() as u64 + trailer.len() as u64 + LEAST_ENDING)
 }
 
-/// Packs a line and its end.
+/// Packs a line and its line end.
 fn put_line<W: Target>(packer: &mut Packer<W>, line: &[u8]) -> Result<(), PackCause>
     requires line { IsLine line.now }
     requires unfailed { packer.old.object.failed ≡ false }
@@ -98,7 +98,7 @@ fn write_fault<W: Target>(packer: Packer<W>, cause: PackCause) -> StartFault<W>
     }
 }
 
-/// Packs an envelope, a header, a text and a trailer by a plan that allows them, and returns the
+/// Packs an envelope, a header, a text and a trailer under a plan that allows them. Returns the
 /// writer.
 pub(crate) fn pack_text<W: Target>(
     alloc: Global,

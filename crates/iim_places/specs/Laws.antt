@@ -21,41 +21,41 @@ use Rattle.wire_story.specs.Laws.{StoriesEndAsTexts, StoriesAreViableAsTextsSoFa
 use Rattle.wire_message.specs.Laws.{ViableOctetsReachStates, MessagesEndAfterEot, StatesDetermineRejections, MessageStatesDetermineLaterOnes, OctetsDetermineTheMessageState, SavedStatesAreDistinct, ReadersConsumeViableOctets, TextsAreBetweenStxAndEtx}
 
 -- Refusals report the lowest cause: an octet is rejected for the cause of its layer with the lowest
--- number whose condition holds at the completed token, if and only if the tests, in their order,
+-- number whose condition holds for the completed token, if and only if the tests, in their order,
 -- find that error first.
 abbrev pub RefusalsReportTheLowestCause : Type 0
 RefusalsReportTheLowestCause = (limits : Limits) (octets : List ℕ) (next : ℕ) (fault : TokenFault)
     → RefusesNext limits octets next fault ↔ (IsOctet next × RefusesByTests limits octets next fault)
 
--- ---- The envelopes that an input begins with, and what follows them.
+-- ---- The envelopes at the start of an input, and what follows them.
 
--- An input has at most one listing: its envelopes and what follows them.
+-- An input has at most one listing of its envelopes and of what follows them.
 abbrev pub InputsHaveOneListing : Type 0
 InputsHaveOneListing = (limits : Limits) (input : List ℕ) (es fs : List Listed) (x y : InputEnding) → limits.octets < 2 ^ 32 → limits.fields < 2 ^ 32
     → IsListing limits input es x → IsListing limits input fs y → (es ≡ fs) × (x ≡ y)
 
--- The listing has the most envelopes: no longer list of envelopes begins the input.
+-- The listing has all envelopes at the start of the input: no longer list of envelopes is possible.
 abbrev pub ListingsAreLongest : Type 0
 ListingsAreLongest = (limits : Limits) (input : List ℕ) (es others : List Listed) (x : InputEnding) (rest : List ℕ) → limits.octets < 2 ^ 32 → limits.fields < 2 ^ 32
     → IsListing limits input es x → SplitsInto limits input others rest → length others ≤ length es
 
--- ---- The result of a whole stream: one result, however it is split into chunks.
+-- ---- The result of a whole stream, which does not depend on how the stream is split into chunks.
 
--- Octets whose next octet is rejected are incomplete.
+-- If the octet after some octets is rejected, these octets are incomplete.
 abbrev pub RefusedOctetsWereIncomplete : Type 0
 RefusedOctetsWereIncomplete = (limits : Limits) (octets : List ℕ) (next : ℕ) (fault : TokenFault) → RefusesNext limits octets next fault → IsIncomplete limits octets
 
--- After a rejected octet, no continuation is incomplete or an envelope within the limits.
+-- After a rejected octet, no continuation is incomplete, and none is an envelope within the limits.
 abbrev pub RefusedOctetsHaveNoContinuation : Type 0
 RefusedOctetsHaveNoContinuation = (limits : Limits) (octets more : List ℕ) (next : ℕ) (fault : TokenFault) → RefusesOctet limits octets next fault
     → (IsIncomplete limits (octets ++ next ∷ more) → ⊥) × ((value : Value) → IsEnvelopeWithin limits (octets ++ next ∷ more) value → ⊥)
 
--- The refusal of the octet after others is determined: its layer, its dataset and its cause.
+-- The refusal of an octet after others is unique: its layer, its dataset and its cause.
 abbrev pub RefusalsAreUnique : Type 0
 RefusalsAreUnique = (limits : Limits) (octets : List ℕ) (next : ℕ) (fault other : TokenFault) → RefusesNext limits octets next fault → RefusesNext limits octets next other → fault ≡ other
 
--- A stream has at most one result: one envelope that it begins with, or one refusal, or one refusal
--- because it is truncated.
+-- A stream has at most one result: the envelope at its start, or a refusal, or the refusal of a
+-- truncated stream.
 abbrev pub StreamsHaveOneResult : Type 0
 StreamsHaveOneResult = (limits : Limits) (stream : List ℕ) (answer other : Answer) → Answers limits stream answer → Answers limits stream other → answer ≡ other
 
@@ -77,7 +77,7 @@ abbrev pub ViableOctetsAreIncomplete : Type 0
 ViableOctetsAreIncomplete = (limits : Limits) (octets : List ℕ) (whole : List Dataset) (begun : PartialDataset) → ReadsAsDatasets count_octets octets whole begun → AllCanContinue limits whole begun
     → ((front rest : List ℕ) (v : Value) → octets ≡ front ++ rest → Admits front v → ⊥) → IsIncomplete limits octets
 
--- ---- The continuations of octets that reach one position.
+-- ---- The continuations of inputs that reach the same position.
 
 -- The values are equal except for their lines.
 pub record EqualExceptLines (v w : Value) : Type 0 where
@@ -86,22 +86,22 @@ pub record EqualExceptLines (v w : Value) : Type 0 where
   pub trailer : v.trailer ≡ w.trailer
   pub sizes : v.sizes ≡ w.sizes
 
--- Each continuation that keeps `p` incomplete keeps `q` incomplete; if it completes `p` to an
--- envelope, it completes `q` to one with the same value except for the lines; and it adds the same
--- text to both.
+-- Each continuation that keeps `p` incomplete keeps `q` incomplete. If it completes `p` to an
+-- envelope, it completes `q` to one with the same value except for the lines. It adds the same text
+-- to both.
 pub record HaveSameContinuations (limits : Limits) (p q more : List ℕ) : Type 0 where
   pub are_open : IsIncomplete limits (p ++ more) → IsIncomplete limits (q ++ more)
   pub are_whole : (v : Value) → IsEnvelopeWithin limits (p ++ more) v → (w : Value) × IsEnvelopeWithin limits (q ++ more) w × EqualExceptLines v w
   pub add : (events : List story.StoryEvent) → AreViable limits (p ++ more) → Delivers p more events → Delivers q more events
 
--- Octets that reach one position, each incomplete or an envelope, have the same continuations: to
--- incomplete input, to envelopes with the same value except for the lines, and with the same
--- further text.
+-- Two inputs that reach the same position, each incomplete or an envelope, have the same
+-- continuations: to incomplete input, to envelopes with the same value except for the lines, and
+-- with the same further text.
 abbrev pub PlacesDetermineContinuations : Type 0
 PlacesDetermineContinuations = (limits : Limits) (p q : List ℕ) (place : Place) → ReachesPlace p place → ReachesPlace q place → AreViable limits p → AreViable limits q → (more : List ℕ) → HaveSameContinuations limits p q more
 
--- After octets that reach one position, each incomplete or an envelope, and the same continuation,
--- the same octet is rejected with the same error.
+-- After two inputs that reach the same position, each incomplete or an envelope, and the same
+-- continuation, the same octet is rejected with the same error.
 abbrev pub PlacesDetermineRefusals : Type 0
 PlacesDetermineRefusals = (limits : Limits) (p q : List ℕ) (place : Place) → ReachesPlace p place → ReachesPlace q place → AreViable limits p → AreViable limits q → (more : List ℕ) (next : ℕ) (fault : TokenFault)
     → RefusesNext limits (p ++ more) next fault → RefusesNext limits (q ++ more) next fault
@@ -110,28 +110,29 @@ PlacesDetermineRefusals = (limits : Limits) (p q : List ℕ) (place : Place) →
 abbrev pub OctetsHaveOnePlace : Type 0
 OctetsHaveOnePlace = (limits : Limits) (octets : List ℕ) → AreViable limits octets → (place : Place) × ReachesPlace octets place × ((other : Place) → ReachesPlace octets other → other ≡ place)
 
--- The position determines whether octets are within limits: by the heads of records 1 and 2 in it,
--- that of a partial dataset included.
+-- The position determines whether the octets are within limits: by the heads of records 1 and 2 in
+-- it, including that of a dataset in progress.
 abbrev pub PlacesDetermineLimits : Type 0
 PlacesDetermineLimits = (limits : Limits) (octets : List ℕ) (place : Place) → ReachesPlace octets place → AreViable widest octets → AreViable limits octets ↔ AreHeadsWithin limits place
 
--- The ticket of a possible position whose heads are within the limits is rejected only if memory
+-- A ticket of a possible position whose heads are within the limits can be restored unless the
 -- allocation fails. The limit on octets is reported before the limit on fields.
 abbrev pub PossiblePlacesAreRestored : Type 0
 PossiblePlacesAreRestored = (limits : Limits) (ticket : List ℕ) (place : Place) (fault : TicketFault) → EncodesPlace ticket place → IsRestoreFault limits ticket fault
     → (limits.octets < counted_octets place → fault ≡ HeaderFull) × (counted_octets place ≤ limits.octets → limits.fields < counted_fields place → fault ≡ TooManyFields)
     × (AreHeadsWithin limits place → fault ≡ OutOfMemory)
 
--- the present sizes
+-- the size limits of version 2
 abbrev pub present_scale : Scale
 present_scale = record { octets = count_octets; greatest = greatest_size }
 
--- By the present sizes a position is possible if and only if it is possible without a scale.
+-- Under the size limits of version 2, a position is possible if and only if it is possible without
+-- these limits.
 abbrev pub PresentScaleAddsNothing : Type 0
 PresentScaleAddsNothing = (place : Place) → IsPossibleAtScale present_scale place ↔ Possible place
 
--- A position was possible by the sizes of version 1 if and only if it is possible and within these
--- sizes.
+-- A position is possible under the size limits of version 1 if and only if it is possible and
+-- within these limits.
 abbrev pub SmallPlacesWerePossible : Type 0
 SmallPlacesWerePossible = (place : Place) → IsPossibleAtScale first_scale place ↔ (Possible place × IsSmallPlace place)
 
@@ -139,7 +140,7 @@ SmallPlacesWerePossible = (place : Place) → IsPossibleAtScale first_scale plac
 abbrev pub TicketsEncodeOnePlace : Type 0
 TicketsEncodeOnePlace = (version : ℕ) (p q : Place) → IsTicketVersion version → IsPossibleInVersion version p → IsPossibleInVersion version q → ticket_in_version version p ≡ ticket_in_version version q → p ≡ q
 
--- ---- The end and the value of an envelope are determined.
+-- ---- The end and the value of an envelope are unique.
 
 -- No envelope is empty.
 abbrev pub NoEnvelopeIsEmpty : Type 0
@@ -153,18 +154,19 @@ EncodingIsUnambiguous = (octets : List ℕ) (v w : Value) → Admits octets v �
 abbrev pub NoEncodingIsAPrefixOfAnother : Type 0
 NoEncodingIsAPrefixOfAnother = (octets rest : List ℕ) (v w : Value) → Admits octets v → Admits (octets ++ rest) w → rest ≡ []
 
--- An envelope within limits, the maximum number of subfiles included, is framed under these limits.
+-- An envelope within the limits, including that on the number of subfiles, is framed under these
+-- limits.
 abbrev pub EnvelopesAreFramed : Type 0
 EnvelopesAreFramed = (limits : Limits) (octets : List ℕ) (v : Value) → (admits : Admits octets v) → AreWithinLimits limits admits.datasets → IsFramedEnvelope limits octets
 
 -- ---- The position that octets reach, and its ticket.
 
--- Octets have at most one ticket: the saved state of an unpacker depends only on the octets fed.
+-- Octets have at most one ticket: the saved state of an unpacker depends only on the octets that
+-- were fed.
 abbrev pub OctetsHaveOneTicket : Type 0
 OctetsHaveOneTicket = (octets ticket other : List ℕ) → IsTicketOf octets ticket → IsTicketOf octets other → ticket ≡ other
 
--- A ticket can be split in at most one way: octets have the form of a ticket with at most one list
--- of parts.
+-- A ticket can be split into parts in at most one way.
 abbrev pub ContentsAreUnique : Type 0
 ContentsAreUnique = (ticket : List ℕ) (s t : Contents) → HasContents ticket s → HasContents ticket t → s ≡ t
 
@@ -193,10 +195,10 @@ contents_of version p = record {
 abbrev pub PlaceTicketsHaveContents : Type 0
 PlaceTicketsHaveContents = (version : ℕ) (place : Place) → IsTicketVersion version → IsPossibleInVersion version place → HasContents (ticket_in_version version place) (contents_of version place)
 
--- The lemmas of the lower crates, in one record, which the functions that use any of them take as a
--- whole.
+-- The lemmas of the lower crates, in one record. Functions that use any of these lemmas receive the
+-- whole record.
 pub record LayerLemmas : Type 0 where
-  -- of datasets
+  -- lemmas about datasets
   pub one_tag : NoTagIsAPrefixOfAnother
   pub dataset_if : NoDatasetIsAPrefixOfAnother
   pub one_way : OctetsDetermineTheEvents
@@ -204,14 +206,14 @@ pub record LayerLemmas : Type 0 where
   pub completes : WhatAnOctetCompletes
   pub stuck : RejectedOctetsDoNotContinue
   pub spelled : CanonicalStreamsAreEncodings
-  -- of records
+  -- lemmas about records
   pub sections : NoSectionsAreAPrefixOfOthers
   pub last_record : EnvelopesEndWithTheLastRecord
   pub heads_die : HeadsAreRejectedForFaults
   pub heads_tell : HeadsReportTheLowestCause
   pub values_die : ValuesAreRejectedForFaults
   pub values_tell : ValuesReportTheLowestCause
-  -- of objects
+  -- lemmas about objects
   pub tokens : TokensExtendThePlace
   pub others : OtherDatasetsChangeNoPlace
   pub numbers_reach_their_place : NumbersReachTheirPlace
@@ -226,12 +228,12 @@ pub record LayerLemmas : Type 0 where
   pub whole_ends : ObjectsEndAtTheAnnouncedSize
   pub confirmed : TotalsAreConfirmed
   pub first_cause : CausesAreTheFirst
-  -- of texts
+  -- lemmas about texts
   pub one_text : TextsSoFarHaveOneReading
   pub stories_live : StoriesAreViableAsTextsSoFar
   pub stories_end : StoriesEndAsTexts
   pub no_return : TextsEndInNoReturn
-  -- of messages
+  -- lemmas about messages
   pub texts : TextsAreBetweenStxAndEtx
   pub living : ReadersConsumeViableOctets
   pub on : ViableOctetsReachStates
@@ -243,13 +245,13 @@ pub record LayerLemmas : Type 0 where
 
 -- The lemmas about envelopes, streams, positions and tickets, in one record with a field for each.
 pub record PlaceLaws : Type 0 where
-  -- envelopes:
+  -- lemmas about envelopes:
   pub no_envelope_is_empty : NoEnvelopeIsEmpty
   pub encoding_is_unambiguous : EncodingIsUnambiguous
   pub no_encoding_is_a_prefix_of_another : NoEncodingIsAPrefixOfAnother
   pub envelopes_are_framed : EnvelopesAreFramed
   pub envelopes_are_bounded : EnvelopesAreBounded
-  -- incomplete and rejected octets:
+  -- lemmas about incomplete and rejected octets:
   pub incomplete_begins_with_no_envelope : IncompleteBeginsWithNoEnvelope
   pub viable_octets_are_incomplete : ViableOctetsAreIncomplete
   pub incomplete_octets_are_bounded : IncompleteOctetsAreBounded
@@ -257,11 +259,11 @@ pub record PlaceLaws : Type 0 where
   pub refused_octets_have_no_continuation : RefusedOctetsHaveNoContinuation
   pub refusals_are_unique : RefusalsAreUnique
   pub refusals_report_the_lowest_cause : RefusalsReportTheLowestCause
-  -- streams and inputs:
+  -- lemmas about streams and inputs:
   pub streams_have_one_result : StreamsHaveOneResult
   pub inputs_have_one_listing : InputsHaveOneListing
   pub listings_are_longest : ListingsAreLongest
-  -- positions:
+  -- lemmas about positions:
   pub octets_have_one_place : OctetsHaveOnePlace
   -- A position is possible if and only if each layer by itself can reach it.
   pub places_are_possible_by_layers : PlacesArePossibleByLayers
@@ -270,7 +272,7 @@ pub record PlaceLaws : Type 0 where
   pub places_determine_refusals : PlacesDetermineRefusals
   pub small_places_were_possible : SmallPlacesWerePossible
   pub the_present_scale_adds_nothing : PresentScaleAddsNothing
-  -- tickets:
+  -- lemmas about tickets:
   pub octets_have_one_ticket : OctetsHaveOneTicket
   pub contents_are_unique : ContentsAreUnique
   pub place_tickets_have_contents : PlaceTicketsHaveContents

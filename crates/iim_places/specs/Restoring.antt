@@ -1,4 +1,4 @@
--- Ticket parts that no envelope reaches, and the consumers of a ticket's records.
+-- Parts of tickets that no envelope reaches, and the consumers of a ticket's records.
 use Rattle.std.specs.Prelude.{◌≡◌, ℕ, ◌^◌, ◌<◌, List, ◌++◌, length, ◌+◌, Bool, true, false, [], ◌∷◌, Option, None, cond}
 use Rattle.std.specs.List.{AllByRecursion, flat_map}
 use Rattle.iim_dataset.specs.Format.Datasets.{Dataset}
@@ -32,7 +32,7 @@ pub record FieldsPrecede (count : ℕ) (octets rest : List ℕ) : Type 0 where
 abbrev pub IsUnreachable : Contents → Type 0
 IsUnreachable s = (place : Place) → contents_of s.version place ≡ s → LayersReach place → ⊥
 
--- The stored datasets, together with the partial one, are within the limits.
+-- The stored datasets, together with the one in progress, are within the limits.
 abbrev pub AreWithinLimitsWith : Limits → ℕ → Phase → List Dataset → Type 0
 AreWithinLimitsWith limits section phase ds = IsWithin limits (kept_octets ds + partial_count section phase) (length (kept ds) + partial_fields section phase)
 
@@ -45,9 +45,9 @@ pub record CanContinueWithin (limits : Limits) (ds : List Dataset) : Type 0 wher
   pub alive : AreViableSections ds
   pub within : IsWithin limits (kept_octets ds) (length (kept ds))
 
--- What a consumer of datasets returns. On `true` it has consumed the datasets, whatever it had
--- consumed before. On `false` no datasets within the limits can continue with them, whatever it had
--- consumed before.
+-- The result of a consumer of datasets. On `true` it has consumed these datasets, after any it had
+-- consumed before. On `false` the datasets consumed before cannot be continued with these within
+-- the limits.
 abbrev pub ConsumesEach : {T : Type 0} → (T → Type 0) → (T → List Dataset → Type 0) → (T → Limits) → T → List Dataset → T → Bool → Type 0
 ConsumesEach ready stands limits old es new true = ready new × (limits new ≡ limits old) × ((ds : List Dataset) → stands old ds → stands new (ds ++ es))
 ConsumesEach ready stands limits old es new false = (ds : List Dataset) → stands old ds → CanContinueWithin (limits old) (ds ++ es) → ⊥
@@ -57,8 +57,8 @@ abbrev pub numbers_of_list : List (Option ℕ) → Numbers
 numbers_of_list (mode ∷ largest ∷ announced ∷ maximum ∷ []) = record { mode = mode; largest = largest; announced = announced; maximum = maximum }
 numbers_of_list other = record { mode = None; largest = None; announced = None; maximum = None }
 
--- the fields, the numbers, one empty subfile if `some` are complete, and 9:10 if the object has
--- ended
+-- the fields, the numbers, one empty subfile if `some` subfiles are complete, and 9:10 if the
+-- object has ended
 abbrev pub state_datasets : List Dataset → List (Option ℕ) → (some ended : Bool) → List Dataset
 state_datasets fields numbers some ended = plain fields (numbers_of_list numbers) (cond some 1 0) [] ended
 

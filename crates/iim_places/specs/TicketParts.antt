@@ -9,7 +9,7 @@ use Rattle.iim_places.specs.Format.Tickets.{field_octets, PartialData, four, wid
 use Rattle.iim_places.specs.Format.TicketForm.{FitsInField, AreTicketTexts, IsOptionalIn, AreTicketNumbers, Contents, IsTicketPhase, HasForm}
 use mathlib.Core.HLevel.{Σ_prop_path}
 
--- The octets are a list of encoded datasets, and nothing else.
+-- The octets are the encoding of a list of datasets, and nothing else.
 abbrev pub EncodesFields : List ℕ → Type 0
 EncodesFields octets = (datasets : List Dataset) × (AllByRecursion FitsInField datasets × (octets ≡ flat_map field_octets datasets))
 
@@ -31,12 +31,12 @@ EncodesNoMessage octets = (part counter flag : ℕ) (texts : List (List ℕ)) �
 abbrev pub EncodesNoBody : ℕ → List ℕ → Type 0
 EncodesNoBody version octets = (s : Contents) → s.version ≡ version → HasForm s → octets ≡ body_octets s → ⊥
 
--- The octets do not begin with partial data.
+-- The octets do not begin with data in progress.
 abbrev pub BeginsWithNoData : ℕ → ℕ → List ℕ → Type 0
 BeginsWithNoData version section octets = (set count left : ℕ) (taken rest : List ℕ) → IsTicketPhase version section (PartialData set count left taken)
     → 1 ∷ octets ≡ phase_octets version (PartialData set count left taken) ++ rest → ⊥
 
--- The number is absent or fits into the width of the present version.
+-- The number is absent or fits into the width of version 2.
 abbrev pub IsAbsentOrSize : Option ℕ → Type 0
 IsAbsentOrSize o = IsOptionalIn present_version o
 
@@ -44,7 +44,7 @@ IsAbsentOrSize o = IsOptionalIn present_version o
 abbrev pub dataset : ℕ → ℕ → List ℕ → Dataset
 dataset rec set octets = record { rec = rec; set = set; octets = octets }
 
--- the numbers of record 7, each absent or of the present version's width
+-- the numbers of record 7, each absent or of the width of version 2
 abbrev pub AreRecordNumbers : List (Option ℕ) → Type 0
 AreRecordNumbers numbers = AreTicketNumbers present_version numbers
 

@@ -13,16 +13,16 @@ use std::fmt;
 use std::fmt::{Display, Formatter};
 use wire_message::MessageCause;
 
-/// A rejected token: the layer, the dataset that the error names, and the cause.
+/// A rejected token: the layer that rejects it, the dataset that the error names, and the cause.
 #[derive(Clone, Copy, Debug, PartialEq, Eq)]
 pub struct TokenFault {
-    /// The layer that rejects it.
+    /// The layer that rejects the token.
     pub layer: Layer,
-    /// The record number of the dataset.
+    /// The record of the dataset.
     pub rec: u8,
     /// The number of the dataset within its record.
     pub set: u8,
-    /// The reason.
+    /// Why the token is rejected.
     pub cause: Cause,
 }
 
@@ -65,7 +65,7 @@ pub fn fault_of_record(fault: FieldFault) -> TokenFault
     }
 }
 
-/// Returns the error of the object layer for a cause, on the dataset of `head`.
+/// Returns the error of the object layer for a cause. It names the dataset of `head`.
 pub fn size_fault_on(head: Head, cause: SizeCause) -> TokenFault
     ensures { result ≡ size_fault_on head cause }
 {
@@ -77,7 +77,7 @@ pub fn size_fault_on(head: Head, cause: SizeCause) -> TokenFault
     }
 }
 
-/// Returns the error for a head that begins one subfile more than the limit allows.
+/// Returns the error for a head that begins more subfiles than the limit allows.
 pub fn count_fault_on(head: Head) -> TokenFault
     ensures { result ≡ count_fault_on head }
 {
@@ -99,7 +99,8 @@ fn message_layer(cause: MessageCause) -> Layer
     }
 }
 
-/// Returns the error of the message, the story or the sink for a cause, on the dataset of `head`.
+/// Returns the error of the message, the story or the sink for a cause. It names the dataset of
+/// `head`.
 pub fn message_fault_on(head: Head, cause: MessageCause) -> TokenFault
     ensures { result ≡ message_fault_on head cause }
 {

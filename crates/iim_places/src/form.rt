@@ -1,9 +1,9 @@
-//! Numbers of the ticket encoding: versions, and the kinds of a partial dataset.
+//! Numbers in the encoding of tickets: versions, and the kinds of what is in progress.
 
-/// The first version of tickets: counts and sizes have four octets.
+/// The first version of tickets, in which counts and sizes have four octets.
 pub const FIRST_VERSION: u8 = 1;
 
-/// The version that is written now: counts and sizes have eight octets.
+/// The version that is written now, in which counts and sizes have eight octets.
 pub const PRESENT_VERSION: u8 = 2;
 
 /// Between datasets, or within a tag.

@@ -1,5 +1,5 @@
-//! Internals for the crates above in this repository. They are no part of the public interface and
-//! may change in any release.
+//! Internals for the crates above, in this repository. They are not part of the public interface,
+//! and may change with any release.
 
 pub use crate::fault::{
     TokenFault, count_fault_on, fault_of_record, message_fault_on, size_fault_on,

@@ -1,14 +1,15 @@
-//! Definitions of the format: valid, incomplete and rejected input, positions and their tickets.
+//! Definitions of the format: valid, incomplete and rejected input, and positions in an envelope
+//! with their encodings, the tickets.
 //!
 //! Depends on the layers `iim_dataset`, `iim_fields`, `iim_object`, `wire_message` and
 //! `wire_story`, and contains no unpacker. It defines:
 //!
-//! - the one result of a stream (`streams_have_one_result`), and how the error of each layer is
-//!   reported ([`Refusal`]);
-//! - the one position that octets reach (`octets_have_one_place`), on which all continuations
-//!   depend (`places_determine_continuations`);
+//! - the result of a stream, which is unique (`streams_have_one_result`), and how the error of each
+//!   layer is reported ([`Refusal`]);
+//! - the position that octets reach, which is unique (`octets_have_one_place`) and determines all
+//!   continuations (`places_determine_continuations`);
 //! - the parts of a ticket ([`split_ticket`]);
-//! - for the unpacker only, the readers at a position ([`internals`]).
+//! - for the unpacker only, the readers of the layers at a position ([`internals`]).
 //!
 //! The proofs of the crates above may cite the lemmas of this crate.
 #![tactic(auto)]

@@ -53,9 +53,9 @@ impl Layer {
 /// lowest number is reported. The types of the variants list the causes of their layer.
 #[derive(Clone, Copy, Debug, PartialEq, Eq)]
 pub enum Cause {
-    /// The first octet of a tag is not 1C hex.
+    /// The first octet of a tag is not 1C hexadecimal.
     Marker,
-    /// The count of a tag is in no valid form.
+    /// The count of a tag has neither the standard nor the extended form.
     CountForm,
     /// The input ends inside an envelope.
     Truncated,
@@ -63,17 +63,17 @@ pub enum Cause {
     Field(FieldCause),
     /// The sizes of the object are inconsistent.
     Size(SizeCause),
-    /// No message can continue with this octet, or end here; or the caller's sink stopped
-    /// ([`Cause::SINK`]).
+    /// The octet cannot be part of any message, or no message can end here, or the sink of the
+    /// caller stopped ([`Cause::SINK`]).
     Message(MessageCause),
-    /// A subfile begins after 4,294,967,295 others.
+    /// The number of subfiles exceeds 4,294,967,295.
     TooManySubfiles,
-    /// An earlier call failed.
+    /// An earlier call returned an error.
     Failed,
 }
 
 impl Cause {
-    /// The caller's sink stopped.
+    /// The sink of the caller stopped.
     pub const SINK: Cause = Cause::Message(MessageCause::Sink);
 
     /// Returns the number as it is printed.
@@ -111,22 +111,23 @@ impl Cause {
 
 /// A rejection of input: the layer, the dataset, the offset and the cause.
 ///
-/// `octet` is the offset, from the first octet of the envelope, of the octet that completes the
-/// rejected token. For [`Cause::Truncated`] it is the length of the input.
+/// `octet` is the offset of the octet that completes the rejected token, from the first octet of
+/// the envelope. For [`Cause::Truncated`] it is the length of the input.
 ///
-/// The dataset is the partial one. Numbers of its tag that were not read yet are 0, and both are 0
-/// between datasets. For [`FieldCause::Missing`] it is the missing dataset with the lowest number.
+/// `rec` and `set` name the dataset in progress. Numbers of its tag that were not read yet are 0,
+/// and both are 0 between datasets. For [`FieldCause::Missing`] they name the missing dataset with
+/// the lowest number.
 #[derive(Clone, Copy, Debug, PartialEq, Eq)]
 pub struct Refusal {
-    /// The layer that rejects.
+    /// The layer that rejects the token.
     pub layer: Layer,
-    /// The number of the record, or 0.
+    /// The record of the dataset, or 0.
     pub rec: u8,
-    /// The number of the dataset, or 0.
+    /// The number of the dataset within its record, or 0.
     pub set: u8,
     /// The offset in octets from the first octet of the envelope.
     pub octet: u64,
-    /// The reason.
+    /// Why the token is rejected.
     pub cause: Cause,
 }
 

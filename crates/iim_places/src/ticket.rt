@@ -1,4 +1,4 @@
-//! Tickets: the encoding of a position, its parts, and the readers at that position.
+//! Tickets: the encoding of a position, the parts of a ticket, and the readers at its position.
 
 pub(crate) mod fault;
 pub(crate) mod fields;

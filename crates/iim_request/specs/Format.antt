@@ -1,4 +1,4 @@
--- What the arguments of a command line request, by the rules of clap.
+-- What the arguments of a command line request, according to the rules of clap.
 use Rattle.std.specs.Prelude.{◌≡◌, ℕ, ℤ, ⊤, List, [], Option, None, Some, IsSome, Bool, true, false, Ok, codes, option_map, ◌==◌, ◌&&◌, ◌||◌, nat_le, if◌then◌else◌, slice_index, ◌∷◌, ◌++◌, ◌⊎◌, ◌≤◌, length, map}
 use Rattle.std.specs.{Borrow.Bor, Option.unwrap_or, Char.is_ascii_control}
 use Rattle.std.specs.Str.Parse.{digits_value, without_leading_plus}
@@ -17,11 +17,11 @@ pub use Rattle.iim_request.specs.declared.request.UsageFault.TheVariants.{Words,
 
 -- ---- the program's commands, as they are declared to clap
 
--- a command that takes an optional FILE
+-- a command that has an optional argument FILE
 abbrev pub file_command : Text → App
 file_command name = with_rule (new_app name) (new_rule (codes "FILE"))
 
--- the argument FILE of a command that takes any number of files
+-- the argument FILE of a command that accepts any number of files
 abbrev pub files_rule : Rule
 files_rule = record (new_rule (codes "FILE")) { action = Some Append }
 
@@ -29,19 +29,19 @@ files_rule = record (new_rule (codes "FILE")) { action = Some Append }
 abbrev pub list_rule : Rule
 list_rule = record (new_rule (codes "files-from")) { long = Some (codes "files-from"); value_names = 1 }
 
--- a command that takes any number of files, or a list of them
+-- a command that accepts any number of files as arguments, or a list of files
 abbrev pub files_command : Text → App
 files_command name = with_rule (with_rule (new_app name) files_rule) list_rule
 
--- an option of this name, which takes a number from `least` to the greatest size
+-- an option with this name, whose value is a number from `least` to the greatest size
 abbrev pub number_rule : Text → ℕ → Rule
 number_rule name least = record (new_rule name) { long = Some name; value_names = 1; parser = Some (Unsigned least greatest_size) }
 
--- the option that leaves the size of the object unknown
+-- the option `--unknown`: the envelope states that the size of its object is unknown
 abbrev pub unknown_rule : Rule
 unknown_rule = record (new_rule (codes "unknown")) { long = Some (codes "unknown"); action = Some SetTrue }
 
--- the option that sets the present instant, which is required
+-- the option `--now`, which sets the instant of the audit and is required
 abbrev pub now_rule : Rule
 now_rule = record (new_rule (codes "now")) { long = Some (codes "now"); value_names = 1; required = true }
 
@@ -68,26 +68,27 @@ program = with_subcommand (with_subcommand (with_subcommand (with_subcommand (wi
 abbrev pub text_of_option : Option (Bor Text) → Option Text
 text_of_option given = option_map (λ text. text.now) given
 
--- The option has this number, from `least` to the greatest size. (clap rejects any other text.)
+-- The option has this number, which is from `least` to the greatest size. (clap rejects any other
+-- text.)
 abbrev pub IsNumberOption : ℕ → Option Text → Option ℕ → Type 0
 IsNumberOption least None number = number ≡ None
 IsNumberOption least (Some text) (Some n) = IsUnsignedIn least greatest_size text × (n ≡ digits_value 10 (without_leading_plus text))
 IsNumberOption least (Some text) None = IsUnsignedIn least greatest_size text → ⊥
 
--- The option was given. (What clap stores for an option without a value.)
+-- The option was given. (The text is what clap stores for an option without a value.)
 abbrev pub IsFlagOption : Option Text → Bool → Type 0
 IsFlagOption None flag = flag ≡ false
 IsFlagOption (Some text) flag = (text ≡ codes "true" → flag ≡ true) × (text ≡ codes "false" → flag ≡ false)
 
--- the largest number of octets of a subfile, if no number is given
+-- the length of a full subfile in octets, if no number is given
 abbrev pub default_subfile : ℕ
 default_subfile = 1024
 
--- The number of octets of a subfile: the number that was given, or 1,024.
+-- The length of a full subfile in octets: the number that was given, or 1,024.
 abbrev pub IsSubfile : Option Text → ℕ → Type 0
 IsSubfile given subfile = (number : Option ℕ) × IsNumberOption 1 given number × (subfile ≡ unwrap_or number default_subfile)
 
--- The text is this instant, by the rules of jiff.
+-- The text denotes this instant, according to the rules of jiff.
 abbrev pub IsInstant : Option Text → ℤ → Type 0
 IsInstant None now = ⊥
 IsInstant (Some text) now = parse_timestamp text ≡ Ok now
@@ -100,8 +101,8 @@ pub record HasPackOptions (rows : List Row) (subfile : ℕ) (unknown : Bool) (ma
   pub unknown_is : IsFlagOption (one_of (codes "unknown") rows) unknown
   pub max_is : IsNumberOption 0 (first_of (codes "max") rows) max
 
--- The command with this name, with these values of its arguments, requests the job. A maximum is
--- given only for an unknown size.
+-- The command with this name and these values of its arguments requests the job. A maximum is given
+-- only for an unknown size.
 abbrev pub IsJobOf : Text → List Row → Job → Type 0
 IsJobOf name rows Check = name ≡ codes "check"
 IsJobOf name rows Show = name ≡ codes "show"
@@ -119,7 +120,7 @@ pub record NamesCommand (words : List Text) (name : Text) (rows : List Row) : Ty
 abbrev pub file_names_of : List Row → List Text
 file_names_of rows = unwrap_or (all_of (codes "FILE") rows) []
 
--- The files have these names, given as arguments: none or one, or two and more.
+-- The files have these names, which are given as arguments: at most one, or two or more.
 abbrev pub AreNamedFiles : List Text → Files → Type 0
 AreNamedFiles names (One None) = names ≡ []
 AreNamedFiles names (One (Some file)) = names ≡ file.now ∷ []
@@ -140,14 +141,14 @@ IsFilesRequestOf words request = (name : Text) × (rows : List Row) × NamesComm
 abbrev pub IsRequestOf : List Text → Request → Type 0
 IsRequestOf words request = IsFilesRequestOf words (record { files = One request.file; job = request.job })
 
--- The command with this name, with these values of its arguments, has the error: a maximum for a
--- known size, or an invalid instant.
+-- The command with this name and these values of its arguments has the error: a maximum for a known
+-- size, or an invalid instant.
 abbrev pub IsJobFault : Text → List Row → UsageFault → Type 0
 IsJobFault name rows MaxNeedsUnknown = (name ≡ codes "pack") × ((subfile : ℕ) × (max : Option ℕ) × HasPackOptions rows subfile false max × IsSome max)
 IsJobFault name rows BadNow = (name ≡ codes "audit") × ((now : ℤ) → IsInstant (first_of (codes "now") rows) now → ⊥)
 IsJobFault name rows _ = ⊥
 
--- The error is of this kind. An allocation may always fail.
+-- The error is of this kind, or is a failed allocation.
 abbrev pub IsErrorOfKind : ErrorKind → UsageFault → Type 0
 IsErrorOfKind kind (Words error) = kind_of error ≡ kind
 IsErrorOfKind kind OutOfMemory = ⊤
@@ -162,8 +163,8 @@ abbrev pub IsFilesFault : List Row → UsageFault → Type 0
 IsFilesFault rows OutOfMemory = ⊤
 IsFilesFault rows fault = NamesBoth rows × IsErrorOfKind ArgumentConflict fault
 
--- The error is one that clap finds in the arguments, or one of their command. An allocation may
--- always fail.
+-- The error is one that clap finds in the arguments, or an error of the command in them, or a
+-- failed allocation.
 abbrev pub IsFilesUsageErrorOf : List Text → UsageFault → Type 0
 IsFilesUsageErrorOf words (Words error) = IsAmong (kind_of error) (fault_of program words)
     ⊎ ((name : Text) × (rows : List Row) × NamesCommand words name rows × NamesBoth rows × (kind_of error ≡ ArgumentConflict))
@@ -178,24 +179,25 @@ AreManyFiles files = ⊤
 abbrev pub IsManyFilesRequest : FilesRequest → Type 0
 IsManyFilesRequest request = AreManyFiles request.files
 
--- The error is one of these; or the arguments request more than one file, or a list of files.
+-- The error is one of those for files; or the arguments request more than one file, or a list of
+-- files.
 abbrev pub IsUsageErrorOf : List Text → UsageFault → Type 0
 IsUsageErrorOf words fault = IsFilesUsageErrorOf words fault
     ⊎ ((request : FilesRequest) × IsFilesRequestOf words request × IsManyFilesRequest request × IsErrorOfKind TooManyValues fault)
 
 -- ---- Names and arguments, escaped as printable text.
 
--- the two octets of a control character from U+0080 to U+009F
+-- the two octets encode a control character from U+0080 to U+009F
 abbrev pub encodes_control : ℕ → ℕ → Bool
 encodes_control first second = first == 0xc2 && (nat_le 0x80 second && nat_le second 0x9f)
 
--- An octet that is escaped, between two others: a control character, an octet of one, or a
--- backslash.
+-- The octet in the middle is escaped: it is a control character or a backslash, or belongs to two
+-- octets that encode a control character.
 abbrev pub is_hidden : ℕ → ℕ → ℕ → Bool
 is_hidden before octet next = is_ascii_control octet || (octet == backslash || (encodes_control before octet || encodes_control octet next))
 
--- the octets after this one: those that are hidden as \x and two digits, all others as they are; 0
--- follows the last one
+-- the octets after this one, in which those that are escaped are \x and two digits; 0 follows the
+-- last one
 abbrev pub escaped_after : ℕ → List ℕ → List ℕ
 escaped_after before [] = []
 escaped_after before (octet ∷ octets) = (if is_hidden before octet (slice_index octets 0) then escape octet else octet ∷ []) ++ escaped_after octet octets

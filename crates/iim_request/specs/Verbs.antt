@@ -12,14 +12,13 @@ use Rattle.iim_request.specs.declared.request.Files.TheVariants.{One}
 use Rattle.iim_request.specs.declared.request.Verb.{Verb}
 use Rattle.iim_request.specs.declared.request.Verb.TheVariants as verbs
 
--- An allocation failure of clap is one of the usage error, and any other error is one in the
--- arguments.
+-- A failed allocation in clap is a failed allocation, and any other error of clap is a usage error.
 abbrev pub IsUsageErrorFromClap : Error → UsageFault → Type 0
 IsUsageErrorFromClap error (Words same) = (same ≡ error) × (kind_of error ≡ kind.OutOfMemory → ⊥)
 IsUsageErrorFromClap error OutOfMemory = kind_of error ≡ kind.OutOfMemory
 IsUsageErrorFromClap error _ = ⊥
 
--- Unless an allocation failed, the command is this one, and no argument of it is global.
+-- Unless an allocation failed, the result is this command, and none of its arguments is global.
 abbrev pub IsCommand : {E : Type 0} → App → Result Command E → Type 0
 IsCommand app command = IfOk command (λ c. (app_of c ≡ app) × ((fields_of c).has_globals ≡ false))
 
@@ -35,10 +34,10 @@ pub record AreMatchesOf (words : List Text) (matches : ArgMatches) : Type 0 wher
   pub faultless : fault_of program words ≡ []
   pub command : subcommand_rows_of matches ≡ subcommand_of program words
 
--- The request for files is this one for one file.
+-- The request is for one file, and this is the request for that file.
 abbrev pub IsOneFileRequest : FilesRequest → Request → Type 0
 IsOneFileRequest files request = files ≡ record { files = One request.file; job = request.job }
 
--- The request is for other files, and this is the error.
+-- The request is for several files or a list, and this is the error.
 abbrev pub IsRejectedFilesRequest : FilesRequest → UsageFault → Type 0
 IsRejectedFilesRequest files fault = IsManyFilesRequest files × IsErrorOfKind TooManyValues fault

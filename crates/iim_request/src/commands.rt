@@ -97,8 +97,8 @@ Status: 0 all accepted, 1 refused, 2 a mistake in the words, 3 a file, output or
 The manual page, iimwire(1), and docs/reference/causes.md list the causes of a refusal.
 iimwire COMMAND --help has an example of each command.";
 
-/// Returns a command that takes a FILE. `about` and `after` are the beginning and the end of its
-/// help text.
+/// Returns a command that has one argument FILE. `about` and `after` are the beginning and the end
+/// of its help text.
 fn with_file<'a>(
     alloc: Global,
     name: &'a str,
@@ -134,8 +134,8 @@ fn list_arg<'a>(alloc: Global) -> Arg<'a>
         .help(LIST_HELP)
 }
 
-/// Returns a command that takes any number of files as arguments. `about` and `after` are the
-/// beginning and the end of its help text.
+/// Returns a command with any number of files as arguments. `about` and `after` are the beginning
+/// and the end of its help text.
 fn with_names<'a>(
     alloc: Global,
     name: &'a str,
@@ -150,7 +150,7 @@ fn with_names<'a>(
         .arg(files_arg(alloc))
 }
 
-/// Returns a command that takes any number of files as arguments, or a list of them.
+/// Returns a command with any number of files as arguments, or with a list of files.
 fn with_files<'a>(
     alloc: Global,
     name: &'a str,
@@ -162,7 +162,7 @@ fn with_files<'a>(
     with_arg(with_names(alloc, name, about, after), list_arg(alloc))
 }
 
-/// Returns an option that takes a number, from `least` to the greatest size.
+/// Returns an option whose value is a number from `least` to the greatest size.
 fn number_arg<'a>(
     alloc: Global,
     name: &'a str,
@@ -180,7 +180,7 @@ fn number_arg<'a>(
         .help(help)
 }
 
-/// Returns the option `--unknown`, which leaves the size of the object unknown.
+/// Returns the option `--unknown`: the envelope states that the size of its object is unknown.
 fn unknown_arg<'a>(alloc: Global) -> Arg<'a>
     ensures rule { rule_of result ≡ unknown_rule }
     ensures local { result.global ≡ false }
@@ -193,7 +193,7 @@ fn unknown_arg<'a>(alloc: Global) -> Arg<'a>
         )
 }
 
-/// Returns the option `--now`, which sets the present instant.
+/// Returns the option `--now`, which sets the instant of the audit.
 fn now_arg<'a>(alloc: Global) -> Arg<'a>
     ensures rule { rule_of result ≡ now_rule }
     ensures local { result.global ≡ false }
@@ -205,7 +205,7 @@ fn now_arg<'a>(alloc: Global) -> Arg<'a>
         .help("The present instant, as 2024-03-01T12:00:00Z")
 }
 
-/// Adds an argument to a command. Returns an error if an allocation fails or failed before.
+/// Adds an argument to a command. Returns an error if this or an earlier allocation failed.
 fn with_arg<'a>(
     command: Result<Command<'a>, AllocError>,
     arg: Arg<'a>,
@@ -216,7 +216,7 @@ fn with_arg<'a>(
     command?.arg(arg)
 }
 
-/// Adds a command to a program. Returns an error if an allocation fails or failed before.
+/// Adds a command to a program. Returns an error if this or an earlier allocation failed.
 fn with_command<'a>(
     program: Result<Command<'a>, AllocError>,
     command: Result<Command<'a>, AllocError>,

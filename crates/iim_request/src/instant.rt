@@ -1,15 +1,14 @@
-//! Instants.
+//! Instants without the types of `jiff`.
 //!
-//! No public item here has a type of `jiff`. So the crates above build faster, because they read
-//! little of `jiff`.
+//! No public item of this crate has a type of `jiff`, so that the crates above need not load most
+//! of `jiff` when they are proved.
 
 ghost use Rattle.std.specs.Prelude.{◌≡◌, IfSome, IfNone};
 ghost use Rattle.jiff.specs.Words.{IsTimestampNanos};
 
 use jiff::Timestamp;
 
-/// An instant in the range of `jiff`, as its nanoseconds from 1970-01-01T00:00:00Z. Requests can
-/// store this form.
+/// An instant in the range of `jiff`, as the number of nanoseconds since 1970-01-01T00:00:00Z.
 #[derive(Clone, Copy, Debug, PartialEq, Eq)]
 pub struct Instant {
     nanosecond: i128,
@@ -17,8 +16,8 @@ pub struct Instant {
 }
 
 impl Instant {
-    /// Returns the instant `nanosecond` nanoseconds after 1970-01-01T00:00:00Z, or `None` if it is
-    /// outside the range of `jiff`.
+    /// Creates the instant `nanosecond` nanoseconds after 1970-01-01T00:00:00Z. Returns `None` if
+    /// it is outside the range of `jiff`.
     pub fn new(nanosecond: i128) -> Option<Instant>
         ensures some { IfSome result (λ instant. instant.nanosecond ≡ nanosecond) }
         ensures none { IfNone result (IsTimestampNanos nanosecond → ⊥) }
@@ -29,7 +28,7 @@ impl Instant {
         }
     }
 
-    /// Returns the nanoseconds from 1970-01-01T00:00:00Z. They are in the range of `jiff`.
+    /// Returns the nanoseconds since 1970-01-01T00:00:00Z. They are in the range of `jiff`.
     pub fn nanosecond(self) -> i128
         ensures value { result ≡ self.nanosecond }
         ensures in_range { IsTimestampNanos result }

@@ -1,4 +1,4 @@
-//! How an envelope is to be packed.
+//! Options for packing an envelope.
 
 ghost use Rattle.std.specs.Prelude.{IsTrue};
 ghost use Rattle.iim_object.specs.Format.Objects.{is_plan};
@@ -9,9 +9,9 @@ ghost use Rattle.iim_object.specs.declared.size.Size.TheVariants.{Unknown};
 pub struct PackRequest {
     /// The number of octets of a full subfile, from 1 to the greatest size of an object.
     pub subfile: u64,
-    /// Whether the envelope leaves the size of the object unknown.
+    /// Whether the envelope states that the size of its object is unknown.
     pub unknown: bool,
-    /// The largest number of octets of an object of unknown size, up to the greatest size.
+    /// The maximum size of an object of unknown size, at most the greatest size.
     pub max: Option<u64>,
     ghost valid: { IsTrue (is_plan subfile (Unknown max)) },
 }

@@ -15,7 +15,7 @@ use std::alloc::{AllocError, Global};
 use std::fmt::{Display, Formatter};
 use std::{error, fmt};
 
-/// The largest number of octets of a subfile, if no number is given.
+/// The number of octets of a full subfile, if no number is given.
 pub const DEFAULT_SUBFILE: u64 = 1_024;
 
 /// The job of a command.
@@ -23,7 +23,7 @@ pub const DEFAULT_SUBFILE: u64 = 1_024;
 pub enum Job {
     /// Lists the envelopes of the input.
     Check,
-    /// Shows the parts of each envelope except its story.
+    /// Lists everything in each envelope except its story.
     Show,
     /// Writes the story of each envelope.
     Story,
@@ -37,7 +37,7 @@ pub enum Job {
     },
 }
 
-/// A file or standard input, and the job to do with it.
+/// A file or standard input, and the job to run on it.
 #[derive(Clone, Copy, Debug, PartialEq, Eq)]
 pub struct Request<'a> {
     /// The path of the file, or `None` for standard input.
@@ -51,14 +51,14 @@ pub struct Request<'a> {
 pub enum Files<'a> {
     /// The file with this path, or standard input for `None`.
     One(Option<&'a str>),
-    /// Two or more files, in this order.
+    /// Two or more files, in the order of the arguments.
     Many(Vec<&'a str>),
-    /// The files that a list names, in its order. The list is the file with this path, or standard
-    /// input for `-`.
+    /// The files whose names are in a list, in the order of the list. The list is the file with
+    /// this path, or standard input for `-`.
     Listed(&'a str),
 }
 
-/// Files, and the job to do with each of them.
+/// Files, and the job to run on each of them.
 #[derive(Drop)]
 pub struct FilesRequest<'a> {
     /// The files.
@@ -70,7 +70,7 @@ pub struct FilesRequest<'a> {
 /// A usage error.
 #[derive(Debug, Drop)]
 pub enum UsageFault {
-    /// `clap` rejects the arguments. The error has the message.
+    /// An error of `clap`, with its message.
     Words(Error),
     /// `--max` is given without `--unknown`.
     MaxNeedsUnknown,
@@ -146,8 +146,8 @@ fn verb_by_name(name: &str) -> Option<Verb>
     }
 }
 
-/// Returns the value of an option, from `least` to the greatest size, or `None` if it is not given
-/// or out of range.
+/// Parses the value of an option. Returns `None` if it is missing, or not between `least` and the
+/// greatest size.
 fn number_option(text: Option<&str>, least: u64) -> Option<u64>
     ensures given { IsNumberOption least (text_of_option text.entry) result }
     ensures within { IfSome result (λ number. (least ≤ number) × (number ≤ greatest_size)) }
@@ -170,7 +170,7 @@ fn subfile_option(text: Option<&str>) -> u64
     }
 }
 
-/// Checks whether a maximum is given for a known size.
+/// Checks whether a maximum is given, but not `--unknown`.
 fn is_max_alone(unknown: bool, max: Option<u64>) -> bool
     ensures yes { result ≡ true → IsSome max × (unknown ≡ false) }
     ensures no { result ≡ false → IsSome max → unknown ≡ true }
@@ -226,13 +226,13 @@ fn job_of(verb: Verb, found: &ArgMatches<'_>) -> Result<Job, UsageFault>
     }
 }
 
-/// The message if `--files-from` is given together with a FILE.
+/// The message of the error if `--files-from` is given together with a FILE.
 const LIST_AND_FILE: &str = "--files-from takes no FILE";
 
-/// The message if more than one file is given and one is expected.
+/// The message of the error if more than one file is given to a command that reads one.
 const NOT_ONE_FILE: &str = "more than one FILE";
 
-/// Returns a usage error of this kind, with this message.
+/// Creates a usage error with this message.
 fn fault_of(alloc: Global, kind: ErrorKind, message: &str) -> UsageFault
     requires { kind ≡ ErrorKind.OutOfMemory → ⊥ }
     ensures { IsErrorOfKind kind result }
@@ -274,7 +274,7 @@ fn requested_files<'a>(alloc: Global, found: &ArgMatches<'a>) -> Result<Files<'a
     }
 }
 
-/// Returns the request of arguments that `clap` accepted. They name one of the commands.
+/// Converts arguments that `clap` accepted to a request. They name one of the commands.
 fn request_of<'a>(alloc: Global, matches: &ArgMatches<'a>) -> Result<FilesRequest<'a>, UsageFault>
     requires { (words : List Text) × AreMatchesOf words matches.now }
     ensures ok { (words : List Text) → AreMatchesOf words matches.now → IfOk result (IsFilesRequestOf words) }
@@ -293,8 +293,8 @@ fn request_of<'a>(alloc: Global, matches: &ArgMatches<'a>) -> Result<FilesReques
     }
 }
 
-/// Parses the arguments of a command line, with any number of files. The first of them is the
-/// program's name.
+/// Parses the arguments of a command line, with any number of files. The first argument is the name
+/// of the program.
 pub fn parse_files<'a>(alloc: Global, words: &'a [String]) -> Result<FilesRequest<'a>, UsageFault>
     ensures ok { IfOk result (IsFilesRequestOf (map string_bytes words.entry.now)) }
     ensures err { IfErr result (IsFilesUsageErrorOf (map string_bytes words.entry.now)) }
@@ -303,8 +303,8 @@ pub fn parse_files<'a>(alloc: Global, words: &'a [String]) -> Result<FilesReques
     request_of(alloc, &matches)
 }
 
-/// Parses the arguments of a command line, with at most one file. The first of them is the
-/// program's name.
+/// Parses the arguments of a command line, with at most one file. The first argument is the name of
+/// the program.
 pub fn parse<'a>(alloc: Global, words: &'a [String]) -> Result<Request<'a>, UsageFault>
     ensures ok { IfOk result (IsRequestOf (map string_bytes words.entry.now)) }
     ensures err { IfErr result (IsUsageErrorOf (map string_bytes words.entry.now)) }
@@ -315,8 +315,8 @@ pub fn parse<'a>(alloc: Global, words: &'a [String]) -> Result<Request<'a>, Usag
     }
 }
 
-/// Returns the request for one file, or a usage error if the request is for several files or a
-/// list.
+/// Returns the request for one file. Returns a usage error if the request is for several files or
+/// for a list.
 fn one_file(alloc: Global, request: FilesRequest<'_>) -> Result<Request<'_>, UsageFault>
     ensures ok { IfOk result (IsOneFileRequest request.entry) }
     ensures err { IfErr result (IsRejectedFilesRequest request.entry) }

@@ -1,4 +1,4 @@
-//! Octets that are escaped as printable text.
+//! Escapes octets for printing.
 
 ghost use Rattle.std.specs.Prelude.{◌≡◌, ◌++◌, [], ◌∷◌, if◌then◌else◌, slice_index, OnOk};
 ghost use Rattle.iim_dataset.specs.Format.Datasets.{escape};
@@ -14,8 +14,8 @@ fn encodes_control(first: u8, second: u8) -> bool
     first == 0xC2 && (0x80 <= second && second <= 0x9F)
 }
 
-/// Checks whether `octet` is escaped: it is a control character, a backslash, or one of the two
-/// octets of a control character, together with the octet before or after it.
+/// Checks whether `octet` must be escaped: it is a backslash or a control character of one octet,
+/// or it is one of two octets, together with `before` or `next`, that encode a control character.
 fn is_hidden(before: u8, octet: u8, next: u8) -> bool
     ensures { result ≡ is_hidden before octet next }
 {
@@ -45,8 +45,8 @@ fn push_octet(text: &mut Vec<u8>, hidden: bool, octet: u8) -> Result<(), AllocEr
     }
 }
 
-/// Appends a name. Each octet of its control characters (U+0000 to U+001F and U+007F to U+009F)
-/// and backslashes is written as `\x` and two digits, every other octet as it is.
+/// Appends a name. Each octet of a control character (U+0000 to U+001F and U+007F to U+009F) and
+/// each backslash is written as `\x` and two digits, and every other octet as it is.
 pub fn push_name(text: &mut Vec<u8>, name: &str) -> Result<(), AllocError>
     ensures { OnOk result (text.new.items ≡ text.old.items ++ escaped_name name.now) }
 {

@@ -13,8 +13,8 @@ pub fn packed_octets_are_valid()
     packed_octets_encode_the_value();
 }
 
-/// Proves that packed octets are the only valid envelope that a stream beginning with them begins
-/// with, and that it has the value that was packed.
+/// Proves that a stream that begins with packed octets begins with no other valid envelope, and
+/// that this envelope has the value that was packed.
 pub fn packed_envelope_is_found_in_stream()
     ensures { PackedEnvelopeIsFoundInStream }
 {
@@ -22,7 +22,8 @@ pub fn packed_envelope_is_found_in_stream()
     place_laws();
 }
 
-/// Proves that packed octets are an envelope within all limits that its fields are within.
+/// Proves that packed octets are an envelope within the limits if their fields are within these
+/// limits.
 pub fn packed_octets_are_within_limits()
     ensures { PackedOctetsAreWithinLimits }
 {
@@ -30,8 +31,8 @@ pub fn packed_octets_are_within_limits()
     packed_subfiles_are_bounded();
 }
 
-/// Proves that a stream that begins with packed octets has exactly one result, whatever follows:
-/// the packed octets, and the value that was packed.
+/// Proves that a stream that begins with packed octets has exactly one result, regardless of what
+/// follows: the packed octets, and the value that was packed.
 pub fn packed_stream_has_one_result()
     ensures { PackedStreamHasOneResult }
 {

@@ -1,8 +1,8 @@
-//! The round trip: what was packed is unpacked again, unchanged.
+//! The round trip: unpacking returns what was packed.
 //!
 //! Depends on `iim_pack` and `iim_unpack`, and on `iim_tables`, `iim_dataset`, `iim_fields`,
-//! `iim_object`, `wire_story` and `wire_message` for their types, sinks and definitions. No crate
-//! depends on it.
+//! `iim_object`, `wire_story` and `wire_message` for their types, sinks and definitions. No library
+//! depends on this crate.
 #![tactic(auto)]
 
 pub mod laws;

@@ -1,5 +1,5 @@
-//! Unpacks a stream that is split into chunks: what was packed is returned, and any other stream
-//! has its result.
+//! Unpacks a stream that is split into chunks. If the stream begins with packed octets, returns
+//! what was packed; otherwise returns the result that the format defines for the stream.
 
 ghost use Rattle.std.specs.Prelude.{◌≡◌, IfOk, IfErr, OnOk};
 ghost use Rattle.iim_unpack.specs.Format.Pieces.{IsUnpacked, stream_of};
@@ -21,7 +21,7 @@ use wire_story::{Lines, StorySink};
 /// Why nothing was unpacked.
 #[derive(Debug, Drop)]
 pub enum UnpackFault {
-    /// Memory allocation failed for the unpacker.
+    /// Memory allocation failed when the unpacker was created.
     OutOfMemory,
     /// The stream is rejected, or the sink stopped ([`iim_unpack::Cause::SINK`]).
     Refused(Refusal),
@@ -30,7 +30,8 @@ pub enum UnpackFault {
 impl UnpackFault {
     ghost use Rattle.iim_round_trip.specs.Format.Faults.{unpack_fault_number, unpack_fault_name};
 
-    /// Returns the number of the cause, as it is printed. A refusal has the number of its cause.
+    /// Returns the number of the cause, as it is printed. For a refusal, it is the number of the
+    /// refusal's cause.
     pub fn number(&self) -> u8
         ensures { result ≡ unpack_fault_number self.now }
     {
@@ -40,7 +41,8 @@ impl UnpackFault {
         }
     }
 
-    /// Returns the name of the cause, as it is printed. A refusal has the name of its cause.
+    /// Returns the name of the cause, as it is printed. For a refusal, it is the name of the
+    /// refusal's cause.
     pub fn name(&self) -> &'static str
         ensures { result.now ≡ unpack_fault_name self.now }
     {
@@ -68,17 +70,18 @@ impl Display for UnpackFault {
 
 impl Error for UnpackFault {}
 
-/// Unpacks the envelope that a stream begins with, in chunks of any size. Returns the envelope and
+/// Unpacks the envelope at the start of a stream, in chunks of any size. Returns the envelope and
 /// its length in octets. Allocates exactly the memory that the limits require.
 ///
-/// If the stream begins with what was packed from an envelope, a header, lines and a trailer, then
-/// exactly the packed octets are consumed, that envelope, header and trailer are returned, and the
-/// sink receives the lines. This holds for every plan and whatever follows.
+/// If the stream begins with octets that were packed from an envelope, a header, lines and a
+/// trailer, then exactly these octets are consumed, the same envelope, header and trailer are
+/// returned, and the sink receives the same lines. This holds for every plan, and for anything that
+/// follows.
 ///
-/// It succeeds if and only if the stream begins with a valid envelope within the limits.
+/// The call succeeds if and only if the stream begins with a valid envelope within the limits.
 ///
-/// **Errors:** the refusal of the first octet after which some layer cannot continue, or at the end
-/// of a truncated stream. A stream has exactly one of these results, unless the sink stopped or the
+/// **Errors:** the refusal of the first octet that some layer cannot accept, or of the end of a
+/// truncated stream. A stream has exactly one of these results, unless the sink stopped or the
 /// allocation failed.
 pub fn unpack_packed<S: StorySink>(
     alloc: Global,
@@ -86,19 +89,19 @@ pub fn unpack_packed<S: StorySink>(
     pieces: &[&[u8]],
     sink: &mut S,
 ) -> Result<(Unpacked, u64), UnpackFault>
-    // What was packed is returned.
+    // If the stream begins with packed octets, what was packed is returned.
     ensures returns_packed { IfOk result (λ got.
         UnpacksPacked S.goes limits (stream_of pieces.now) sink.old sink.new got.0 got.1) }
     ensures refused { BeginsWithPacked limits (stream_of pieces.now) → IfErr result IsNotFromStream }
 
-    // Any stream has its result.
+    // For any stream, the result is the one that the format defines.
     ensures finished { IfOk result (λ got.
         IsUnpacked S.goes limits (stream_of pieces.now) sink.old sink.new got.0 got.1) }
     ensures rejected { IfErr result (IsRejectedUnpacking S.goes limits (stream_of pieces.now) sink.old sink.new) }
     ensures only { (answer : Answer) → Answers limits (stream_of pieces.now) answer
         → IfErr result (λ fault. IsNotFromStream fault → ⊥) → RepresentsUnpackResult result answer }
 
-    // The sink is the cause only if its count of failures increased.
+    // If the call succeeds, the sink has not failed.
     ensures no_failure { OnOk result (S.failures sink.new ≡ S.failures sink.old) }
     ensures counted { IfErr result (λ fault. CountsFailureOfSink fault (S.failures sink.old) (S.failures sink.new)) }
 {
@@ -112,7 +115,7 @@ pub fn unpack_packed<S: StorySink>(
     }
 }
 
-/// An envelope with its lines, and its length.
+/// An envelope with its lines and its length.
 #[derive(Drop)]
 pub struct Story {
     /// The envelope, except its lines.
@@ -123,20 +126,20 @@ pub struct Story {
     pub used: u64,
 }
 
-/// Unpacks the envelope that a stream begins with, and collects its lines.
+/// Unpacks the envelope at the start of a stream, and collects its lines.
 ///
-/// If the stream begins with what was packed within the limits, then that envelope, header, lines,
-/// trailer and the sizes of that plan are returned, from exactly the packed octets. Any other
-/// stream has the result of [`unpack_packed`].
+/// If the stream begins with octets that were packed within the limits, then the same envelope,
+/// header, lines, trailer and sizes are returned, from exactly these octets. For any other stream,
+/// the result is that of [`unpack_packed`].
 ///
-/// **Errors:** those of [`unpack_packed`]; if the allocation of a line fails, the cause is
+/// **Errors:** those of [`unpack_packed`]. If the allocation of a line fails, the cause is
 /// [`iim_unpack::Cause::SINK`].
 pub fn unpack_story(alloc: Global, limits: Limits, pieces: &[&[u8]]) -> Result<Story, UnpackFault>
-    // What was packed is returned.
+    // If the stream begins with packed octets, what was packed is returned.
     ensures story { IfOk result (ReturnsPackedStory limits (stream_of pieces.now)) }
     ensures fault { BeginsWithPacked limits (stream_of pieces.now) → IfErr result IsNotFromStream }
 
-    // Any stream has its result.
+    // For any stream, the result is the one that the format defines.
     ensures finished { IfOk result (IsStoryOfStream limits (stream_of pieces.now)) }
     ensures rejected { IfErr result (IsRejectedUnpacking dropped_events limits (stream_of pieces.now) tt tt) }
     ensures only { (answer : Answer) → Answers limits (stream_of pieces.now) answer

@@ -1,5 +1,5 @@
--- The results of the parts of the reader, each from the rest after the lines before it; and texts
--- of stories. (Private to proofs.)
+-- The results of the parts of the parser, each starting after some lines; and texts of stories.
+-- (Private to proofs.)
 use Rattle.std.specs.Prelude.{◌≡◌, ℕ, ◌==◌, ◌||◌, Bool, List, length, ◌+◌, ◌⊎◌}
 use Rattle.std.specs.List.{AllByRecursion}
 use Rattle.iim_dataset.specs.Format.Octets.{lf}
@@ -12,7 +12,7 @@ use Rattle.iim_fields.specs.declared.limits.Limits.{Limits}
 abbrev pub is_plain : ℕ → Bool
 is_plain b = is_line_octet b || b == lf
 
--- The text is that of the lines of this story, and has `len` octets when it is packed.
+-- The text has the lines of this story, and has `len` octets when it is packed.
 pub record IsPackedTextOf (story text : List ℕ) (len : ℕ) : Type 0 where
   pub lines : List (List ℕ)
   pub is_story : IsStory story lines
@@ -25,7 +25,7 @@ abbrev pub number_after : ℕ → ScriptCause → ℕ
 number_after count OutOfMemory = 0
 number_after count cause = count + 1
 
--- The next line, if an LF ends it, satisfies the predicate.
+-- The next line, if it is ended by an LF, satisfies the predicate.
 abbrev pub NextLineIs : (List ℕ → Type 0) → List ℕ → Type 0
 NextLineIs said rest = (line after : List ℕ) → NextLine rest line after → said line
 

@@ -1,4 +1,4 @@
-//! Why a script does not describe an envelope.
+//! Errors of scripts.
 
 ghost use Rattle.std.specs.Prelude.{◌≡◌, ◌≤◌};
 ghost use Rattle.iim_script.specs.Format.Causes.{script_cause_number, script_cause_name};
@@ -11,7 +11,7 @@ use std::fmt;
 use std::fmt::{Display, Formatter};
 use thiserror::Error;
 
-/// The error of a line of a script.
+/// Why a line of a script is rejected.
 #[derive(Clone, Copy, Debug, PartialEq, Eq)]
 pub enum ScriptCause {
     /// The line is malformed or in the wrong position, or an expected line is missing.
@@ -22,7 +22,7 @@ pub enum ScriptCause {
     Field(FieldCause),
     /// The octets are not a valid trailer.
     BadTrailer,
-    /// The line of the story has an octet that is not allowed in a line.
+    /// A line of the story has an octet that is not allowed in a line.
     BadTextOctet,
     /// Memory allocation failed. Reported with line 0.
     OutOfMemory,
@@ -75,11 +75,11 @@ impl std::error::Error for ScriptCause {}
 pub struct ScriptFault {
     /// The number of the line, or 0 if the error is not in a line.
     pub line: u64,
-    /// The reason.
+    /// Why the line is rejected.
     pub cause: ScriptCause,
 }
 
-/// Returns the error of the line after the first `lines` lines. An allocation failure is reported
+/// Creates the error of the line after the first `lines` lines. An allocation failure is reported
 /// with line 0.
 pub(crate) fn fault_after(lines: u64, cause: ScriptCause) -> ScriptFault
     requires { lines ≤ max_script }

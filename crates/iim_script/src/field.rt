@@ -1,4 +1,4 @@
-//! Parses lines that describe a dataset.
+//! Parses lines that specify a dataset.
 
 ghost use Rattle.std.specs.Prelude.{◌≡◌, ◌⊎◌, not, ℕ, List, [], ◌∷◌, ◌++◌, None, IfErr, OnOk, OnErr, IfSome, IfNone};
 ghost use Rattle.std.specs.List.{position_or_len};
@@ -15,7 +15,7 @@ use crate::shown::read_last;
 use iim_fields::EnvelopeBuilder;
 use std::alloc::Global;
 
-/// Returns how many digits the octets begin with.
+/// Returns the number of digits at the start of the octets.
 fn digits(octets: &[u8]) -> usize
     ensures { result ≡ position_or_len (λ b. not (is_digit b)) octets.now }
 {
@@ -27,8 +27,8 @@ fn digits(octets: &[u8]) -> usize
     octets.len()
 }
 
-/// Parses the numbers of a line `R:D`. Returns them and the rest of the line, or `None` if the line
-/// has another form.
+/// Parses the record and the number at the start of a line `R:D`. Returns them and the rest of the
+/// line, or `None` if the line has another form.
 fn names(line: &[u8]) -> Option<(u8, u8, &[u8])>
     ensures some { IfSome result (λ names. BeginsWithName line.now names.0 names.1 names.2.now) }
     ensures none { IfNone result ((rec set : ℕ) (end : List ℕ) → BeginsWithName line.now rec set end → ⊥) }
@@ -46,7 +46,8 @@ fn names(line: &[u8]) -> Option<(u8, u8, &[u8])>
     Some((rec, set, &after[end..]))
 }
 
-/// Adds the dataset that a line describes, or returns the cause and changes nothing.
+/// Adds the dataset that a line specifies. If the dataset is rejected, returns the cause and
+/// changes nothing.
 pub(crate) fn add_line(
     alloc: Global,
     line: &[u8],

@@ -1,11 +1,10 @@
-//! Lemmas about the lines of scripts and about scripts. The functions do nothing: their contracts
-//! are the lemmas.
+//! Lemmas about scripts and their lines. The functions do nothing: their contracts are the lemmas.
 
 ghost use Rattle.iim_script.specs.Laws.{ScriptLaws};
 
 use iim_fields::laws::record_laws;
 
-/// Proves the lemmas about the lines of scripts and about scripts. The record has a field for each.
+/// Proves the lemmas about scripts and their lines. The record has a field for each lemma.
 pub fn script_laws()
     ensures { ScriptLaws }
 {

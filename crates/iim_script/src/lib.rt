@@ -1,10 +1,11 @@
-//! Parses and prints scripts. A script is a text from which an envelope is packed: its lines
-//! describe the datasets, the header of the message, its trailer and the story.
+//! Parses and prints scripts. A script is a text from which an envelope is packed. Its lines
+//! specify the datasets, the header of the message, its trailer and the story.
 //!
-//! Depends on `iim_fields`, `wire_message` and `wire_story`, which check what the lines describe.
+//! Depends on `iim_fields`, `wire_message` and `wire_story`, which check the values in the lines.
 //! The crates above use [`read_script`], which returns the contents of a script, or its first error
-//! by line. They print the lines of a script with [`push_fields`], [`push_message`] and
-//! [`push_trailer`], which use [`push_decimal`], [`push_display`] and [`write_word`].
+//! with the number of the line. They print the lines of a script with [`push_fields`],
+//! [`push_message`] and [`push_trailer`], which use [`push_decimal`], [`push_display`] and
+//! [`write_word`].
 #![tactic(auto)]
 
 mod fault;

@@ -31,8 +31,8 @@ pub(crate) fn split_on(octets: &[u8], octet: u8) -> Option<(&[u8], &[u8])>
     }
 }
 
-/// Returns the first line, without its end, and the octets after it. Returns `None` if no LF ends a
-/// line.
+/// Splits off the first line. Returns the line without its LF, and the octets after it. Returns
+/// `None` if there is no LF.
 pub(crate) fn next_line(octets: &[u8]) -> Option<(&[u8], &[u8])>
     ensures found { IfSome result (λ parts. NextLine octets.now parts.0.now parts.1.now) }
     ensures shorter { IfSome result (λ parts. length parts.0.now + length parts.1.now < length octets.now) }
@@ -46,7 +46,8 @@ pub(crate) fn next_line(octets: &[u8]) -> Option<(&[u8], &[u8])>
     Some((ended, after))
 }
 
-/// Returns what follows the prefix `front`, or `None` if the octets do not begin with it.
+/// Removes the prefix `front`. Returns the rest, or `None` if the octets do not begin with this
+/// prefix.
 pub(crate) fn after<'a>(octets: &'a [u8], front: &[u8]) -> Option<&'a [u8]>
     ensures found { IfSome result (λ rest. octets.now ≡ front.now ++ rest.now) }
     ensures none { IfNone result ((rest : List ℕ) → octets.now ≡ front.now ++ rest → ⊥) }

@@ -1,4 +1,4 @@
-//! Splits a text into lines, without a copy.
+//! Splits a text into lines, without copying.
 
 ghost use Rattle.std.specs.Prelude.{◌≡◌, ◌<◌, ◌≤◌, ◌++◌, ◌∷◌, [], ℕ, List, length, replicate, IfSome, IfNone};
 ghost use Rattle.iim_dataset.specs.Format.Octets.{cr};
@@ -18,7 +18,7 @@ fn without_return(octets: &[u8]) -> &[u8]
     }
 }
 
-/// Removes the CR of a line's end, of which there may be two.
+/// Removes up to two CR from the end of a line whose LF was removed.
 fn without_returns(ended: &[u8]) -> &[u8]
     ensures { (line : List ℕ) (returns : ℕ) → IsLine line → returns ≤ max_returns
         → ended.now ≡ line ++ replicate returns cr → result.now ≡ line }
@@ -26,8 +26,8 @@ fn without_returns(ended: &[u8]) -> &[u8]
     without_return(without_return(ended))
 }
 
-/// Returns the first line of a text, and what follows its end. Returns `None` if the text is one
-/// line.
+/// Splits a text after its first line. Returns that line and the rest of the text, or `None` if the
+/// text has only one line.
 pub fn split_text(text: &[u8]) -> Option<(&[u8], &[u8])>
     ensures more { IfSome result (λ parts. (lines : List (List ℕ)) → IsText text.now lines
         → (rest : List (List ℕ)) × (lines ≡ parts.0.now ∷ rest) × IsText parts.1.now rest) }

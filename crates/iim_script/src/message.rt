@@ -1,4 +1,4 @@
-//! Parses the lines that describe the message's header and its trailer.
+//! Parses the lines that specify the header and the trailer of the message.
 
 ghost use Rattle.std.specs.Prelude.{ℕ, List, [], IfOk, IfSome, IfNone};
 ghost use Rattle.wire_message.specs.Format.Messages.{Header, header_of};
@@ -57,7 +57,8 @@ fn split_fields(octets: &[u8]) -> Option<Words<'_>>
     })
 }
 
-/// Parses the header that a line describes. Returns `None` if the line has another form.
+/// Parses the header that a line specifies. Returns `None` if the line does not specify a valid
+/// header.
 pub(crate) fn read_head_line(alloc: Global, line: &[u8]) -> Result<Option<MessageHead>, AllocError>
     ensures some { IfOk result (λ told. IfSome told (λ head. DescribesHead line.now head)) }
     ensures none { IfOk result (λ told. IfNone told ((head : Header) → DescribesHead line.now head → ⊥)) }
@@ -82,7 +83,7 @@ pub(crate) fn read_head_line(alloc: Global, line: &[u8]) -> Result<Option<Messag
     }
 }
 
-/// Parses the trailer that a line describes. Returns `None` if the line has another form.
+/// Parses the trailer that a line specifies. Returns `None` if the line has another form.
 pub(crate) fn read_trailer_line(alloc: Global, line: &[u8]) -> Result<Option<Vec<u8>>, AllocError>
     ensures some { IfOk result (λ told. IfSome told (λ octets. DescribesTrailer line.now octets.items)) }
     ensures none { IfOk result (λ told. IfNone told ((octets : List ℕ) → DescribesTrailer line.now octets → ⊥)) }

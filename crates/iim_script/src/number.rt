@@ -22,7 +22,8 @@ fn digit_value(octet: u8) -> Option<u16>
     Some((octet - b'0') as u16)
 }
 
-/// Returns the number of three decimal digits, or `None` if it exceeds 255 or an octet is no digit.
+/// Returns the number with these three decimal digits, or `None` if it exceeds 255 or an octet is
+/// not a digit.
 fn of_digits(hundreds: u8, tens: u8, ones: u8) -> Option<u8>
     ensures some { IfSome result (λ n. EncodesNumber (hundreds ∷ tens ∷ ones ∷ []) n) }
     ensures none { IfNone result ((n : ℕ) → EncodesNumber (hundreds ∷ tens ∷ ones ∷ []) n → ⊥) }

@@ -1,4 +1,4 @@
-//! Writes the line of a dataset into a slice, from a given index.
+//! Writes the line of a dataset into a slice, at a given index.
 
 ghost use Rattle.std.specs.Prelude.{◌≡◌, ◌+◌, ◌*◌, ◌≤◌, ◌++◌, length, take, decimal};
 ghost use Rattle.iim_dataset.specs.Format.Datasets.{dataset_name, shown, shown_octet};
@@ -8,7 +8,7 @@ use crate::plain::{are_plain, plain_in_16};
 use iim_dataset::DatasetName;
 use iim_dataset::internals::{escaped, is_plain};
 
-/// Writes octets from index `at`, and returns the index of their end.
+/// Writes octets at the index `at`. Returns the index after them.
 #[inline(always)]
 fn put_octets(line: &mut [u8], at: usize, octets: &[u8]) -> usize
     requires { at + length octets.now ≤ length line.old }
@@ -20,7 +20,7 @@ fn put_octets(line: &mut [u8], at: usize, octets: &[u8]) -> usize
     end
 }
 
-/// Writes an octet, escaped if necessary, and returns the index of its end.
+/// Writes an octet, escaped if necessary. Returns the index after it.
 #[inline(always)]
 fn put_shown_octet(line: &mut [u8], at: usize, octet: u8) -> usize
     requires { at + 4 ≤ length line.old }
@@ -33,7 +33,7 @@ fn put_shown_octet(line: &mut [u8], at: usize, octet: u8) -> usize
     put_octets(line, at, &escaped(octet))
 }
 
-/// Writes octets, escaped if necessary, one by one, and returns the index of their end.
+/// Writes octets one by one, escaped if necessary. Returns the index after them.
 fn put_each(line: &mut [u8], at: usize, octets: &[u8]) -> usize
     requires { at + 4 * length octets.now ≤ length line.old }
     ensures end { result ≤ at + 4 * length octets.now }
@@ -46,7 +46,7 @@ fn put_each(line: &mut [u8], at: usize, octets: &[u8]) -> usize
     end
 }
 
-/// Writes sixteen octets, escaped if necessary, and returns the index of their end.
+/// Writes sixteen octets, escaped if necessary. Returns the index after them.
 #[inline(always)]
 fn put_sixteen(line: &mut [u8], at: usize, octets: &[u8]) -> usize
     requires within { at + 4 * length octets.now ≤ length line.old }
@@ -60,7 +60,7 @@ fn put_sixteen(line: &mut [u8], at: usize, octets: &[u8]) -> usize
     put_each(line, at, octets)
 }
 
-/// Writes octets, escaped if necessary, sixteen at a time, and returns the index of their end.
+/// Writes octets, sixteen at a time, escaped if necessary. Returns the index after them.
 #[inline(never)]
 fn put_by_sixteen(line: &mut [u8], at: usize, octets: &[u8]) -> usize
     requires { at + 4 * length octets.now ≤ length line.old }
@@ -77,8 +77,8 @@ fn put_by_sixteen(line: &mut [u8], at: usize, octets: &[u8]) -> usize
     put_each(line, end, rest)
 }
 
-/// Writes octets, escaped if necessary, and returns the index of their end. Most need no escape,
-/// and are copied at once.
+/// Writes octets, escaped if necessary. Returns the index after them. If no octet needs an escape,
+/// which is the usual case, all are copied at once.
 #[inline(always)]
 fn put_shown(line: &mut [u8], at: usize, octets: &[u8]) -> usize
     requires { at + 4 * length octets.now ≤ length line.old }
@@ -91,8 +91,8 @@ fn put_shown(line: &mut [u8], at: usize, octets: &[u8]) -> usize
     put_by_sixteen(line, at, octets)
 }
 
-/// Writes a space and octets, escaped if necessary, or nothing if there are no octets. Returns the
-/// index of their end.
+/// Writes a space and octets, escaped if necessary. Writes nothing if there are no octets. Returns
+/// the index after them.
 #[inline(always)]
 fn put_after_space(line: &mut [u8], at: usize, octets: &[u8]) -> usize
     requires { at + (1 + 4 * length octets.now) ≤ length line.old }
@@ -106,7 +106,7 @@ fn put_after_space(line: &mut [u8], at: usize, octets: &[u8]) -> usize
     put_shown(line, first, octets)
 }
 
-/// Writes a number in decimal digits, and returns the index of their end.
+/// Writes a number in decimal. Returns the index after it.
 #[inline(always)]
 fn put_number(line: &mut [u8], at: usize, number: u8) -> usize
     requires { at + 3 ≤ length line.old }
@@ -124,8 +124,8 @@ fn put_number(line: &mut [u8], at: usize, number: u8) -> usize
     put_octets(line, at, &[b'0' + tens / 10, b'0' + tens % 10, ones])
 }
 
-/// Writes the name of a dataset, its record and its number with at least two digits, and returns
-/// the index of its end.
+/// Writes the name of a dataset: its record, a colon and its number with at least two digits.
+/// Returns the index after it.
 #[inline(always)]
 fn put_name(line: &mut [u8], at: usize, name: DatasetName) -> usize
     requires { at + 8 ≤ length line.old }
@@ -142,7 +142,7 @@ fn put_name(line: &mut [u8], at: usize, name: DatasetName) -> usize
     put_number(line, digits, name.set)
 }
 
-/// Writes the line of a dataset, and returns the index of its end.
+/// Writes the line of a dataset. Returns the index after it.
 #[inline(always)]
 pub(crate) fn put_field(line: &mut [u8], at: usize, name: DatasetName, octets: &[u8]) -> usize
     requires { at + (10 + 4 * length octets.now) ≤ length line.old }

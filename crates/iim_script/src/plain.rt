@@ -1,4 +1,4 @@
-//! Checks several octets at once for whether they are printed without an escape.
+//! Checks blocks of octets for octets that are printed with an escape.
 
 ghost use Rattle.std.specs.Prelude.{◌≡◌, ◌≤◌, length, take};
 ghost use Rattle.std.specs.List.{list_all};
@@ -7,7 +7,8 @@ ghost use Rattle.iim_dataset.specs.Format.Datasets.{is_plain};
 use iim_dataset::internals::is_plain;
 use std::simd::prelude::*;
 
-/// Checks whether each lane is printed without an escape, as `is_plain` does for an octet.
+/// Expands to a check that each lane of a vector is an octet that is printed without an escape. It
+/// agrees with `is_plain`.
 macro_rules! lanes_are_plain {
     ($vector:ident; $octets:expr) => {{
         let lanes = $vector::from_slice($octets);
@@ -53,8 +54,8 @@ fn plain_in_4(octets: &[u8]) -> bool
     lanes_are_plain!(u8x4; octets)
 }
 
-/// Checks whether all octets are printed without an escape. Works on parts of 32, 16, 8 or 4
-/// octets; the last part overlaps the one before.
+/// Checks whether all octets are printed without an escape, in blocks of 32, 16, 8 or 4 octets. The
+/// last block overlaps the previous one.
 #[inline(always)]
 pub(crate) fn are_plain(octets: &[u8]) -> bool
     ensures { result ≡ list_all is_plain octets.now }

@@ -1,4 +1,4 @@
-//! Prints the lines of a script, as `show` does.
+//! Prints the lines of a script, in the form that `show` prints.
 
 ghost use Rattle.std.specs.Prelude.{◌≡◌, ◌+◌, ◌*◌, ◌^◌, ◌<◌, ◌≤◌, ◌++◌, ◌∷◌, length, take, drop, vec_len, IfSome, OnOk, codes, decimal};
 ghost use Rattle.std.specs.List.{flat_map};
@@ -14,7 +14,7 @@ use std::fmt::Display;
 use std::io::Write;
 use wire_message::MessageHead;
 
-/// Appends the printed form of a value. An error means that the allocation failed.
+/// Appends the printed form of a value. Returns an error if an allocation fails.
 pub fn push_display<D: Display + Drop>(text: &mut Vec<u8>, value: D) -> Result<(), AllocError>
     ensures { OnOk result (IfSome (D.output value) (λ words. text.new.items ≡ text.old.items ++ words)) }
 {
@@ -24,14 +24,15 @@ pub fn push_display<D: Display + Drop>(text: &mut Vec<u8>, value: D) -> Result<(
     }
 }
 
-/// Appends a number in decimal digits. An error means that the allocation failed.
+/// Appends a number in decimal. Returns an error if an allocation fails.
 pub fn push_decimal(text: &mut Vec<u8>, number: u64) -> Result<(), AllocError>
     ensures { OnOk result (text.new.items ≡ text.old.items ++ decimal number) }
 {
     text.extend_from_slice(Buffer::new().format(number).as_bytes())
 }
 
-/// Writes a word so that it ends at index `end`, and returns the index where it begins.
+/// Writes a word so that it ends just before the index `end`. Returns the index at which the word
+/// begins.
 #[inline(always)]
 pub fn write_word(word: &[u8], line: &mut [u8], end: usize) -> usize
     requires { length word.now ≤ end × end ≤ length line.old }
@@ -43,7 +44,7 @@ pub fn write_word(word: &[u8], line: &mut [u8], end: usize) -> usize
     start
 }
 
-/// Appends a space and the octets, escaped if necessary, or nothing if there are no octets.
+/// Appends a space and the octets, escaped if necessary. Appends nothing if there are no octets.
 fn push_after_space(text: &mut Vec<u8>, octets: &[u8]) -> Result<(), AllocError>
     ensures { OnOk result (text.new.items ≡ text.old.items ++ after_space octets.now) }
 {
@@ -54,7 +55,7 @@ fn push_after_space(text: &mut Vec<u8>, octets: &[u8]) -> Result<(), AllocError>
     push_with_escapes(text, octets)
 }
 
-/// Extends a text with zeros to the length `places`. An error means that the allocation failed.
+/// Extends a text with zeros to the length `places`. Returns an error if an allocation fails.
 #[inline(never)]
 fn lengthen(text: &mut Vec<u8>, places: usize) -> Result<(), AllocError>
     requires { vec_len text.old ≤ places }
@@ -64,11 +65,11 @@ fn lengthen(text: &mut Vec<u8>, places: usize) -> Result<(), AllocError>
     text.resize(places, 0)
 }
 
-/// How many octets more than necessary are added at once.
+/// The number of octets by which a text is extended beyond what is needed.
 const MORE_PLACES: usize = 1024;
 
-/// Extends the text, if necessary, so that the line of a dataset of this many octets fits from
-/// index `at`. An error means that the allocation failed.
+/// Extends the text, if necessary, so that the line of a dataset of `octets` octets fits at the
+/// index `at`. Returns an error if an allocation fails.
 #[inline(always)]
 fn make_room(text: &mut Vec<u8>, at: usize, octets: usize) -> Result<(), AllocError>
     requires within { at ≤ vec_len text.old }
@@ -83,7 +84,7 @@ fn make_room(text: &mut Vec<u8>, at: usize, octets: usize) -> Result<(), AllocEr
     lengthen(text, at + places + MORE_PLACES)
 }
 
-/// Appends the lines of all datasets of an envelope. An error means that the allocation failed.
+/// Appends the lines of all datasets of an envelope. Returns an error if an allocation fails.
 pub fn push_fields(text: &mut Vec<u8>, envelope: &EnvelopeRef<'_>) -> Result<(), AllocError>
     ensures { OnOk result (text.new.items ≡ text.old.items ++ flat_map field_line envelope.now) }
 {
@@ -128,7 +129,7 @@ fn push_last_words(text: &mut Vec<u8>, head: &MessageHead) -> Result<(), AllocEr
     Ok(())
 }
 
-/// Appends the line of the message's header. An error means that the allocation failed.
+/// Appends the line of the message's header. Returns an error if an allocation fails.
 pub fn push_message(text: &mut Vec<u8>, head: &MessageHead) -> Result<(), AllocError>
     ensures { OnOk result (text.new.items ≡ text.old.items ++ message_line head.now) }
 {
@@ -136,7 +137,7 @@ pub fn push_message(text: &mut Vec<u8>, head: &MessageHead) -> Result<(), AllocE
     push_last_words(text, head)
 }
 
-/// Appends the line of the message's trailer. An error means that the allocation failed.
+/// Appends the line of the message's trailer. Returns an error if an allocation fails.
 pub fn push_trailer(text: &mut Vec<u8>, trailer: &[u8]) -> Result<(), AllocError>
     ensures { OnOk result (text.new.items ≡ text.old.items ++ trailer_line trailer.now) }
 {

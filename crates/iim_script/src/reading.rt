@@ -30,7 +30,7 @@ pub const MAX_SCRIPT: usize = 16_777_216;
 /// The line that precedes the story.
 const TEXT: &[u8] = b"text";
 
-/// The parts of a script before the story, and the story.
+/// The parsed lines before the story, and the story.
 #[derive(Drop)]
 struct Front<'a> {
     envelope: Envelope,
@@ -39,7 +39,7 @@ struct Front<'a> {
     story: Rest<'a>,
 }
 
-/// Checks whether a line begins with a digit, like the line of a dataset.
+/// Checks whether a line begins with a digit, as the line of a dataset does.
 fn begins_field(line: &[u8]) -> bool
     ensures { result ≡ is_digit (slice_index line.now 0) }
 {
@@ -49,7 +49,8 @@ fn begins_field(line: &[u8]) -> bool
     is_decimal(line[0])
 }
 
-/// Parses the lines of datasets at the start, adds the datasets, and returns the rest.
+/// Parses the lines of datasets at the start of a script, and adds the datasets to the builder.
+/// Returns the rest.
 fn read_fields<'a>(
     alloc: Global,
     script: &'a [u8],
@@ -83,7 +84,7 @@ fn read_fields<'a>(
     Ok(rest)
 }
 
-/// Parses the header in the next line. Returns it and the rest.
+/// Parses the next line as the header. Returns the header and the rest.
 fn read_head<'a>(alloc: Global, rest: Rest<'a>) -> Result<(MessageHead, Rest<'a>), ScriptFault>
     ensures told { IfOk result (λ read.
         (line : List ℕ) × NextLine rest.entry.octets.now line read.1.octets.now × DescribesHead line read.0) }
@@ -108,8 +109,8 @@ fn read_head<'a>(alloc: Global, rest: Rest<'a>) -> Result<(MessageHead, Rest<'a>
     }
 }
 
-/// Parses the trailer in the next line. Returns it and the rest, or an empty trailer if the next
-/// line has another form.
+/// Parses the next line as the trailer. Returns the trailer and the rest. If the next line has
+/// another form, it is not consumed, and the trailer is empty.
 fn read_trailer<'a>(alloc: Global, rest: Rest<'a>) -> Result<(Vec<u8>, Rest<'a>), ScriptFault>
     ensures taken { IfOk result (λ read.
         ((line : List ℕ) × NextLine rest.entry.octets.now line read.1.octets.now
@@ -139,7 +140,7 @@ fn read_trailer<'a>(alloc: Global, rest: Rest<'a>) -> Result<(Vec<u8>, Rest<'a>)
     ))
 }
 
-/// Consumes the line `text`, and returns the story after it.
+/// Parses the line `text`. Returns the story after it.
 fn read_text<'a>(rest: Rest<'a>) -> Result<Rest<'a>, ScriptFault>
     ensures text { IfOk result (λ story. NextLine rest.entry.octets.now text_word story.octets.now) }
     ensures counted { IfOk result (λ story. story.lines ≡ rest.entry.lines + 1) }
@@ -159,7 +160,8 @@ fn read_text<'a>(rest: Rest<'a>) -> Result<Rest<'a>, ScriptFault>
     })
 }
 
-/// Returns the envelope of the builder, at the line `text` after `lines` lines.
+/// Returns the envelope of the builder. `lines` is the number of lines before the line `text`,
+/// which an error is reported at.
 fn finish(builder: EnvelopeBuilder, lines: u64) -> Result<Envelope, ScriptFault>
     requires { lines ≤ max_script }
     ensures whole { OnOk result (missing_field_fault builder.fields ≡ None) }
@@ -174,7 +176,7 @@ fn finish(builder: EnvelopeBuilder, lines: u64) -> Result<Envelope, ScriptFault>
     }
 }
 
-/// Parses what precedes the story. Returns it and the story.
+/// Parses the lines before the story. Returns their contents and the story.
 fn read_front<'a>(alloc: Global, limits: Limits, script: &'a [u8]) -> Result<Front<'a>, ScriptFault>
     requires { length script.now ≤ max_script }
     ensures front { IfOk result (λ front. IsFront limits script.now front.envelope front.head front.trailer.items
@@ -198,7 +200,7 @@ fn read_front<'a>(alloc: Global, limits: Limits, script: &'a [u8]) -> Result<Fro
 }
 
 /// Parses a script whose datasets are within the limits. Returns its contents, or its first error
-/// by line.
+/// with the number of the line.
 pub fn read_script<'a>(
     alloc: Global,
     limits: Limits,

@@ -9,6 +9,6 @@ pub(crate) struct Rest<'a> {
     pub(crate) octets: &'a [u8],
     pub(crate) lines: u64,
 
-    // Each line has at least one octet, its LF.
+    // Each line has at least one octet, its LF, so that the number of lines is bounded.
     ghost short: { lines + length octets.now ≤ max_script },
 }

@@ -9,7 +9,7 @@ use std::alloc::{AllocError, Global};
 use wire_message::MessageHead;
 use wire_story::{Lines, TextCause, TextReader};
 
-/// The contents of a script: everything that is packed, except the plan.
+/// The contents of a script: everything that is needed to pack it, except the plan.
 #[derive(Drop)]
 pub struct Script<'a> {
     /// The datasets of records 1 and 2.
@@ -18,7 +18,7 @@ pub struct Script<'a> {
     pub head: MessageHead,
     /// The text of the story: its lines, separated by LF or CR LF.
     pub text: &'a [u8],
-    /// The size of the packed text, in octets.
+    /// The length of the packed text, in octets.
     pub text_len: u64,
     /// The trailer of the message.
     pub trailer: Vec<u8>,
@@ -26,7 +26,7 @@ pub struct Script<'a> {
     pub text_line: u64,
 }
 
-/// Returns the allocation error of lines that could not be stored.
+/// Converts the error of lines that could not be stored to an allocation error.
 fn growth_error(cause: TextCause) -> AllocError
     requires { cause ≡ TextCause.Sink }
 {
@@ -37,8 +37,8 @@ fn growth_error(cause: TextCause) -> AllocError
 }
 
 impl<'a> Script<'a> {
-    /// Copies the lines of the story from its text, as `iim_pack::pack` takes them. What
-    /// `read_script` returned meets the condition. An error means that the allocation failed.
+    /// Copies the lines of the story, in the form that `iim_pack::pack` expects. Every script that
+    /// `read_script` returns meets the precondition. Returns an error if an allocation fails.
     pub fn lines(&self, alloc: Global) -> Result<Lines, AllocError>
         requires { IsText self.now.text.now (text_lines self.now.text.now) }
         ensures { IfOk result (λ lines. lines.lines ≡ text_lines self.now.text.now) }

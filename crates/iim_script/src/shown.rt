@@ -1,4 +1,4 @@
-//! Parses octets that are printed as text with escapes.
+//! Parses texts with escapes.
 
 ghost use Rattle.std.specs.Prelude.{◌+◌, ◌≤◌, ◌∷◌, ℕ, List, IfOk, IfSome, IfNone};
 ghost use Rattle.iim_dataset.specs.Format.Octets.{sp, backslash};
@@ -22,7 +22,8 @@ fn hex_value(digit: u8) -> Option<u8>
     }
 }
 
-/// Returns the octet of an escape with these digits, or `None` if one is no hexadecimal digit.
+/// Returns the octet of an escape with these two digits, or `None` if one of them is not a
+/// hexadecimal digit.
 fn escaped(high: u8, low: u8) -> Option<u8>
     ensures some { IfSome result (IsOfDigits high low) }
     ensures none { IfNone result ((octet : ℕ) → IsOfDigits high low octet → ⊥) }
@@ -36,8 +37,8 @@ fn escaped(high: u8, low: u8) -> Option<u8>
     Some(high * 16 + low)
 }
 
-/// Parses an escape after its backslash. Returns its octet and the rest, or `None` if the escape is
-/// invalid.
+/// Parses an escape after its backslash: `x` and two hexadecimal digits. Returns the octet and the
+/// rest, or `None` if the escape is invalid.
 fn escape(after: &[u8]) -> Option<(u8, &[u8])>
     ensures some { IfSome result (λ first. BeginsWith (backslash ∷ after.now) first.0 first.1.now) }
     ensures none { IfNone result ((octet : ℕ) (rest : List ℕ) → BeginsWith (backslash ∷ after.now) octet rest → ⊥) }
@@ -54,8 +55,8 @@ fn escape(after: &[u8]) -> Option<(u8, &[u8])>
     }
 }
 
-/// Parses the first octet or escape. Returns its octet and the rest, or `None` if the text is empty
-/// or the escape is invalid.
+/// Parses an octet or an escape at the start of a text. Returns the octet and the rest, or `None`
+/// if the text is empty or the escape is invalid.
 fn first_octet(shown: &[u8]) -> Option<(u8, &[u8])>
     ensures some { IfSome result (λ first. BeginsWith shown.now first.0 first.1.now) }
     ensures none { IfNone result ((octet : ℕ) (rest : List ℕ) → BeginsWith shown.now octet rest → ⊥) }
@@ -102,8 +103,8 @@ fn read_some(alloc: Global, shown: &[u8]) -> Result<Option<Vec<u8>>, AllocError>
     }
 }
 
-/// Parses the end of a line: nothing, for no octets, or SP and at least one octet, escaped if
-/// necessary.
+/// Parses the end of a line, which is empty, or SP and a non-empty text with escapes. Returns the
+/// octets of that text, or `None` if the line has another form.
 pub(crate) fn read_last(alloc: Global, end: &[u8]) -> Result<Option<Vec<u8>>, AllocError>
     ensures some { IfOk result (λ told. IfSome told (λ octets. EndsWith end.now octets.items)) }
     ensures none { IfOk result (λ told. IfNone told ((octets : List ℕ) → EndsWith end.now octets → ⊥)) }

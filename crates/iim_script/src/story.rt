@@ -1,4 +1,4 @@
-//! Parses the story of a script: all that follows the line `text`.
+//! Parses the story of a script: everything after the line `text`.
 
 ghost use Rattle.std.specs.Prelude.{◌≡◌, ◌+◌, ◌<◌, ◌⊎◌, [], length, IfOk, IfErr, IfSome, IfNone};
 ghost use Rattle.iim_dataset.specs.Format.Octets.{lf};
@@ -12,7 +12,8 @@ use crate::rest::Rest;
 use crate::text::{StoryText, plain_text};
 use wire_story::is_text;
 
-/// Returns the first line of a story, and what follows it, or `None` if that line is the last.
+/// Splits a story after its first line. Returns that line and the rest, or `None` as the rest if
+/// the story has only one line.
 fn first_line(story: &[u8]) -> (&[u8], Option<&[u8]>)
     ensures more { IfSome result.1 (λ rest. NextLine story.now result.0.now rest.now) }
     ensures shorter { IfSome result.1 (λ rest. length result.0.now + length rest.now < length story.now) }
@@ -32,8 +33,8 @@ fn first_line(story: &[u8]) -> (&[u8], Option<&[u8]>)
     }
 }
 
-/// Returns the text of a story, whose lines are checked one after another, or its first error by
-/// line.
+/// Returns the text of a story, or its first error with the number of the line. Checks one line
+/// after another.
 fn text_by_lines<'a>(story: Rest<'a>) -> Result<StoryText<'a>, ScriptFault>
     ensures text { IfOk result (λ text. IsPackedTextOf story.entry.octets.now text.octets.now text.packed_len) }
     ensures fault { IfErr result (λ fault. IsBadStory story.entry.octets.now story.entry.lines fault.line) }
@@ -61,8 +62,8 @@ fn text_by_lines<'a>(story: Rest<'a>) -> Result<StoryText<'a>, ScriptFault>
     }
 }
 
-/// Returns the text of a story, or its first error. The line of the error counts the lines before
-/// the story.
+/// Returns the text of a story, or its first error. The line of the error is counted from the start
+/// of the script.
 pub(crate) fn read_story<'a>(story: Rest<'a>) -> Result<StoryText<'a>, ScriptFault>
     ensures text { IfOk result (λ text. IsPackedTextOf story.entry.octets.now text.octets.now text.packed_len) }
     ensures fault { IfErr result (λ fault. IsBadStory story.entry.octets.now story.entry.lines fault.line) }

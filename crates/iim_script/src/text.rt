@@ -1,4 +1,4 @@
-//! Checks the text of a story whose lines end in LF alone, sixteen octets at a time.
+//! Checks the text of a story in blocks of sixteen octets, if its lines end in LF without CR.
 
 ghost use Rattle.std.specs.Prelude.{◌≡◌, ◌==◌, ◌≤◌, count_by, length, map, take, IsTrue, IfSome};
 ghost use Rattle.std.specs.List.{list_all};
@@ -11,10 +11,10 @@ ghost use Rattle.iim_script.specs.Steps.{is_plain, IsPackedTextOf};
 use iim_dataset::octets::{CR, EOT, ETX, LF, SOH, STX};
 use std::simd::prelude::*;
 
-/// How many octets are checked at once.
+/// The number of octets that are checked at once.
 const BLOCK: usize = 16;
 
-/// All octets that are not allowed in a line are below this one. Few others are.
+/// Every octet that is not allowed in a line is less than this one. Only a few allowed octets are.
 const LEAST_UNMARKED: u8 = 14;
 
 /// The text of a story, borrowed from the script, and the size of the packed text in octets.
@@ -38,15 +38,15 @@ fn are_plain(octets: &[u8]) -> bool
     octets.iter().all(|octet| is_allowed(*octet))
 }
 
-/// Returns how many octets are LF.
+/// Counts the octets that are LF.
 fn count_feeds(octets: &[u8]) -> usize
     ensures { result ≡ count_by (λ b. b == lf) octets.now }
 {
     octets.iter().filter(|octet| **octet == LF).count()
 }
 
-/// Returns how many octets are LF, or `None` if an octet is neither LF nor allowed in a line.
-/// Checks one octet after another.
+/// Counts the octets that are LF, checking one octet after another. Returns `None` if an octet is
+/// neither LF nor allowed in a line.
 fn feeds_in_rest(octets: &[u8]) -> Option<usize>
     ensures { IfSome result (λ count. IsTrue (list_all is_plain octets.now)
         × (count ≡ count_by (λ b. b == lf) octets.now)) }
@@ -58,7 +58,7 @@ fn feeds_in_rest(octets: &[u8]) -> Option<usize>
     }
 }
 
-/// Returns the mask of those of the first sixteen octets that are below `LEAST_UNMARKED`.
+/// Returns a mask of those of the first sixteen octets that are less than `LEAST_UNMARKED`.
 #[inline(always)]
 fn low_in_block(block: &[u8]) -> u64
     requires { 16 ≤ length block.now }
@@ -68,7 +68,7 @@ fn low_in_block(block: &[u8]) -> u64
     octets.simd_lt(u8x16::splat(LEAST_UNMARKED)).to_bitmask()
 }
 
-/// Returns the mask of those of the first sixteen octets that are LF.
+/// Returns a mask of those of the first sixteen octets that are LF.
 #[inline(always)]
 fn feed_mask(block: &[u8]) -> u64
     requires { 16 ≤ length block.now }
@@ -78,8 +78,8 @@ fn feed_mask(block: &[u8]) -> u64
     octets.simd_eq(u8x16::splat(LF)).to_bitmask()
 }
 
-/// Returns how many of the first sixteen octets are LF, or `None` if one is neither LF nor allowed
-/// in a line.
+/// Counts those of the first sixteen octets that are LF. Returns `None` if one is neither LF nor
+/// allowed in a line.
 #[inline(always)]
 fn feeds_in_block(block: &[u8]) -> Option<usize>
     requires { 16 ≤ length block.now }
@@ -93,7 +93,7 @@ fn feeds_in_block(block: &[u8]) -> Option<usize>
     Some(feeds.count_ones() as usize)
 }
 
-/// Returns how many octets are LF, or `None` if an octet is neither LF nor allowed in a line.
+/// Counts the octets that are LF. Returns `None` if an octet is neither LF nor allowed in a line.
 fn count_feeds_checked(octets: &[u8]) -> Option<usize>
     ensures { IfSome result (λ count. IsTrue (list_all is_plain octets.now)
         × (count ≡ count_by (λ b. b == lf) octets.now)) }

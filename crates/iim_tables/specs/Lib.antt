@@ -1,3 +1,3 @@
--- Kinds, rows, dates and times: the definitions.
+-- Kinds, rows, dates and times.
 pub mod Format
 pub mod Text

@@ -1,4 +1,4 @@
-//! Dates: complete ones, and those whose month or day may be missing.
+//! Dates, with or without a missing month or day.
 
 ghost use Rattle.std.specs.Prelude.{◌≡◌, ◌↔◌, ◌+◌, ◌<◌, ◌&&◌, ◌||◌, ◌==◌, nat_le, pos, length, IsTrue, IsSome, IfSome};
 ghost use Rattle.iim_dataset.specs.Format.Octets.{within};
@@ -9,7 +9,7 @@ use crate::kinds::are_digits;
 use crate::octets::DIGIT_ZERO;
 use jiff::civil::Date;
 
-/// Returns the number that the two digits at position `at` write.
+/// Returns the number of the two digits at index `at`.
 pub(crate) fn pair_at(octets: &[u8], at: usize) -> u16
     requires { at + 1 < length octets.now }
     ensures { result ≡ pair_at octets.now at }
@@ -19,7 +19,7 @@ pub(crate) fn pair_at(octets: &[u8], at: usize) -> u16
     10 * u16::from(tens) + u16::from(ones)
 }
 
-/// Returns the year of a date, from its century and year.
+/// Returns the year of a date, from its first four digits.
 fn year_in(octets: &[u8]) -> u32
     requires { length octets.now ≡ 8 }
     ensures { result ≡ year_in octets.now }
@@ -39,7 +39,7 @@ fn is_month(month: u16) -> bool
     (1..=12).contains(&month)
 }
 
-/// Returns the day if the calendar has it.
+/// Returns this day, or `None` if the calendar has no such day.
 fn day_of(year: u32, month: u16, day: u16) -> Option<Date>
     ensures exactly { IsSome result ↔ IsTrue (is_day year month day) }
     ensures day { IfSome result (IsYmd (pos year) (pos month) (pos day)) }
@@ -50,7 +50,7 @@ fn day_of(year: u32, month: u16, day: u16) -> Option<Date>
     Date::new(year as i16, month as i8, day as i8).ok()
 }
 
-/// Checks whether the month is missing and the day is 00 to 31, or the day is missing.
+/// Checks whether the month is 00 and the day is 00 to 31, or the day is 00.
 fn has_missing_part(month: u16, day: u16) -> bool
     ensures { result ≡ (((month == 0) && nat_le day 31) || (within 1 12 month && (day == 0))) }
 {
@@ -72,8 +72,8 @@ fn are_eight_digits(octets: &[u8]) -> bool
 /// Parses the day of a date of eight digits, CCYYMMDD. Returns `None` if the octets are not eight
 /// digits, or if the proleptic Gregorian calendar has no such day in the years 1 to 9999.
 ///
-/// 1:70 Date Sent is written so, and 2:55 Date Created with parts that may be missing. A date that
-/// lacks a part has no day.
+/// 1:70 Date Sent has this form. 2:55 Date Created has it too, but its month or day may be 00,
+/// which stands for a missing part; such a date has no day.
 pub fn date_of(octets: &[u8]) -> Option<Date>
     ensures exactly { IsSome result ↔ IsTrue (is_date octets.now) }
     ensures day { IfSome result
@@ -93,7 +93,7 @@ pub(crate) fn is_date(octets: &[u8]) -> bool
     date_of(octets).is_some()
 }
 
-/// Checks whether the octets are a date whose month or day may be missing.
+/// Checks whether the octets are a date whose month or day may be 00.
 #[inline(never)]
 pub(crate) fn is_part_date(octets: &[u8]) -> bool
     ensures { result ≡ is_part_date octets.now }

@@ -47,7 +47,8 @@ fn clock_of(hour: u16, minute: u16, second: u16) -> Time
     time(hour as i8, minute as i8, second as i8, 0)
 }
 
-/// Returns how many seconds the clock is ahead of universal time.
+/// Converts an offset from universal time to seconds, which are negative if the local time is
+/// behind.
 fn offset_seconds(is_behind: bool, hour: u16, minute: u16) -> i32
     requires hour_in { hour < 24 }
     requires minute_in { minute < 60 }
@@ -61,7 +62,7 @@ fn offset_seconds(is_behind: bool, hour: u16, minute: u16) -> i32
     ahead
 }
 
-/// Returns how far the clock is ahead of universal time.
+/// Returns this offset from universal time.
 fn offset_of(is_behind: bool, hour: u16, minute: u16) -> Offset
     requires hour_in { hour < 24 }
     requires minute_in { minute < 60 }
@@ -70,7 +71,7 @@ fn offset_of(is_behind: bool, hour: u16, minute: u16) -> Offset
     Offset::from_seconds(offset_seconds(is_behind, hour, minute)).unwrap()
 }
 
-/// Returns the instant of a date and a time, computed by `jiff`.
+/// Computes the instant of a date and a time with `jiff`.
 fn instant(date: &[u8], time: &[u8]) -> Option<Timestamp>
     ensures exactly { IsSome result ↔ HasInstant date.now time.now }
     ensures instant { IfSome result (λ t. t.nanosecond ≡ instant_nanos date.now time.now) }
@@ -84,16 +85,16 @@ fn instant(date: &[u8], time: &[u8]) -> Option<Timestamp>
     offset.to_timestamp(day.to_datetime(clock)).ok()
 }
 
-/// Returns the instant of a date and a time: local time less its offset. Returns `None` if the date
-/// is not a complete date, the time is invalid, or `jiff` has no such instant: its last is
-/// 9999-12-30T22:00:00.999999999Z.
+/// Returns the instant of a date and a time: the local time minus its offset. Returns `None` if the
+/// date is not complete, if the time is invalid, or if the instant is out of range for `jiff`,
+/// whose last instant is 9999-12-30T22:00:00.999999999Z.
 ///
-/// 1:70 Date Sent and 1:80 Time Sent give the instant at which an envelope was sent.
+/// For example, 1:70 Date Sent and 1:80 Time Sent state the instant at which an envelope was sent.
 pub fn instant_of(date: &[u8], time: &[u8]) -> Option<Timestamp>
     ensures exactly { IsSome result ↔ HasInstant date.now time.now }
     ensures instant { IfSome result (λ t. t.nanosecond ≡ instant_nanos date.now time.now) }
 
-    // The same result as one function of the two texts.
+    // The same result, as a function of the two texts.
     ensures value { option_map (λ t. t.nanosecond) result ≡ instant_in date.now time.now }
 {
     instant(date, time)

@@ -1,4 +1,4 @@
-//! Internals for the layers above, in this repository. They are not part of the public interface,
+//! Internals for the crates above, in this repository. They are not part of the public interface,
 //! and may change with any release.
 
 pub use crate::kinds::has_kind;

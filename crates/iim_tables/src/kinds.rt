@@ -1,4 +1,4 @@
-//! Which octets are of a kind.
+//! Checks the kind of octets.
 
 ghost use Rattle.std.specs.Prelude.{◌≡◌, ◌≤◌, length, take};
 ghost use Rattle.std.specs.List.{list_all};
@@ -16,7 +16,7 @@ use iim_dataset::GREATEST_SIZE;
 use iim_dataset::octets::{CR, LF, SP};
 use std::simd::prelude::*;
 
-/// Checks whether each lane is an octet of text, as `is_text` does for one octet.
+/// Expands to a check that each lane of a vector is an octet of text. It agrees with `is_text`.
 macro_rules! lanes_are_text {
     ($vector:ident; $least:expr, $lines:expr, $octets:expr) => {{
         let lanes = $vector::from_slice($octets);
@@ -56,8 +56,8 @@ fn text_in_4(least: u8, lines: bool, octets: &[u8]) -> bool
     lanes_are_text!(u8x4; least, lines, octets)
 }
 
-/// Checks whether all octets are text, in parts of 16, 8 or 4. The last part overlaps the one
-/// before.
+/// Checks whether all octets are text, in blocks of 16, 8 or 4 octets. The last block overlaps the
+/// previous one.
 #[inline(always)]
 fn are_text(least: u8, lines: bool, octets: &[u8]) -> bool
     ensures { result ≡ list_all (is_text least lines) octets.now }
@@ -138,7 +138,7 @@ fn is_size_from(least: u64, octets: &[u8]) -> bool
     number_of(octets).is_some_and(|number| (least..=GREATEST_SIZE).contains(&number))
 }
 
-/// Checks whether the octets are of the kind, whichever it is.
+/// Checks whether the octets are of the kind, which may be any.
 #[inline(never)]
 fn has_any_kind(kind: Kind, octets: &[u8]) -> bool
     ensures { result ≡ has_kind kind octets.now }
@@ -159,7 +159,7 @@ fn has_any_kind(kind: Kind, octets: &[u8]) -> bool
     }
 }
 
-/// Checks whether the octets are of the kind. The most common kind needs no jump table.
+/// Checks whether the octets are of the kind. The most common kind is checked without a jump table.
 #[inline(always)]
 pub fn has_kind(kind: Kind, octets: &[u8]) -> bool
     ensures { result ≡ has_kind kind octets.now }
@@ -170,9 +170,9 @@ pub fn has_kind(kind: Kind, octets: &[u8]) -> bool
     }
 }
 
-/// Checks whether the octets meet the row: their number is within its bounds, and they are of its
-/// kind. The value of 1:20 File Format, which must be 2, and how often a dataset occurs are not
-/// part of a row.
+/// Checks whether the octets are valid for the row: their number is within its bounds, and they are
+/// of its kind. Two rules are not part of a row: the value of 1:20 File Format must be 2, and some
+/// datasets must not repeat.
 pub fn admits(row: &Row, octets: &[u8]) -> bool
     ensures { result ≡ is_admitted row.now octets.now }
 {

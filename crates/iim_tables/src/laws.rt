@@ -1,4 +1,4 @@
-//! Lemmas on all dates, times and rows.
+//! Lemmas about all dates, times and rows.
 
 ghost use Rattle.std.specs.Prelude.{◌≡◌, ◌==◌, ◌<◌, ℕ, Bool, List, slice_index, ◌≤◌, Some, IsTrue};
 ghost use Rattle.iim_dataset.specs.Format.Octets.{minus, within, greatest_size};
@@ -29,15 +29,15 @@ pub fn times_are_written_in_one_way()
         hour minute second is_behind hours minutes }
 {}
 
-/// Proves that for each length that a row allows some octets of that length meet the row: no row
-/// has bounds that its kind cannot have.
+/// Proves that for each length within the bounds of a row, some octets of that length are valid for
+/// the row. So no row has bounds that its kind rules out.
 #[tactic(auto, using(crate::proofs::RowLemmas::row_values))]
 pub fn each_row_has_values()
     ensures { (rec set n : ℕ) (r : Row) → row_of rec set ≡ Some r → IsTrue (within r.min r.max n)
         → HasValueOfLength rec set n }
 {}
 
-/// Proves that no row allows more octets than the greatest size, so that a count can encode each
+/// Proves that no row allows more octets than the greatest size, so that a count can encode every
 /// length.
 #[tactic(auto, using(crate::proofs::RowLemmas::row_bounded))]
 pub fn rows_allow_no_more_than_the_greatest_size()

@@ -1,9 +1,9 @@
 //! The tables of the Information Interchange Model, version 4, with the choices of this project's
-//! profile: which octets each dataset of records 1, 2, 7, 8 and 9 may have, the numbers that octets
-//! encode, and the days and instants of dates and times.
+//! profile: which octets are valid for each dataset of records 1, 2, 7, 8 and 9, the numbers that
+//! octets encode, and the days and instants of dates and times.
 //!
 //! The crates above call two functions: [`row`] returns the row of a dataset, and [`admits`] checks
-//! octets against a row. (The crate of records calls them in the forms of [`internals`].) Nothing
+//! octets against a row. (The crate `iim_fields` calls variants of them, in [`internals`].) Nothing
 //! here allocates. The crate depends on `iim_dataset` for octets and datasets, on `jiff` for days
 //! and instants, and on `byteorder` for numbers.
 #![tactic(auto)]

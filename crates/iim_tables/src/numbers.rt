@@ -1,4 +1,4 @@
-//! The numbers that octets encode.
+//! Decodes numbers.
 
 ghost use Rattle.std.specs.Prelude.{◌≡◌, ◌↔◌, length, IsSome, IfSome};
 ghost use Rattle.std.specs.Int.{IsInRange};
@@ -12,15 +12,16 @@ use iim_dataset::COUNT_OCTETS;
 pub const SIZE_OCTETS: usize = COUNT_OCTETS as usize;
 
 /// Decodes an unsigned binary number of 1 to `SIZE_OCTETS` octets, high octet first. Returns `None`
-/// for no octets and for more.
+/// for any other number of octets.
 ///
-/// The sizes of records 7 and 9 are such numbers (IIM version 4, pre-ObjectData and post-ObjectData
-/// descriptor records).
+/// The sizes in records 7 and 9, the pre-ObjectData and post-ObjectData descriptor records of IIM
+/// version 4, are encoded like this.
 pub fn number_of(octets: &[u8]) -> Option<u64>
     ensures exactly { IsSome result ↔ IsInRange 1 size_octets (length octets.now) }
     ensures value { IfSome result (λ n. n ≡ number octets.now) }
 {
-    // Most numbers have one, two or four octets. These are read in place, and others from a copy.
+    // Most numbers have one, two or four octets and are read in place. Others are read from a
+    // padded copy.
     match octets.len() {
         1 => Some(u64::from(octets[0])),
         2 => Some(u64::from(BigEndian::read_u16(octets))),

@@ -1,4 +1,4 @@
-//! Octets, and the class of text.
+//! Classes of octets.
 
 ghost use Rattle.std.specs.Prelude.{◌≡◌};
 ghost use Rattle.iim_tables.specs.Text.{is_text};
@@ -13,7 +13,8 @@ pub(crate) const MINUS: u8 = b'-';
 
 pub(crate) const DIGIT_ZERO: u8 = b'0';
 
-/// Checks whether the octet is text: at least `least` and not DEL, or CR or LF if `lines` is true.
+/// Checks whether the octet is text: at least `least` and not DEL, or, if `lines` is true, CR or
+/// LF.
 pub(crate) fn is_text(least: u8, lines: bool, octet: u8) -> bool
     ensures { result ≡ is_text least lines octet }
 {

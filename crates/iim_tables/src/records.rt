@@ -1,4 +1,4 @@
-//! The numbers of the records, and of the datasets that other layers name, by their names in the
+//! The numbers of the records and of the datasets that the layers refer to, with their names in the
 //! standard.
 
 /// The Envelope Record.
@@ -10,7 +10,7 @@ pub const FILE_FORMAT: u8 = 20;
 /// The Application Record.
 pub const APPLICATION: u8 = 2;
 
-/// The pre-ObjectData Descriptor Record: sizes that are stated before the object.
+/// The pre-ObjectData Descriptor Record, which states sizes before the object.
 pub const PRE_OBJECT: u8 = 7;
 
 /// 7:10 Size Mode.

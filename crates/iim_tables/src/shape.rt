@@ -1,7 +1,7 @@
-//! The row of a dataset: its bounds, kind and duty.
+//! The row of a dataset in the tables: its bounds, kind and duty.
 
-/// Which octets a dataset may have (IIM version 4, the chapters on the records). The octets of a
-/// part date with missing parts, and the names of the kinds, are the profile's.
+/// The kind of a dataset: which octets it may have (IIM version 4, the chapters on the records).
+/// The names of the kinds, and the dates with missing parts, are choices of the profile.
 #[derive(Clone, Copy, Debug, PartialEq, Eq)]
 pub enum Kind {
     /// The octets 21 to 7E and 80 to FF: the standard's graphic characters.
@@ -17,11 +17,12 @@ pub enum Kind {
     /// Eight digits, CCYYMMDD: a day of the proleptic Gregorian calendar, of the years 0001 to
     /// 9999.
     Date,
-    /// A date that may have 00 as month, and then 00 to 31 as day, or 00 as day.
+    /// A date with a missing part: the month may be 00, and then the day is 00 to 31; or the day
+    /// may be 00.
     PartDate,
     /// Eleven octets, HHMMSS, + or -, HHMM: a time of day and its offset from universal time.
     Time,
-    /// A binary number, which may be any octets.
+    /// A binary number. Any octets are valid.
     Binary,
     /// Any octets.
     Octets,
@@ -37,23 +38,23 @@ pub enum Kind {
 /// Whether a dataset must occur in its record (IIM version 4, the chapters on the records).
 #[derive(Clone, Copy, Debug, PartialEq, Eq)]
 pub enum Duty {
-    /// It must occur.
+    /// The dataset must occur.
     Mandatory,
-    /// It may occur.
+    /// The dataset may occur.
     Optional,
-    /// It must occur if 7:10 Size Mode states that the size is known at the start, and must not
-    /// occur otherwise.
+    /// The dataset must occur if 7:10 Size Mode states that the size is known at the start, and
+    /// must not occur otherwise.
     ByMode,
 }
 
-/// The row of a dataset in the table.
+/// The row of a dataset in the tables.
 #[derive(Clone, Copy, Debug, PartialEq, Eq)]
 pub struct Row {
     /// The least number of octets.
     pub min: u64,
     /// The greatest number of octets.
     pub max: u64,
-    /// The kind of the octets.
+    /// The kind of the data.
     pub kind: Kind,
     /// Whether the dataset must occur.
     pub duty: Duty,

@@ -1,4 +1,4 @@
-//! The table of the datasets.
+//! The tables of the datasets.
 
 ghost use Rattle.std.specs.Prelude.{◌≡◌, Some, None, MatchOption};
 ghost use Rattle.iim_tables.specs.Format.Rows.{row_of};
@@ -7,7 +7,8 @@ use crate::numbers::SIZE_OCTETS;
 use crate::shape::{Duty, Kind, Row};
 use iim_dataset::GREATEST_SIZE;
 
-/// The row of all other numbers of records 1 and 2: such datasets are stored unread.
+/// The row of every number of records 1 and 2 that is not in the tables. Such datasets are stored
+/// without a check of their octets.
 const KEPT: Row = Row {
     min: 0,
     max: 8192,
@@ -16,8 +17,8 @@ const KEPT: Row = Row {
     repeats: true,
 };
 
-/// Matches a dataset's record and number, with each line as an arm: dataset, octets, kind, duty,
-/// whether it repeats.
+/// Expands to a match on the record and the number of a dataset. Each line is an arm: dataset,
+/// octets, kind, duty, and whether the dataset repeats.
 macro_rules! row_by {
     ($dataset:expr; $($rec:literal:$set:literal $min:literal..=$max:tt $kind:ident $duty:ident $repeats:literal)*) => {
         match $dataset {
@@ -34,7 +35,7 @@ macro_rules! row_by {
     };
 }
 
-/// The datasets of the records 1, 2, 7, 8 and 9, in the order and by the names of the standard.
+/// The datasets of the records 1, 2, 7, 8 and 9, in the order and with the names of the standard.
 macro_rules! row_in_table {
     ($dataset:expr) => {
         row_by! { $dataset;
@@ -108,14 +109,14 @@ pub fn line(rec: u8, set: u8) -> Option<&'static Row>
     row_in_table!((rec, set))
 }
 
-/// Returns the row of the dataset with that record and number, or `None` if it has no row. Records
-/// 1 and 2 have a row for every number; records 7, 8 and 9 only for those of the table; and other
-/// records have none.
+/// Returns the row of the dataset with this record and number, or `None` if there is no such row.
+/// Records 1 and 2 have a row for every number, records 7, 8 and 9 only for the numbers in the
+/// tables, and other records have none.
 ///
-/// The table has the datasets of the Envelope Record (1), the Application Record (2), the
+/// The tables have the datasets of the Envelope Record (1), the Application Record (2), the
 /// pre-ObjectData Descriptor Record (7), the ObjectData Record (8) and the post-ObjectData
-/// Descriptor Record (9) of IIM version 4. Every other number of records 1 and 2 is stored unread:
-/// up to 8,192 octets, as often as it occurs.
+/// Descriptor Record (9) of IIM version 4. A dataset with any other number of records 1 and 2 may
+/// have up to 8,192 octets of any kind, and may repeat.
 #[inline(always)]
 pub fn row(rec: u8, set: u8) -> Option<Row>
     ensures { result ≡ row_of rec set }

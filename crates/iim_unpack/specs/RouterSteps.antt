@@ -36,7 +36,7 @@ abbrev pub is_end : ObjectEvent → Bool
 is_end (ObjectOctet b) = false
 is_end ObjectEnd = true
 
--- whether the last event so far is the end, given whether it was before these events
+-- whether the last event so far is the end; `before` states this before these events
 abbrev pub end_is_last : Bool → List ObjectEvent → Bool
 end_is_last before events = fold (λ (last : Bool) (event : ObjectEvent). is_end event) before events
 
@@ -54,7 +54,7 @@ IsFaultOfObject old token h fault = (cause : SizeCause) × RejectsObjectToken ol
 abbrev pub AllowsSubfile : Option State → Type 0
 AllowsSubfile object = (p : ObjectPlace) → objects.ObjectReaderStandsAt object p → length p.lengths < max_subfiles
 
--- The events are in order: they are a prefix of the events of complete datasets, one after another.
+-- The events are in order: they are a prefix of the events of some complete datasets.
 pub record EventsAreInOrder (events : List DatasetEvent) : Type 0 where
   pub later : List DatasetEvent
   pub whole : List Dataset
@@ -78,21 +78,21 @@ pub record Refused (limits : Limits) (events : List DatasetEvent) (text : List �
   pub unfinished : AreSections whole → ⊥
   pub refuses : IsFaultOfEvent limits whole begun event fault
 
--- No dataset is partial. `over` states whether the last dataset has ended.
+-- No dataset is in progress. `over` states whether the last dataset has ended.
 pub record PartsAreBetween (over : Bool) (parts : Parts) : Type 0 where
   pub fields : records.IsBetweenDatasets parts.fields
   pub object : IsSome parts.object
   pub message : IsSome parts.message
   pub is_over : has_ended parts ≡ over
 
--- A dataset is partial, and `left` octets of it remain.
+-- A dataset is in progress, and `left` octets of it remain.
 pub record PartsAcceptData (parts : Parts) (left : ℕ) : Type 0 where
   pub head : Head
   pub fields : records.IsInsideDataset parts.fields head left
   pub object : IsSome parts.object
   pub message : IsSome parts.message
 
--- If the events are in order, they take the parts from the first state to the second, and add the
+-- If the events are in order, they lead the parts from the first state to the second, and add the
 -- text `more`.
 pub record PartsConsume (old : Parts) (events : List DatasetEvent) (more : List ℕ) (new : Parts) : Type 0 where
   pub limits : records.limits_of new.fields ≡ records.limits_of old.fields
@@ -109,11 +109,11 @@ abbrev pub PartsRejectEvent : Parts → List DatasetEvent → List ℕ → Datas
 PartsRejectEvent old events more event fault = (before : List DatasetEvent) (text : List ℕ) → EventsAreInOrder ((before ++ events) ++ event ∷ [])
     → AreReachedBy old before text → Refused (records.limits_of old.fields) (before ++ events) (text ++ more) event fault
 
--- The end of the dataset is rejected, and not because a sink stopped.
+-- The end of the dataset is rejected by a layer, and not by the sink.
 abbrev pub RejectsClose : Parts → TokenFault → Type 0
 RejectsClose old fault = ((n : ℕ) → CountsSinkFailure fault.cause n n) × PartsRejectEvent old [] [] DatasetEnd fault
 
--- The parts accept a head, or `left` octets of data.
+-- The parts accept a head next, or `left` octets of data.
 abbrev pub Takes : Parts → Option ℕ → Type 0
 Takes parts None = PartsAreBetween false parts
 Takes parts (Some left) = PartsAcceptData parts left
@@ -124,20 +124,20 @@ RouterAccepts router left = Takes router.parts.now left
 abbrev pub RouterHasEnded : {S : Type 0} → Router S → Type 0
 RouterHasEnded router = PartsAreBetween true router.parts.now
 
--- (`goes` relates the states of a sink of stories before and after events; `failures` counts how
--- often it stopped.)
+-- (`goes` relates the values of a sink of stories before and after events; `failures` counts its
+-- stops.)
 module _ {S : Type 0} (goes : S → List story.StoryEvent → S → Type 0) (failures : S → ℕ) where
-  -- The reader consumed the events, and the sink received the text that they add. (Reader and sink,
-  -- before and after.)
+  -- The reader consumed the events, and the sink received the text that they add. (The arguments
+  -- are reader and sink, before and after.)
   pub record MessageEmits (old : Option Place × S) (events : List ObjectEvent) (new : Option Place × S) : Type 0 where
     pub takes_calls : IsSome new.0
     pub told : PassesStoryToSink goes old.1 old.0 (flat_map octets_of events) new.0 new.1
     pub no_failure : failures new.1 ≡ failures old.1
     pub whole : (before : Bool) → (before ≡ true → IsCompleteMessage old.0) → end_is_last before events ≡ true → IsCompleteMessage new.0
 
-  -- The reader consumed the events and rejected the next one for this cause; the sink received the
-  -- text of the events consumed. (Reader and sink, before and after. The final state of the reader
-  -- is not specified.)
+  -- The reader consumed the events and rejected the next one for this cause. The sink received the
+  -- text of the events consumed. (The arguments are reader and sink, before and after. The final
+  -- state of the reader is not specified.)
   pub record MessageRejects (cause : Option MessageCause)
       (old : Option Place × S) (events : List ObjectEvent) (refused : ObjectEvent) (new : Option Place × S) : Type 0 where
     pub why : MessageCause
@@ -146,23 +146,24 @@ module _ {S : Type 0} (goes : S → List story.StoryEvent → S → Type 0) (fai
     pub counts : SinkCountsMessageCause (failures old.1) (failures new.1) why
     pub has_cause : (octets text : List ℕ) → MessageReaderHasRead old.0 octets text → EventHasCause why (octets ++ flat_map octets_of events) refused
 
-  -- The object reader rejected the token of the head, and the sink received nothing; or it accepted
-  -- the end, and the message reader rejected that. (Message and sink, before and after.)
+  -- The object reader rejected the token of the head, and the sink received nothing; or the object
+  -- reader accepted the end, but the message reader rejected it. (The arguments are message and
+  -- sink, before and after.)
   abbrev pub ObjectRejectsHead : Option State → Head → Option Place × S → Option Place × S → TokenFault → Type 0
   ObjectRejectsHead object h old new fault =
       (IsFaultOfObject object (head_token h.rec h.count) h fault × MessageEmits old [] new)
       ⊎ ((why : MessageCause) × (fault ≡ message_fault_on h why) × (head_token h.rec h.count ≡ ObjectEnded) × IsViableWithToken object (head_token h.rec h.count)
       × MessageRejects (Some why) old [] ObjectEnd new)
 
-  -- In every state of the object, the head begins one subfile too many, and the sink received
-  -- nothing; or object or message rejected the head.
+  -- In every state of the object, the head begins a subfile over the limit, and the sink received
+  -- nothing; or the object or the message rejected the head.
   abbrev pub RejectsSubfileHead : Option State → Head → Option Place × S → Option Place × S → TokenFault → Type 0
   RejectsSubfileHead object h old new fault =
       (((p : ObjectPlace) → objects.ObjectReaderStandsAt object p → max_subfiles ≤ length p.lengths) × (fault ≡ count_fault_on h) × (new.1 ≡ old.1))
       ⊎ (AllowsSubfile object × ObjectRejectsHead object h old new fault)
 
-  -- The relations of the sink that contains a reader and a sink. Its references still point to the
-  -- same places.
+  -- The relations of the sink that consists of a reader and a sink. Its references still point to
+  -- the same values.
   abbrev pub ToMessageConsumes : ToMessage S → List ObjectEvent → ToMessage S → Type 0
   ToMessageConsumes a events b = (a.message.ghost_name ≡ b.message.ghost_name) × (a.sink.ghost_name ≡ b.sink.ghost_name)
       × (IsSome a.message.now → MessageEmits (a.message.now, a.sink.now) events (b.message.now, b.sink.now))
@@ -171,16 +172,16 @@ module _ {S : Type 0} (goes : S → List story.StoryEvent → S → Type 0) (fai
   ToMessageRejects a events refused b = (a.message.ghost_name ≡ b.message.ghost_name) × (a.sink.ghost_name ≡ b.sink.ghost_name)
       × (IsSome a.message.now → MessageRejects b.cause (a.message.now, a.sink.now) events refused (b.message.now, b.sink.now))
 
-  -- The events take the parts from the first state to the second, and the sink received the text
-  -- that they add. (Parts and sink, before and after.)
+  -- The events lead the parts from the first state to the second, and the sink received the text
+  -- that they add. (The arguments are parts and sink, before and after.)
   pub record PartsEmit (old : Parts × S) (events : List DatasetEvent) (new : Parts × S) : Type 0 where
     pub more : List ℕ
     pub leads : PartsConsume old.0 events more new.0
     pub told : goes old.1 (story.delivered more) new.1
     pub no_failure : failures new.1 ≡ failures old.1
 
-  -- The parts consumed the events and rejected the next one. (The error; parts and sink, before and
-  -- after. The final state of the parts is not specified.)
+  -- The parts consumed the events and rejected the next one. (The arguments are the error, and
+  -- parts and sink, before and after. The final state of the parts is not specified.)
   pub record PartsReject (refused : Option TokenFault) (old : Parts × S) (events : List DatasetEvent) (event : DatasetEvent) (new : Parts × S) : Type 0 where
     pub fault : TokenFault
     pub is_fault : refused ≡ Some fault
@@ -198,8 +199,8 @@ module _ {S : Type 0} (goes : S → List story.StoryEvent → S → Type 0) (fai
       × PartsReject b.refused (a.parts.now, a.sink.now) events event (b.parts.now, b.sink.now)
       × (reader_capacity b.parts.now.fields ≡ reader_capacity a.parts.now.fields)
 
-  -- The parts consumed a complete dataset, and then accept a head or have ended; or nothing was
-  -- consumed. (Parts and sink, before and after.)
+  -- The parts consumed a complete dataset, and accept a head or have ended; or nothing was
+  -- consumed. (The arguments are parts and sink, before and after.)
   abbrev pub ConsumedWholeDataset : Parts × S → Head → List ℕ → Parts × S → Option Step → Type 0
   ConsumedWholeDataset old h xs new None = (new.0 ≡ old.0) × (new.1 ≡ old.1)
   ConsumedWholeDataset old h xs new (Some step) =
@@ -208,8 +209,8 @@ module _ {S : Type 0} (goes : S → List story.StoryEvent → S → Type 0) (fai
 pub leads_on_nil : (old : Option Place) → ChunkAdvancesMessage old [] [] old
 leads_on_nil old octets text at = rw (append-nil octets, append-nil text) at
 
--- What holds after some events from each state of the reader, and then after others, holds after
--- both.
+-- If a property holds after some events in each state of the reader, and then after others, it
+-- holds after both.
 after_both : (p q : Option Place) (xs ys : List ObjectEvent) (added more : List ℕ) (P : List ℕ → List ℕ → Type 0) → ChunkAdvancesMessage p (flat_map octets_of xs) added q
     → ((octets text : List ℕ) → MessageReaderHasRead q octets text → P (octets ++ flat_map octets_of ys) (text ++ more)) → (octets text : List ℕ) → MessageReaderHasRead p octets text
     → P (octets ++ flat_map octets_of (xs ++ ys)) (text ++ (added ++ more))
@@ -229,8 +230,8 @@ module _ {S : Type 0} {goes : S → List story.StoryEvent → S → Type 0} {fai
   parts_emit_nil g =
       record { more = []; leads = record { limits = refl; leads = λ before text _ led. rw (append-nil before, append-nil text) led }; told = g; no_failure = refl }
 
-  -- The effects of events in turn are the effect of their concatenation: the lemmas that the sinks
-  -- need.
+  -- The effects of events one after another are the effect of their concatenation: lemmas for the
+  -- sinks.
   module _ (joined : (a b c : S) (xs ys : List story.StoryEvent) → goes a xs b → goes b ys c → goes a (xs ++ ys) c) where
     pub message_emits_append : {d e f : Option Place × S} {xs ys : List ObjectEvent} → MessageEmits goes failures d xs e → MessageEmits goes failures e ys f
         → MessageEmits goes failures d (xs ++ ys) f
@@ -289,7 +290,8 @@ module _ {S : Type 0} {goes : S → List story.StoryEvent → S → Type 0} {fai
           (k.why (before ++ xs) (text ++ h.more) in_order (h.leads.leads before text first led));
     }
 
--- Parts whose last dataset has ended accept nothing: no head follows, and no dataset is partial.
+-- Parts whose last dataset has ended accept nothing: no head follows, and no dataset is in
+-- progress.
 pub ended_parts_accept_nothing : (parts : Parts) (left : Option ℕ) → PartsAreBetween true parts → Takes parts left → ⊥
 ended_parts_accept_nothing parts None ended takes = let both : true ≡ false = sym ended.is_over ∙ takes.is_over in cc
 ended_parts_accept_nothing parts (Some left) ended takes =

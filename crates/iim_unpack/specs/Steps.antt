@@ -30,30 +30,30 @@ pub record IsDoneWithin (v : Unpacking) (octets : List ℕ) (more : List story.S
   pub done : IsDoneWith v (take used octets) used
   pub adds : Delivers [] (take used octets) more
 
--- The unpacker has consumed the octets, or an envelope that is a prefix of them; and the sink
--- received the text of what was consumed.
+-- The unpacker has consumed the octets, or an envelope that is a prefix of them. The sink received
+-- the text in the octets consumed.
 pub record HasFedChunks {S : Type 0} (goes : S → List story.StoryEvent → S → Type 0) (limits : Limits) (v : Unpacking) (a b : S) (octets : List ℕ) : Type 0 where
   pub limits_are : limits_in v ≡ limits
   pub more : List story.StoryEvent
   pub told : goes a more b
   pub stood : (HasRead v octets (length octets) × Delivers [] octets more) ⊎ IsDoneWithin v octets more
 
--- the error of an intake whose reader had this error
+-- converts an error of a reader to the error of its intake
 abbrev pub read_fault : IoFault → IntakeFault
 read_fault io.Failed = Read
 read_fault io.Interrupted = Interrupted
 
--- the partial dataset, by the reader of tags and the parts
+-- what is in progress, given the reader of tags and the parts
 abbrev pub phase_in : DatasetPlace → Parts → Phase
 phase_in place parts = if has_ended parts then AllEnded
     else elim place [ Tag held ↦ PartialTag held.items | Inside h left ↦ PartialData h.set h.count left parts.fields.taken ]
 
--- how many octets of a partial subfile remain
+-- the number of octets of a subfile in progress that remain
 abbrev pub remaining_of_subfile : DatasetPlace → ℕ
 remaining_of_subfile (Tag held) = 0
 remaining_of_subfile (Inside h left) = if h.rec == 8 then left else 0
 
--- The ticket is the encoding of these readers' states, whatever octets they have consumed.
+-- The ticket is the encoding of these readers' states, for any octets that they have consumed.
 pub record IsEncoded (place : DatasetPlace) (parts : Parts) (ticket : List ℕ) : Type 0 where
   pub section : ℕ
   pub numbers : List (Option ℕ)
@@ -74,7 +74,7 @@ abbrev pub cause_of_tag : HeadCause → Cause
 cause_of_tag heads.Marker = causes.Marker
 cause_of_tag heads.CountForm = causes.CountForm
 
--- the error of a partial tag, which names these numbers
+-- the error of a partial tag, which names this record and number
 abbrev pub tag_fault : ℕ × ℕ → HeadCause → TokenFault
 tag_fault names cause = record { layer = layers.Dataset; rec = names.0; set = names.1; cause = cause_of_tag cause }
 
@@ -82,28 +82,30 @@ tag_fault names cause = record { layer = layers.Dataset; rec = names.0; set = na
 
 module _ {S : Type 0} (goes : S → List story.StoryEvent → S → Type 0) (failures : S → ℕ) where
   -- The first `used` octets of the chunk were consumed, and parts and sink received what they
-  -- complete: the whole chunk, or the octets up to the end of the last dataset. (The state, the
-  -- parts and the sink before; the reader, the parts and the sink after.)
+  -- complete. They are the whole chunk, or the octets up to the end of the last dataset. (The
+  -- arguments are the state, the parts and the sink before, and the reader, the parts and the sink
+  -- afterwards.)
   pub record HasAdvanced (old : Place × Parts × S) (piece : List ℕ) (new : Reader × Parts × S) (used : ℕ) : Type 0 where
     pub takes_calls : DatasetReaderAccepts new.0
     pub within : used ≤ length piece
     pub told : PassesToSink (PartsEmit goes failures) old.0 (take used piece) new.0.place (old.1, old.2) (new.1, new.2)
     pub onward : ConsumedAllOrEnded Takes (PartsAreBetween true) new.0.place new.1 (length piece) used
 
-  -- Parts and sink received what the octets before octet k complete, and no tag continues with
+  -- Parts and sink received what the octets before octet k complete, and no tag can continue with
   -- octet k.
   pub record RejectsTagOctet (old : Place × Parts × S) (octets : List ℕ) (k : ℕ) (cause : HeadCause) (new : Place × Parts × S) : Type 0 where
     pub told : PassesToSink (PartsEmit goes failures) old.0 (take k octets) new.0 (old.1, old.2) (new.1, new.2)
     pub takes : Takes new.1 (to_come new.0)
     pub dies : TagIsRejected new.0 (slice_index octets k) cause
 
-  -- Why octet k is rejected: no tag continues with it, or the parts rejected what it completes.
-  -- (Their error; the state, the parts and the sink, before and after.)
+  -- Why octet k is rejected: no tag can continue with it, or the parts rejected what it completes.
+  -- (The arguments are their error, and the state, the parts and the sink, before and after.)
   abbrev pub IsRejectedBy : Option HeadCause → Option TokenFault → Place × Parts × S → List ℕ → ℕ → Place × Parts × S → Type 0
   IsRejectedBy None refused old octets k new = DatasetSinkStopsAt (PartsReject goes failures refused) old.0 octets k (old.1, old.2) (new.1, new.2)
   IsRejectedBy (Some cause) refused old octets k new = RejectsTagOctet old octets k cause new
 
-  -- Why octet k of a chunk is rejected. (The state, the parts and the sink, before and after.)
+  -- Why octet k of a chunk is rejected. (The arguments are the state, the parts and the sink,
+  -- before and after.)
   abbrev pub IsRejectedWith : Place × Parts × S → List ℕ → ℕ → TokenFault → Place × Parts × S → Type 0
   IsRejectedWith old octets k fault new =
       ((cause : HeadCause) × RejectsTagOctet old octets k cause new × (fault ≡ tag_fault (current_name new.0) cause))

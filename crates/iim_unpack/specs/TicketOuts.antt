@@ -1,12 +1,12 @@
--- The effect of writing octets of a ticket to memory or to a buffer, and the lemmas about it that
--- the implementations pass on. (Private to proofs.)
+-- The effect of writing octets of a ticket to memory or to a buffer, with lemmas for the
+-- implementations of the trait. (Private to proofs.)
 use Rattle.std.proofs.Common.{◌≡◌, ℕ, ◌≤◌, List, [], ◌++◌, length, take, false, refl, sym, ap, subst, ◌∙◌, append-nil, append_assoc}
 use Rattle.iim_places.specs.Format.Streams.{sum_capped}
 use Rattle.iim_unpack.specs.declared.ticket.out.{Grown.Grown, Front.Front}
 
 -- ---- memory that grows
 
--- If no allocation has failed, none had failed before, and the octets were appended.
+-- If no allocation has failed now, none had failed before, and the octets were appended.
 abbrev pub AppendsOctets : Grown → List ℕ → Grown → Type 0
 AppendsOctets old octets new = new.is_refused ≡ false → (old.is_refused ≡ false) × (new.ticket.items ≡ old.ticket.items ++ octets)
 
@@ -21,11 +21,11 @@ appends_octets_append a b c xs ys first then no_failure =
 
 -- ---- the start of a buffer
 
--- The count is the number of octets written, and they are at the start of the buffer if they fit.
+-- The count is the number of octets appended. The buffer begins with these octets, if they fit.
 abbrev pub HoldsPrefix : List ℕ → ℕ → List ℕ → Type 0
 HoldsPrefix out count octets = (count ≡ sum_capped 0 (length octets)) × (length octets ≤ length out → take (length octets) out ≡ octets)
 
--- The octets were appended, in the same buffer.
+-- The octets were appended to the same buffer.
 pub record WritesPrefix (old : Front) (octets : List ℕ) (new : Front) : Type 0 where
   pub same : new.out.ghost_name ≡ old.out.ghost_name
   pub room : length new.out.now ≡ length old.out.now

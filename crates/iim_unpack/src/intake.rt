@@ -27,7 +27,7 @@ use wire_story::laws::delivery_of_chunks_joins;
 /// Why an intake returned no envelope.
 #[derive(Clone, Copy, Debug, PartialEq, Eq, Error)]
 pub enum IntakeFault {
-    /// The input is rejected or ends inside an envelope, or an earlier call failed.
+    /// The input is rejected or ends inside an envelope, or an earlier call returned an error.
     #[error("{0}")]
     Refused(Refusal),
     /// The reader failed (71).
@@ -41,7 +41,8 @@ pub enum IntakeFault {
 impl IntakeFault {
     ghost use Rattle.iim_unpack.specs.Format.Faults.{intake_number, intake_name};
 
-    /// Returns the number of the cause, as it is printed. A refusal has the number of its cause.
+    /// Returns the number of the cause, as it is printed. For a refusal, it is the number of the
+    /// refusal's cause.
     pub fn number(self) -> u8
         ensures { result ≡ intake_number self }
     {
@@ -52,7 +53,8 @@ impl IntakeFault {
         }
     }
 
-    /// Returns the name of the cause, as it is printed. A refusal has the name of its cause.
+    /// Returns the name of the cause, as it is printed. For a refusal, it is the name of the
+    /// refusal's cause.
     pub fn name(self) -> &'static str
         ensures { result.now ≡ intake_name self }
     {
@@ -64,8 +66,8 @@ impl IntakeFault {
     }
 }
 
-/// Reads once if the block is empty. Returns `false` at the end of the source, otherwise the block
-/// is non-empty.
+/// Reads once if the block is empty. Returns `false` at the end of the source. Otherwise returns
+/// `true`, and the block is non-empty.
 fn next_piece<R: Source>(block: &mut Block, reader: &mut R) -> Result<bool, IoFault>
     ensures given { OnOk result (ReadsGave (with_unread block.old (R.state reader.old))
         (with_unread block.new (R.state reader.new)) []) }
@@ -105,7 +107,7 @@ pub enum Fed {
     More(u64),
     /// This many octets were fed, and the last of them ended the envelope.
     Done(u64),
-    /// No input is left, and the unpacker has consumed no octet.
+    /// The input has ended, and the unpacker has consumed no octet.
     End,
 }
 
@@ -148,15 +150,16 @@ impl<R: Source> Intake<R> {
         }
     }
 
-    /// Returns how many octets the last call consumed for the envelope that it returned, or 0 if it
-    /// returned none.
+    /// Returns the number of octets of the envelope that the last call returned, as far as that
+    /// call consumed them. Returns 0 if the last call returned no envelope.
     pub fn octets(&self) -> u64
         ensures { result ≡ self.now.octets }
     {
         self.octets
     }
 
-    /// Checks whether octets are buffered. If so, the next [`Intake::next_piece`] does not read.
+    /// Checks whether octets are buffered. If so, the next call of [`Intake::next_piece`] does not
+    /// read.
     pub fn has_buffered_octets(&self) -> bool
         ensures { IsTrue result ↔ (0 < length self.now.block) }
     {
@@ -201,8 +204,8 @@ impl<R: Source> Intake<R> {
         }
     }
 
-    /// Feeds the buffered octets to an unpacker. If there are none, reads once, retrying after
-    /// interruptions, and feeds what was read.
+    /// Feeds the buffered octets to an unpacker. If there are none, reads once, with retries after
+    /// interruptions, and feeds the new octets.
     ///
     /// **Errors:** a refusal, or an error of the reader. After an error every call returns a
     /// refusal, as [`Intake::next_envelope`] does.
@@ -217,10 +220,10 @@ impl<R: Source> Intake<R> {
         ensures no_failure { OnOk result ((self.new.failed ≡ None) × (S.failures sink.new ≡ S.failures sink.old)) }
         ensures faults { self.old.failed ≡ None → IfErr result (ReturnsNone S.goes S.failures R.state
             (self.old, unpacker.old, sink.old) (self.new, unpacker.new, sink.new)) }
-        // If octets were buffered, nothing is read: so there is no error of the reader, and no end
-        // of the input. At an error of the reader nothing was fed.
+        // If octets were buffered, the reader is not called: there is no error of the reader, and
+        // no end of the input. If the reader fails, nothing was fed.
         ensures reads { ReadsOnlyIfEmpty self.old self.new unpacker.old unpacker.new sink.old sink.new result }
-        // There were at most a million interruptions.
+        // At most a million interruptions occurred.
         ensures retry_limit { WithinInterruptionLimit 1 (R.state self.old.reader) (R.state self.new.reader) }
         ensures octets { self.new.octets ≡ self.old.octets }
         ensures again { (octet : ℕ) → self.old.failed ≡ Some octet → (result ≡ Err (RefusedFault (failed_at octet)))
@@ -248,12 +251,13 @@ impl<R: Source> Intake<R> {
         }
     }
 
-    /// Feeds an unpacker up to the end of the next envelope, the beginning of which it may have
-    /// consumed already. Returns `true` at that end, and `false` if the input ends and the unpacker
-    /// has consumed no octet. The octets after the envelope remain in the buffer.
+    /// Feeds the next envelope to an unpacker, up to the end of that envelope. The unpacker may
+    /// have consumed the beginning of the envelope already. Returns `true` at the end of the
+    /// envelope, and `false` if the input ends and the unpacker has consumed no octet. Octets after
+    /// the envelope are still buffered.
     ///
-    /// After an error of the reader the unpacker has consumed the octets that were read, and
-    /// another intake may feed it more.
+    /// If the reader fails, the unpacker has consumed the octets that were read before, and can be
+    /// fed by another intake.
     pub fn feed_envelope<S: StorySink>(
         &mut self,
         unpacker: &mut Unpacker,
@@ -292,9 +296,9 @@ impl<R: Source> Intake<R> {
         }
     }
 
-    /// Returns the next envelope, the beginning of which the unpacker may have consumed already.
-    /// Returns `None` if the input ends and the unpacker has consumed no octet. The octets after
-    /// the envelope remain in the buffer.
+    /// Returns the next envelope. The unpacker may have consumed the beginning of the envelope
+    /// already. Returns `None` if the input ends and the unpacker has consumed no octet. Octets
+    /// after the envelope are still buffered.
     pub fn next_envelope<S: StorySink>(
         &mut self,
         unpacker: Unpacker,

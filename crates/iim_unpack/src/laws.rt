@@ -8,8 +8,8 @@ use crate::unpacker::Unpacker;
 use iim_places::laws::layer_lemmas;
 pub use iim_places::laws::place_laws;
 
-/// Proves that an unpacker without a refusal has consumed some incomplete input or an envelope. It
-/// stores what its limits allow, and at most 256 octets more.
+/// Proves that an unpacker that has rejected nothing has consumed an envelope or an incomplete
+/// input. It stores what its limits allow, and at most 256 octets more.
 #[tactic(auto, using(crate::proofs::Feeding::reachable_done))]
 pub fn unpackers_are_reachable(unpacker: &Unpacker)
     ensures stands { unpacker.now.refused ≡ None → (IsDone unpacker.now → ⊥) → (octets : List ℕ) × (count : ℕ)

@@ -1,4 +1,4 @@
-//! The readers of an unpacker below the reader of tags, as one.
+//! All readers of an unpacker except the reader of tags.
 
 ghost use Rattle.std.specs.Prelude.{◌≡◌, true, false, IsTrue, ◌<◌, ◌≤◌, ◌-◌, ℕ, nat_lt, [], ◌∷◌, length, map, take, slice_index, Some, None, IsSome, IfSome, IfOk, IfErr, OnOk};
 ghost use Rattle.iim_dataset.specs.States.Reading.{HeadRead, DataOctet, DatasetEnd};
@@ -26,8 +26,9 @@ use iim_tables::records::{OBJECT, POST_OBJECT, PRE_OBJECT};
 use wire_message::{MessageFault, MessageReader};
 use wire_story::StorySink;
 
-/// The state of an unpacker after the complete tags and data: of its records, its object and its
-/// message. The readers also store the partial dataset, and how much of it remains.
+/// The state of an unpacker after complete tags and data: that of its records, its object and its
+/// message. The readers also store the dataset in progress, and the number of its octets that
+/// remain.
 #[derive(Drop)]
 pub(crate) struct Parts {
     /// The reader of the records, which stores their datasets.
@@ -41,13 +42,13 @@ pub(crate) struct Parts {
 /// A rejected octet of data.
 #[derive(Clone, Copy)]
 pub(crate) struct Rejection {
-    /// How many octets of the data precede the rejected one.
+    /// The number of octets of the data before the rejected one.
     pub taken: usize,
     /// The error.
     pub fault: TokenFault,
 }
 
-/// Returns the error for a rejected octet of a subfile.
+/// Converts the error for an octet of a subfile to a rejection, which names the dataset of `head`.
 fn rejection_on(head: Head, fault: MessageFault) -> Rejection
     ensures { result ≡ record { taken = fault.taken; fault = message_fault_on head fault.cause } }
 {
@@ -57,7 +58,7 @@ fn rejection_on(head: Head, fault: MessageFault) -> Rejection
     }
 }
 
-/// Checks whether one more subfile is allowed after this many.
+/// Checks whether one more subfile is allowed after `subfiles` subfiles.
 #[inline(always)]
 fn may_begin(subfiles: u64) -> bool
     ensures { result ≡ nat_lt subfiles max_subfiles }
@@ -89,7 +90,7 @@ fn subfile<S: StorySink>(
     pass_head(object, message, head, sink)
 }
 
-/// Passes the number of a value to the object.
+/// Passes the number of a value to the object reader.
 #[inline(always)]
 fn pass_number(object: &mut ObjectReader, head: Head, number: u64) -> Result<(), TokenFault>
     requires { IsSome object.old }
@@ -146,8 +147,8 @@ impl Parts {
         Ok(())
     }
 
-    /// Consumes a complete dataset of record 7 and returns `true`, or returns `false` and changes
-    /// nothing.
+    /// Consumes a complete dataset of record 7. Returns `true` if it was consumed; otherwise
+    /// nothing changes.
     #[inline(never)]
     fn whole_number(&mut self, set: u8, count: u64, octets: &[u8]) -> bool
         requires takes { PartsAreBetween false self.old }
@@ -175,8 +176,8 @@ impl Parts {
         true
     }
 
-    /// Consumes a complete 9:10, with which the envelope ends, and returns `true`; or returns
-    /// `false` and changes nothing.
+    /// Consumes a complete 9:10, with which the envelope ends. Returns `true` if it was consumed;
+    /// otherwise nothing changes.
     #[inline(never)]
     fn whole_end(&mut self, set: u8, count: u64, octets: &[u8]) -> bool
         requires takes { PartsAreBetween false self.old }
@@ -203,8 +204,8 @@ impl Parts {
         true
     }
 
-    /// Consumes a complete dataset of record 1 or 2 and returns `true`, or returns `false` and
-    /// changes nothing.
+    /// Consumes a complete dataset of record 1 or 2. Returns `true` if it was consumed; otherwise
+    /// nothing changes.
     #[inline(always)]
     fn whole_field(&mut self, head: Head, octets: &[u8]) -> bool
         requires takes { PartsAreBetween false self.old }
@@ -218,8 +219,9 @@ impl Parts {
         self.fields.whole(head, octets)
     }
 
-    /// Consumes a complete subfile, or returns `None` and changes nothing. On an error it has
-    /// consumed the head and the octets before the rejected one.
+    /// Consumes a complete subfile. Returns `None` if it must be passed in parts instead; nothing
+    /// changes then. On an error, the head and the octets before the rejected one have been
+    /// consumed.
     #[inline(always)]
     fn whole_subfile<S: StorySink>(
         &mut self,
@@ -252,8 +254,9 @@ impl Parts {
         }
     }
 
-    /// Consumes a complete dataset, or returns `None` and changes nothing. On an error, which only
-    /// a subfile can have here, it has consumed the head and the octets before the rejected one.
+    /// Consumes a complete dataset. Returns `None` if it must be passed in parts instead; nothing
+    /// changes then. On an error, which only a subfile can cause, the head and the octets before
+    /// the rejected one have been consumed.
     #[inline(always)]
     pub(crate) fn whole<S: StorySink>(
         &mut self,
@@ -286,8 +289,8 @@ impl Parts {
         }
     }
 
-    /// Consumes octets of the partial dataset. On an error it has consumed those before the
-    /// rejected one.
+    /// Consumes octets of the dataset in progress. On an error, the octets before the rejected one
+    /// have been consumed.
     pub(crate) fn run<S: StorySink>(&mut self, run: &[u8], sink: &mut S) -> Result<(), Rejection>
         requires { (left : ℕ) × PartsAcceptData self.old left × (length run.now ≤ left) }
         ensures takes { OnOk result ((left : ℕ) → PartsAcceptData self.old left
@@ -315,7 +318,7 @@ impl Parts {
         }
     }
 
-    /// Ends the partial dataset, or returns the first error of its value.
+    /// Ends the dataset in progress, or returns the first error of its value.
     pub(crate) fn close(&mut self) -> Result<(), TokenFault>
         requires { PartsAcceptData self.old 0 }
         ensures object { OnOk result (IsSome self.new.object) }

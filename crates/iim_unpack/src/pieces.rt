@@ -38,12 +38,12 @@ fn feed_pieces<S: StorySink>(
     Ok(())
 }
 
-/// Parses the envelope that a stream begins with, in chunks of any size. Returns the envelope and
+/// Parses the envelope at the start of a stream, in chunks of any size. Returns the envelope and
 /// its length in octets. The unpacker must not have consumed any octet before.
 ///
-/// **Errors:** the refusal of the first octet after which some layer cannot continue; the refusal
-/// at the end of a truncated stream; or the sink stopped ([`crate::Cause::SINK`]). A stream has
-/// exactly one of these results.
+/// **Errors:** the refusal of the first octet that some layer cannot accept; the refusal of the end
+/// of a truncated stream; or the stop of the sink ([`crate::Cause::SINK`]). A stream has exactly
+/// one of these results.
 pub fn unpack_pieces<S: StorySink>(
     unpacker: Unpacker,
     pieces: &[&[u8]],
@@ -54,7 +54,7 @@ pub fn unpack_pieces<S: StorySink>(
         IsUnpacked S.goes (limits_in unpacker) (stream_of pieces.now) sink.old sink.new got.0 got.1) }
     ensures refused { IfErr result (IsRejected S.goes (limits_in unpacker) (stream_of pieces.now) sink.old sink.new) }
 
-    // The result of the stream is returned, unless the sink stopped.
+    // The call returns the result of the stream, unless the sink stopped.
     ensures only { (answer : Answer) → Answers (limits_in unpacker) (stream_of pieces.now) answer
         → IfErr result (λ e. e.cause ≢ Message Sink) → RepresentsResult result answer }
     ensures no_failure { OnOk result (S.failures sink.new ≡ S.failures sink.old) }

@@ -1,4 +1,4 @@
-//! The streaming parser of one envelope.
+//! The push parser of one envelope.
 
 ghost use Rattle.std.specs.Prelude.{◌≡◌, ◌+◌, ◌*◌, ◌^◌, [], is_some, ◌<◌, ◌≤◌, ◌⊎◌, ◌||◌, ℕ, List, Option, Some, None, Ok, Err, false, length, IsTrue, ◌↔◌, IsSome, IsOk, IfSome, IfOk, IfErr, OnOk, OnErr};
 ghost use Rattle.iim_dataset.specs.States.Reading.{to_come, DatasetReaderAccepts, tag_cause_of};
@@ -33,7 +33,7 @@ use std::marker::Model;
 use wire_message::{MessageHead, MessageReader};
 use wire_story::StorySink;
 
-/// How far the unpacker got with a chunk.
+/// How much of a chunk the unpacker consumed, and whether the envelope is complete.
 #[derive(Clone, Copy, Debug, PartialEq, Eq)]
 pub enum Progress {
     /// The whole chunk was consumed, and the envelope is not complete.
@@ -43,7 +43,7 @@ pub enum Progress {
 }
 
 /// Feeds a chunk to the reader of tags, with a router as its sink. The references in the router
-/// still point to the same places.
+/// afterwards point to the same values as before.
 fn feed_router<'p, 's, S: StorySink>(
     reader: &mut HeadReader,
     piece: &[u8],
@@ -77,8 +77,8 @@ fn tag_fault(names: (u8, u8), cause: Cause) -> TokenFault
     }
 }
 
-/// Consumes a chunk up to its end or the end of the last dataset. Returns how many octets were
-/// consumed.
+/// Consumes a chunk up to its end, or up to the end of the last dataset. Returns the number of
+/// octets consumed.
 fn advance<S: StorySink>(
     reader: &mut HeadReader,
     parts: &mut Parts,
@@ -126,7 +126,7 @@ fn advance<S: StorySink>(
     }
 }
 
-/// The value of an envelope, except its lines, which were passed to the sink.
+/// The contents of an envelope, except its lines, which were passed to the sink.
 #[derive(Drop)]
 pub struct Unpacked {
     /// The datasets of records 1 and 2.
@@ -139,7 +139,7 @@ pub struct Unpacked {
     pub sizes: Sizes,
 }
 
-/// The value of an envelope, except its lines, borrowed from its unpacker.
+/// The contents of an envelope, except its lines, borrowed from its unpacker.
 #[derive(Drop)]
 pub struct UnpackedRef<'u> {
     /// The datasets of records 1 and 2.
@@ -155,10 +155,10 @@ pub struct UnpackedRef<'u> {
 /// A push parser of one envelope, which is fed in chunks of any size.
 ///
 /// It stores the data of records 1 and 2, at most `Limits.octets` octets in at most `Limits.fields`
-/// entries, and fewer than 256 octets more: those of a partial tag (at most 12), a partial number
-/// of record 7 or 9 (8), the header and the trailer of the message (163), and CR that no LF has
-/// followed yet (2). [`Unpacker::new`] and [`Unpacker::restore`] allocate all of it. Of the calls
-/// on an unpacker only [`Unpacker::save`] allocates more, for the ticket that it returns.
+/// datasets, and fewer than 256 other octets: those of a partial tag (at most 12), of a partial
+/// number of record 7 or 9 (8), of the header and the trailer of the message (163), and CR that may
+/// precede an LF (2). [`Unpacker::new`] and [`Unpacker::restore`] allocate all this memory. The
+/// only later call that allocates is [`Unpacker::save`], for the ticket that it returns.
 #[derive(Drop)]
 pub struct Unpacker {
     reader: HeadReader,
@@ -182,7 +182,7 @@ impl Model for Unpacker {
         (record { reader = u.reader; parts = u.parts; octets = u.octets; begun = u.begun; refused = u.refused }) };
 }
 
-/// Returns the refusal for an error at this octet.
+/// Creates the refusal for an error at this octet.
 fn refusal_at(octet: u64, fault: TokenFault) -> Refusal
     ensures { result ≡ refusal_at octet fault }
 {
@@ -195,7 +195,7 @@ fn refusal_at(octet: u64, fault: TokenFault) -> Refusal
     }
 }
 
-/// Returns the refusal of a call after a refusal at this octet.
+/// Creates the refusal of a call after an earlier refusal at this octet.
 pub(crate) fn failed_at(octet: u64) -> Refusal
     ensures { result ≡ failed_at octet }
 {
@@ -208,14 +208,14 @@ pub(crate) fn failed_at(octet: u64) -> Refusal
     }
 }
 
-/// Adds to a count, saturating at the greatest number of 64 bits.
+/// Adds to a count, which saturates at the greatest number of 64 bits.
 pub(crate) fn sum_capped(octets: u64, more: u64) -> u64
     ensures { result ≡ sum_capped octets more }
 {
     octets.saturating_add(more)
 }
 
-/// Checks whether an octet was received, after a chunk.
+/// Returns whether any octet was received, in this chunk or before.
 fn begins(begun: bool, piece: &[u8]) -> bool
     ensures { result ≡ (begun || is_non_empty piece.now) }
 {
@@ -224,7 +224,7 @@ fn begins(begun: bool, piece: &[u8]) -> bool
 
 impl Unpacker {
     /// Creates an unpacker that has consumed nothing. Allocates exactly the memory that the limits
-    /// require: no later call allocates. An error means that the allocation failed.
+    /// require; no later call allocates. Returns an error if the allocation fails.
     pub fn new(alloc: Global, limits: Limits) -> Result<Unpacker, AllocError>
         ensures stands { IfOk result (λ u. HasRead u [] 0) }
         ensures limits { IfOk result (λ u. limits_in u ≡ limits) }
@@ -233,7 +233,7 @@ impl Unpacker {
         Ok(Unpacker::begin(Fields::new(alloc, limits)?))
     }
 
-    /// Returns an unpacker that has consumed nothing.
+    /// Creates an unpacker that has consumed nothing.
     fn begin(fields: Fields) -> Unpacker
         requires { HasReadDatasets fields [] }
         ensures stands { HasRead result [] 0 }
@@ -254,7 +254,7 @@ impl Unpacker {
         }
     }
 
-    /// Resets the unpacker, with the same memory and limits, to one that has consumed nothing.
+    /// Resets the unpacker to the beginning of an envelope, with the same memory and limits.
     /// Allocates nothing.
     pub fn again(&mut self)
         ensures stands { HasRead self.new [] 0 }
@@ -271,8 +271,8 @@ impl Unpacker {
         self.refused = None;
     }
 
-    /// Returns an unpacker with these readers, which has consumed `octets` octets. `begun` states
-    /// whether any octet was received.
+    /// Creates an unpacker with these readers that has consumed `octets` octets. `begun` is whether
+    /// any octet was received.
     pub(crate) fn at_place(reader: HeadReader, parts: Parts, octets: u64, begun: bool) -> Unpacker
         requires { IsConsistent (record
             { reader = reader; parts = parts; octets = octets; begun = begun; refused = None }) }
@@ -294,21 +294,22 @@ impl Unpacker {
         self.parts.has_ended() && self.refused.is_none()
     }
 
-    /// Checks whether an octet was rejected.
+    /// Returns whether an octet was rejected.
     pub fn is_failed(&self) -> bool
         ensures { result ≡ is_some self.now.refused }
     {
         self.refused.is_some()
     }
 
-    /// Proves that an unpacker without a refusal has consumed some incomplete input or an envelope.
+    /// Proves that an unpacker that has rejected nothing has consumed an envelope or an incomplete
+    /// input.
     pub(crate) fn is_reachable(&self)
         ensures stood { self.now.refused ≡ None → IsReachable self.now }
         ensures counts { self.now.octets < 2 ^ 64 }
         ensures octets { (limits_in self.now).octets < 2 ^ 32 }
         ensures fields { (limits_in self.now).fields < 2 ^ 32 }
     {
-        // Both are called for what the types of their results state.
+        // These calls make the ranges of their results available to the proof.
         let _octets = self.octets();
         let _limits = self.parts.fields.limits();
     }
@@ -320,41 +321,40 @@ impl Unpacker {
         !self.begun
     }
 
-    /// Returns how many octets were consumed.
+    /// Returns the number of octets consumed.
     pub fn octets(&self) -> u64
         ensures { result ≡ self.now.octets }
     {
         self.octets
     }
 
-    /// Feeds the next octets of the stream (possibly none) and passes the story text among them to
-    /// `sink`, as slices of `piece`. Returns `Done` at the end of the envelope and consumes nothing
-    /// after it. Allocates nothing.
+    /// Feeds the next octets of the stream, and passes the story text in them to `sink`, as slices
+    /// of `piece`. Returns `Done` at the end of the envelope, and consumes nothing after that end.
+    /// Allocates nothing.
     ///
-    /// **Errors:** the refusal of the first octet after which some layer cannot continue, or at
-    /// which the sink stopped ([`Cause::SINK`]). After an error every call returns
-    /// [`Cause::Failed`].
+    /// **Errors:** the refusal of the first octet that some layer cannot accept, or at which the
+    /// sink stopped ([`Cause::SINK`]). After an error every call returns [`Cause::Failed`].
     pub fn feed<S: StorySink>(&mut self, piece: &[u8], sink: &mut S) -> Result<Progress, Refusal>
-        // The octets so far are incomplete or an envelope. The sink received the text that the
-        // chunk adds, and did not fail.
+        // The octets so far are an incomplete input or an envelope. The sink received the text in
+        // the chunk, and did not fail.
         ensures goes { IfOk result (λ progress. (S.failures sink.new ≡ S.failures sink.old)
             × ((more : List story.StoryEvent) × S.goes sink.old more sink.new
             × ((p : List ℕ) (a : ℕ) → HasRead self.old p a → Progresses self.new p a piece.now more progress))) }
 
-        // Octet k completes the first rejected token. The sink received the text that the octets
-        // before it add.
+        // The octet at `e.octet` completes the first rejected token. The sink received the text in
+        // the octets before it.
         ensures refused { IfErr result (λ e. (more : List story.StoryEvent) × S.goes sink.old more sink.new
             × ((p : List ℕ) (a : ℕ) → HasRead self.old p a → IsRefusedIn (limits_in self.old) p a piece.now more e)) }
         ensures counted { IfErr result (λ e. CountsSinkFailure e.cause (S.failures sink.old) (S.failures sink.new)) }
         ensures failed { IfErr result (λ e. self.new.refused ≡ Some e.octet) }
 
-        // After an envelope and after a refusal, calls change nothing.
+        // After an envelope and after a refusal, a call changes nothing.
         ensures done { IsDone self.old → (result ≡ Ok (Progress.Done 0)) × AreSame self.old sink.old self.new sink.new }
         ensures again { (octet : ℕ) → self.old.refused ≡ Some octet → (result ≡ Err (failed_at octet))
             × AreSame self.old sink.old self.new sink.new }
         ensures limits { self.old.refused ≡ None → OnOk result (limits_in self.new ≡ limits_in self.old) }
-        // It stores what the limits allow and at most 256 octets more. It never allocates, whatever
-        // it returns.
+        // The unpacker stores what its limits allow, and at most 256 octets more. It never
+        // allocates, whatever the result.
         ensures memory { (capacity_in self.new ≡ capacity_in self.old) × (self.new.refused ≡ None
             → StoresFew self.new) }
     {
@@ -384,8 +384,8 @@ impl Unpacker {
         }
     }
 
-    /// Returns the refusal if the input ends here: `None` after an envelope, [`Cause::Truncated`]
-    /// within one.
+    /// Returns the refusal for an input that ends here: `None` after an envelope, and
+    /// [`Cause::Truncated`] inside an envelope.
     pub fn end_of_input(&self) -> Option<Refusal>
         ensures done { IsDone self.now → result ≡ None }
         ensures failed { (octet : ℕ) → self.now.refused ≡ Some octet → result ≡ Some (failed_at octet) }
@@ -408,9 +408,9 @@ impl Unpacker {
         })
     }
 
-    /// Returns the ticket of the current position, within an envelope or at its end. The ticket
-    /// depends only on the octets consumed, not on their split into chunks. It encodes neither the
-    /// sink nor the limits.
+    /// Returns the ticket of the current position, which may be inside an envelope or at its end.
+    /// The ticket depends only on the octets consumed, not on how they were split into chunks. It
+    /// encodes neither the sink nor the limits.
     pub fn save(&self, alloc: Global) -> Result<Vec<u8>, SaveFault>
         ensures failed { (octet : ℕ) → self.now.refused ≡ Some octet → result ≡ Err SaveFault.Failed }
         ensures memory { self.now.refused ≡ None → IfErr result (λ fault. fault ≡ SaveFault.OutOfMemory) }
@@ -430,8 +430,9 @@ impl Unpacker {
         }
     }
 
-    /// Writes the ticket to the start of a buffer if it fits, and returns its length in octets in
-    /// any case. Allocates nothing, and fails only after a refusal.
+    /// Writes the ticket to the start of a buffer, if it fits. Returns the length of the ticket in
+    /// octets, whether it was written or not. Allocates nothing. Returns an error only after a
+    /// refusal.
     pub fn save_at(&self, out: &mut [u8]) -> Result<usize, SaveFault>
         ensures failed { (octet : ℕ) → self.now.refused ≡ Some octet → result ≡ Err SaveFault.Failed }
         ensures saved { self.now.refused ≡ None → IsOk result }
@@ -445,7 +446,7 @@ impl Unpacker {
         Ok(encode_ticket_at(out, &self.reader, &self.parts))
     }
 
-    /// Returns the value of a complete envelope, borrowed from the unpacker, or `None` if the
+    /// Returns the contents of a complete envelope, borrowed from the unpacker, or `None` if the
     /// envelope is not complete.
     pub fn unpacked(&self) -> Option<UnpackedRef<'_>>
         ensures done { IsSome result ↔ IsDone self.now }
@@ -471,8 +472,8 @@ impl Unpacker {
         })
     }
 
-    /// Returns the value of a complete envelope. If the envelope is not complete, returns the
-    /// unpacker unchanged, as an error.
+    /// Returns the contents of a complete envelope. If the envelope is not complete, returns the
+    /// unchanged unpacker as an error.
     pub fn into_unpacked(self) -> Result<Unpacked, Unpacker>
         ensures done { OnOk result (IsDone self) }
         ensures value { IfOk result (λ got. (p : List ℕ) (a : ℕ) → IsDoneWith self p a → (v : Value) → Admits p v

@@ -1,4 +1,4 @@
--- What the program writes, and why a run cannot begin.
+-- The output of the program, and why a run cannot start.
 use Rattle.std.specs.Prelude.{◌≡◌, ℕ, ◌⊎◌, ⊤, List, ◌++◌, codes, Result, Ok, Err, Bool, true, false}
 use Rattle.clap.specs.Words.{kind_of}
 use Rattle.clap.specs.declared.error.Error.{Error}
@@ -16,9 +16,9 @@ use Rattle.iim_unpack.specs.States.Blocks.{with_unread}
 use Rattle.iim_output.specs.States.Devices.{devices}
 use Rattle.iim_commands.specs.Format.{RunsJob}
 
--- ---- Why a run cannot begin, and what is written then.
+-- ---- Why a run cannot start, and what is written then.
 
--- the error is the text of `--help` or `--version`
+-- the error is a request for the text of `--help` or `--version`
 abbrev pub is_text : ErrorKind → Bool
 is_text kind.DisplayHelp = true
 is_text kind.DisplayVersion = true
@@ -27,26 +27,27 @@ is_text _ = false
 abbrev pub requests_text : Error → Bool
 requests_text error = is_text (kind_of error)
 
--- the arguments request only that text
+-- the arguments only request that text
 abbrev pub is_text_requested : RunFault → Bool
 is_text_requested (Usage (usage.Words error)) = requests_text error
 is_text_requested fault = false
 
--- A usage error is printed as this one, or as another.
+-- A usage error of clap is printed in this form, or another error is.
 abbrev pub IsUsageErrorFor : Error → UsageFault → Type 0
 IsUsageErrorFor error (usage.Words other) = (other ≡ error) ⊎ (requests_text other ≡ false)
 IsUsageErrorFor error usage.OutOfMemory = ⊤
 IsUsageErrorFor error _ = ⊥
 
--- The error is printed as the other. A usage error of clap is printed as the error of the escaped
--- arguments, if their allocation succeeds; a requested text, and any other error, as it is.
+-- The error is printed in the second form. A usage error of clap is printed as the error that clap
+-- reports for the escaped arguments, if their allocation succeeds. A requested text, and any other
+-- error, is printed unchanged.
 abbrev pub IsPrintedAs : UsageFault → UsageFault → Type 0
 IsPrintedAs (usage.Words error) (usage.Words other) = (other ≡ error) ⊎ ((requests_text error ≡ false) × (requests_text other ≡ false))
 IsPrintedAs (usage.Words error) usage.OutOfMemory = requests_text error ≡ false
 IsPrintedAs (usage.Words error) _ = ⊥
 IsPrintedAs fault other = other ≡ fault
 
--- The text has the reason why the run cannot begin. The messages of clap are not specified.
+-- The text reports why the run cannot start. The messages of clap are not specified.
 abbrev pub IsRunFaultText : RunFault → List ℕ → Type 0
 IsRunFaultText (Usage (usage.Words error)) text = ⊤
 IsRunFaultText (Usage usage.MaxNeedsUnknown) text = text ≡ codes "--max needs --unknown\n"
@@ -56,13 +57,13 @@ IsRunFaultText NoText text = text ≡ codes "arguments are no text\n"
 IsRunFaultText (CannotOpen name) text = text ≡ codes "cannot open " ++ (escaped_name name.now ++ codes "\n")
 IsRunFaultText OutOfMemory text = text ≡ fault_line command.OutOfMemory
 
--- the status for an error of clap
+-- the exit status for an error of clap
 abbrev pub clap_error_status : ErrorKind → ℕ
 clap_error_status kind.DisplayHelp = status_accepted
 clap_error_status kind.DisplayVersion = status_accepted
 clap_error_status _ = status_usage
 
--- the status: 0 if a text is requested, 2 for a usage error, otherwise 3
+-- the exit status: 0 if a text is requested, 2 for a usage error, otherwise 3
 abbrev pub run_fault_status : RunFault → ℕ
 run_fault_status (Usage (usage.Words error)) = clap_error_status (kind_of error)
 run_fault_status (Usage usage.OutOfMemory) = status_failed
@@ -70,36 +71,38 @@ run_fault_status (Usage fault) = status_usage
 run_fault_status NoText = status_usage
 run_fault_status fault = status_failed
 
--- The reason why the run cannot begin was printed, or that the allocation for it failed.
+-- The reason why the run cannot start was printed, or that the allocation for it failed.
 abbrev pub PrintsReason : RunFault → Device → Device → ℕ → Type 0
 PrintsReason fault old new status = ((text : List ℕ) × IsRunFaultText fault text × IsPrinted old new text (run_fault_status fault) status)
     ⊎ IsPrinted old new (fault_line command.OutOfMemory) status_failed status
 
 -- ---- The text of `--help` or `--version`.
 
--- The text is written to the output, and the status is the requested one. Or a write to the output
--- failed inside it, and the errors have the line for that. (Output and errors, before and after.)
+-- The text is written to the output, and the status is the requested one. Or a write of it failed,
+-- and the error output has the line that reports this. (The arguments are output and error output,
+-- before and after.)
 abbrev pub WritesText : List ℕ → ℕ → Device × Device → Device × Device → ℕ → Type 0
 WritesText text want (old, errors_old) (new, errors_new) status = (WroteAllOf old new text × (errors_new ≡ errors_old) × (status ≡ want))
     ⊎ ((n : ℕ) × WroteOnlyPrefixOf old new text n × IsPrinted errors_old errors_new (fault_line command.CannotWrite) status_failed status)
 
--- The text was shown, or it was printed to the errors that the allocation for it failed.
+-- The text was written, or it was printed to the error output that the allocation for it failed.
 abbrev pub PrintsText : RunFault → Device × Device → Device × Device → ℕ → Type 0
 PrintsText fault (old, errors_old) (new, errors_new) status =
     ((text : List ℕ) × IsRunFaultText fault text × WritesText text (run_fault_status fault) (old, errors_old) (new, errors_new) status)
     ⊎ ((new ≡ old) × IsPrinted errors_old errors_new (fault_line command.OutOfMemory) status_failed status)
 
--- The text was shown, if it was requested; otherwise the reason why the run cannot begin was
+-- The text was written, if it was requested. Otherwise the reason why the run cannot start was
 -- printed, and nothing was written to the output.
 abbrev pub PrintsTextOrReason : Bool → RunFault → Device × Device → Device × Device → ℕ → Type 0
 PrintsTextOrReason true fault old new status = PrintsText fault old new status
 PrintsTextOrReason false fault (old, errors_old) (new, errors_new) status = (new ≡ old) × PrintsReason fault errors_old errors_new status
 
--- ---- What the program writes.
+-- ---- The output of the program.
 
--- The request was run: the reader has reached a state `last`, and the octets `held` were read and
--- not consumed. Or the requested text was shown, or the reason why there is no request was
--- printed, and nothing was written to the output. (Output and errors, before and after.)
+-- The request was executed: the reader has reached a state `last`, and the octets `held` were read
+-- but not consumed. Or the requested text was written; or the reason why there is no request was
+-- printed, and nothing was written to the output. (The arguments are output and error output,
+-- before and after.)
 abbrev pub Serves : {R : Type 0} → (R → Device) → (R → R → Type 0) → Result (Request × R) RunFault → Device × Device → Device × Device → ℕ
     → Type 0
 Serves state leads (Ok begun) (old, errors_old) (new, errors_new) status =

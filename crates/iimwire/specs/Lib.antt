@@ -1,2 +1,2 @@
--- What octets are, and the definitions that public contracts cite.
+-- The definitions that public contracts cite.
 pub mod Format

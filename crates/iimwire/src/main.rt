@@ -1,10 +1,10 @@
-//! The command `iimwire`: checks files of envelopes, shows their parts, writes their stories,
+//! The program `iimwire`: checks files of envelopes, lists their contents, writes their stories,
 //! audits them, and packs scripts.
 //!
-//! Depends on `iim_commands`, which parses the arguments and runs requests, on `iim_files`, which
-//! runs them over more than one file, on the crates below them for their types and definitions,
-//! and on `clap`. [`serve::serve`] does the work, over any source and targets. The functions here
-//! provide the arguments, files and streams of a process.
+//! Depends on `iim_commands`, which parses the arguments and executes requests, on `iim_files`,
+//! which executes them for more than one file, on the crates below these for their types and
+//! definitions, and on `clap`. [`serve::serve`] does the work, with any source and targets. The
+//! functions here provide the arguments, files and streams of a process.
 #![tactic(auto)]
 
 mod serve;
@@ -53,7 +53,7 @@ fn read_arguments(rt: &HostRuntime) -> io::Result<Vec<String>> {
     Ok(env::args(rt)?.collect(rt.alloc())?)
 }
 
-/// Runs a job over the requested files: one, standard input, or more.
+/// Runs a job on the requested files: one file, standard input, or several files.
 fn run_files(rt: &HostRuntime, request: FilesRequest<'_>) -> ExitCode
     ensures standard { request.entry.files ≡ Files.One None
         → (old : Devices) × (new : Devices) × RunsJob request.entry.job old new (exit_status result) }
@@ -66,7 +66,7 @@ fn run_files(rt: &HostRuntime, request: FilesRequest<'_>) -> ExitCode
     }
 }
 
-/// Opens the file that the request names, or takes standard input, and runs the request.
+/// Opens the file that the request names, or standard input, and executes the request.
 fn run_one(rt: &HostRuntime, request: Request<'_>) -> ExitCode
     ensures standard { request.entry.file ≡ None
         → (old : Devices) × (new : Devices) × RunsJob request.entry.job old new (exit_status result) }
@@ -83,7 +83,7 @@ fn run_one(rt: &HostRuntime, request: Request<'_>) -> ExitCode
     }
 }
 
-/// Runs a job over the next file, which has this name, unless a write failed.
+/// Runs a job on the next file, which has this name, unless a write has failed.
 fn run_next_file<W: Target, E: Target>(
     rt: &HostRuntime,
     job: Job,
@@ -106,7 +106,7 @@ fn is_out_of_memory(error: &io::Error) -> bool
     matches!(error.kind(), ErrorKind::OutOfMemory)
 }
 
-/// Runs a job over files that are named as arguments.
+/// Runs a job on files that are named as arguments.
 fn run_named_files(rt: &HostRuntime, job: Job, names: &[&str]) -> ExitCode {
     let output = FromWrite::new(rt.stdout());
     let errors = FromWrite::new(rt.stderr());
@@ -117,7 +117,7 @@ fn run_named_files(rt: &HostRuntime, job: Job, names: &[&str]) -> ExitCode {
     exit_code(so_far)
 }
 
-/// Runs a job over the files in a list. The list is the file with this name, or standard input for
+/// Runs a job on the files in a list. The list is the file with this name, or standard input for
 /// `-`.
 fn run_list(rt: &HostRuntime, job: Job, list: &str) -> ExitCode {
     if list == "-" {
@@ -129,7 +129,7 @@ fn run_list(rt: &HostRuntime, job: Job, list: &str) -> ExitCode {
     }
 }
 
-/// Runs a job over the files whose names a reader has.
+/// Runs a job on the files whose names are read from a list.
 fn run_listed_files<R: Source + Drop>(rt: &HostRuntime, job: Job, reader: R) -> ExitCode {
     let output = FromWrite::new(rt.stdout());
     let errors = FromWrite::new(rt.stderr());
@@ -149,7 +149,7 @@ fn run_listed_files<R: Source + Drop>(rt: &HostRuntime, job: Job, reader: R) -> 
     exit_code(so_far)
 }
 
-/// Runs a job over the next file, whose name has these octets.
+/// Runs a job on the next file, whose name consists of these octets.
 fn run_listed_file<W: Target, E: Target>(
     rt: &HostRuntime,
     job: Job,
@@ -162,7 +162,7 @@ fn run_listed_file<W: Target, E: Target>(
     }
 }
 
-/// Returns the exit status of a command over files.
+/// Returns the exit status of a command on several files.
 fn exit_code<W: Drop, E: Drop>(so_far: SoFar<W, E>) -> ExitCode
     ensures { exit_status result ≡ so_far.status }
 {
@@ -175,7 +175,7 @@ fn exit_code<W: Drop, E: Drop>(so_far: SoFar<W, E>) -> ExitCode
     ExitCode::from(status)
 }
 
-/// Returns the error of a run: the failed allocation, or else the given one.
+/// Returns the error of a run: `OutOfMemory` if an allocation failed, otherwise `other`.
 fn fault_of<'a>(error: &io::Error, other: RunFault<'a>) -> RunFault<'a>
     ensures memory { error_kind error.now ≡ ErrorKind.OutOfMemory → result ≡ RunFault.OutOfMemory }
     ensures other { error_kind error.now ≢ ErrorKind.OutOfMemory → result ≡ other.entry }
@@ -186,7 +186,7 @@ fn fault_of<'a>(error: &io::Error, other: RunFault<'a>) -> RunFault<'a>
     }
 }
 
-/// Runs a request with a reader and the standard streams.
+/// Executes a request with a reader and the standard streams.
 fn run_request<R: Read + Drop>(rt: &HostRuntime, request: Request<'_>, reader: R) -> ExitCode
     ensures { (old : Devices) × (new : Devices) × RunsJob request.entry.job old new (exit_status result) }
 {
@@ -197,7 +197,7 @@ fn run_request<R: Read + Drop>(rt: &HostRuntime, request: Request<'_>, reader: R
     ExitCode::from(status)
 }
 
-/// Prints to the standard streams why a run cannot begin.
+/// Prints to the standard streams why a run cannot start.
 fn fail_before_run(rt: &HostRuntime, fault: RunFault<'_>) -> ExitCode
     ensures { (exit_status result ≡ run_fault_status fault.entry) ⊎ (exit_status result ≡ status_failed) }
 {

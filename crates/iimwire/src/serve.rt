@@ -1,4 +1,4 @@
-//! The program, after it has its arguments and its input.
+//! The work of the program, independent of the operating system.
 
 ghost use Rattle.iimwire.specs.Format.{Serves};
 
@@ -7,8 +7,8 @@ use iim_commands::{Request, run};
 use iim_dataset::{Source, Target};
 use std::alloc::Global;
 
-/// Runs a request over its reader. If there is no request, prints the requested text or the
-/// reason. Returns the status and both writers.
+/// Executes a request with its reader. If there is no request, prints the requested text or the
+/// error. Returns the exit status and both writers.
 pub fn serve<R: Source + Drop, W: Target, E: Target>(
     alloc: Global,
     begun: Result<(Request<'_>, R), RunFault<'_>>,

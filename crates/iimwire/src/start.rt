@@ -12,7 +12,7 @@ use iim_commands::status::{ACCEPTED, FAILED, USAGE};
 use iim_dataset::{Target, put};
 use std::alloc::{AllocError, Global};
 
-/// The reason why a run cannot begin.
+/// The reason why a run cannot start.
 #[derive(Drop)]
 pub enum RunFault<'a> {
     /// The arguments are invalid, or they request help or the version.
@@ -48,7 +48,7 @@ fn is_text_requested(fault: &RunFault<'_>) -> bool
     }
 }
 
-/// Returns the status for an error of `clap`.
+/// Returns the exit status for an error of `clap`.
 fn clap_status(error: &Error) -> u8
     ensures { result ≡ run_fault_status (RunFault.Usage (UsageFault.Words error.now)) }
 {
@@ -58,7 +58,7 @@ fn clap_status(error: &Error) -> u8
     }
 }
 
-/// Returns the status for a usage error.
+/// Returns the exit status for a usage error.
 fn usage_status(fault: &UsageFault) -> u8
     ensures { result ≡ run_fault_status (RunFault.Usage fault.now) }
 {
@@ -69,7 +69,7 @@ fn usage_status(fault: &UsageFault) -> u8
     }
 }
 
-/// Returns the status for an error.
+/// Returns the exit status for an error.
 fn status(fault: &RunFault<'_>) -> u8
     ensures { result ≡ run_fault_status fault.now }
 {
@@ -97,7 +97,7 @@ fn usage_error_text(alloc: Global, fault: &UsageFault) -> Result<Vec<u8>, AllocE
     }
 }
 
-/// Returns the text that the file with this name cannot be opened.
+/// Returns the text that reports that the file with this name cannot be opened.
 fn cannot_open_text(alloc: Global, name: &str) -> Result<Vec<u8>, AllocError>
     ensures { IfOk result (λ text. text.items ≡ codes "cannot open " ++ (escaped_name name.now ++ codes "\n")) }
 {
@@ -121,7 +121,7 @@ fn text(alloc: Global, fault: &RunFault<'_>) -> Result<Vec<u8>, AllocError>
     }
 }
 
-/// Prints why a run cannot begin, and returns the status.
+/// Prints why a run cannot start. Returns the exit status.
 fn print_reason<E: Target>(alloc: Global, fault: RunFault<'_>, errors: &mut E) -> u8
     ensures { PrintsReason fault.entry (E.state errors.old) (E.state errors.new) result }
 {
@@ -131,8 +131,8 @@ fn print_reason<E: Target>(alloc: Global, fault: RunFault<'_>, errors: &mut E) -
     }
 }
 
-/// Writes a text to the output, and returns `status`. If the write fails, prints that to the
-/// errors, and returns the status of a failure.
+/// Writes a text to the output. Returns `status`; if the write fails, prints an error and returns
+/// the status of a failure.
 fn show<W: Target, E: Target>(text: &[u8], status: u8, output: &mut W, errors: &mut E) -> u8
     ensures { WritesText text.now status (W.state output.old, E.state errors.old)
         (W.state output.new, E.state errors.new)
@@ -144,7 +144,7 @@ fn show<W: Target, E: Target>(text: &[u8], status: u8, output: &mut W, errors: &
     }
 }
 
-/// Writes the text of `--help` or `--version` to the output, and returns the status.
+/// Writes the text of `--help` or `--version` to the output. Returns the exit status.
 fn show_text<W: Target, E: Target>(
     alloc: Global,
     fault: &RunFault<'_>,
@@ -160,7 +160,7 @@ fn show_text<W: Target, E: Target>(
     }
 }
 
-/// Writes the text that the arguments request, or prints why a run cannot begin. Returns the
+/// Writes the text that the arguments request, or prints why a run cannot start. Returns the exit
 /// status.
 pub fn print_text_or_reason<W: Target, E: Target>(
     alloc: Global,

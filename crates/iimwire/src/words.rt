@@ -1,4 +1,4 @@
-//! Usage errors as they are printed.
+//! Formats usage errors for printing.
 
 ghost use Rattle.std.specs.Prelude.{◌≡◌, IfOk, IsUtf8, string_bytes};
 ghost use Rattle.iim_request.specs.Format.{escaped_name};
@@ -10,8 +10,8 @@ use iim_commands::shown::push_name;
 use iim_commands::{UsageFault, parse_files};
 use std::alloc::{AllocError, Global};
 
-/// Returns an argument with its control characters and backslashes escaped. The result is UTF-8;
-/// if it were not, the argument would be unchanged.
+/// Escapes the control characters and backslashes of an argument. The result is always UTF-8; the
+/// type requires a check, whose failure would leave the argument unchanged.
 fn escaped_argument(alloc: Global, word: &str) -> Result<String, AllocError>
     ensures { IfOk result (λ shown. IsUtf8 (escaped_name word.now) → string_bytes shown ≡ escaped_name word.now) }
 {
@@ -23,7 +23,7 @@ fn escaped_argument(alloc: Global, word: &str) -> Result<String, AllocError>
     }
 }
 
-/// Returns the arguments with their control characters and backslashes escaped.
+/// Escapes the control characters and backslashes of all arguments.
 fn escaped_arguments(alloc: Global, words: &[String]) -> Result<Vec<String>, AllocError> {
     let mut shown = Vec::new(alloc);
     for word in words {
@@ -32,7 +32,7 @@ fn escaped_arguments(alloc: Global, words: &[String]) -> Result<Vec<String>, All
     Ok(shown)
 }
 
-/// Returns `other`, or `error` if `other` is the text of `--help` or `--version`.
+/// Returns `error` if `other` is the text of `--help` or `--version`, otherwise `other`.
 fn usage_error_or(other: Error, error: Error) -> UsageFault
     ensures { IsUsageErrorFor error result }
 {
@@ -42,7 +42,7 @@ fn usage_error_or(other: Error, error: Error) -> UsageFault
     UsageFault::Words(other)
 }
 
-/// Returns a usage error as it is printed: the error that `clap` has for the escaped arguments.
+/// Replaces an error of `clap` with the error that `clap` reports for the escaped arguments.
 fn printed_usage_error(alloc: Global, words: &[String], error: Error) -> UsageFault
     ensures { IsUsageErrorFor error result }
 {
@@ -56,7 +56,8 @@ fn printed_usage_error(alloc: Global, words: &[String], error: Error) -> UsageFa
     }
 }
 
-/// Returns an error of `clap` as it is printed: a requested text is unchanged.
+/// Returns an error of `clap` in the form that is printed. A text of `--help` or `--version` is
+/// unchanged.
 fn printed_error(alloc: Global, words: &[String], error: Error) -> UsageFault
     ensures { IsPrintedAs (UsageFault.Words error) result }
 {
@@ -66,8 +67,8 @@ fn printed_error(alloc: Global, words: &[String], error: Error) -> UsageFault
     printed_usage_error(alloc, words, error)
 }
 
-/// Returns a usage error as it is printed. An error of `clap` is replaced by the one for the
-/// escaped arguments.
+/// Returns a usage error in the form that is printed. An error of `clap` is replaced with the one
+/// for the escaped arguments.
 pub fn printed_fault(alloc: Global, words: &[String], fault: UsageFault) -> UsageFault
     ensures { IsPrintedAs fault result }
 {

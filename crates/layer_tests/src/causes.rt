@@ -1,4 +1,4 @@
-//! The limits of wire copy, and causes and faults as they are printed.
+//! Tests the limits of wire copy, and the printed form of causes and faults.
 
 use crate::told::TestLog;
 use iim_dataset::{Fault, FaultCause, IoFault, Stop};
@@ -9,7 +9,7 @@ use std::error::Error;
 use wire_message::{MessageCause, MessageFault};
 use wire_story::{TextCause, TextFault};
 
-/// Each cause of the texts.
+/// All causes of the text layer.
 const TEXT_CAUSES: [TextCause; 3] = [
     TextCause::LoneReturn,
     TextCause::ControlOctet,

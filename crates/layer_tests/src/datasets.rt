@@ -1,4 +1,4 @@
-//! Readers and writers that are interrupted and fail, and sinks of datasets that stop.
+//! Tests readers and writers that are interrupted and fail, and sinks of datasets that stop.
 
 mod halting;
 mod reading;
@@ -8,7 +8,7 @@ use iim_dataset::{FromRead, Source, put, take};
 use std::alloc::Global;
 use trials::{TrialReader, TrialWriter, Trouble};
 
-/// Tests of a writer: the number of good calls, and then what goes wrong.
+/// Tests of a writer: the name, the number of successful calls, and what goes wrong after them.
 const WRITERS: [(&str, u64, Trouble); 3] = [
     (
         "writer_at_a_million_interruptions: 2 good, Interruptions(999999)",
@@ -27,7 +27,7 @@ const WRITERS: [(&str, u64, Trouble); 3] = [
     ),
 ];
 
-/// Tests of a reader that is interrupted this many times.
+/// Tests of a reader: the name, and the number of interruptions.
 const READERS: [(&str, u32); 2] = [
     ("reader_at_a_million_interruptions: 999999", 999_999),
     ("reader_at_a_million_interruptions: 1000000", 1_000_000),
@@ -73,7 +73,7 @@ fn a_failing_reader_gives_what_came_before(told: &mut TestLog) {
     told.line(trial, " ", &take(&mut reader, &mut buffer));
 }
 
-/// Logs three reads of a source of three octets.
+/// Logs three reads from a source of three octets.
 fn log_reads<S: Source>(told: &mut TestLog, trial: &str, source: &mut S) {
     let mut buffer = [0u8; 2];
     let first = take(source, &mut buffer);
@@ -83,7 +83,7 @@ fn log_reads<S: Source>(told: &mut TestLog, trial: &str, source: &mut S) {
     told.line(trial, " ", &take(source, &mut buffer));
 }
 
-/// Reads a slice as a source.
+/// Checks that a slice can be read as a source.
 fn a_slice_is_a_source(told: &mut TestLog) {
     let mut reader = FromRead::new(b"abc".as_slice());
     log_reads(told, "a_slice_is_a_source", &mut reader);

@@ -1,5 +1,5 @@
-//! Readers of records that reuse the memory of an envelope, readers that return no envelope yet,
-//! and iterators over an envelope.
+//! Tests readers of records that reuse the memory of an earlier envelope, readers that have no
+//! complete envelope yet, and iterators over an envelope.
 
 ghost use Rattle.std.specs.Prelude.{◌≢◌, length, OnOk, IfSome};
 ghost use Rattle.iim_fields.specs.States.Standing.{IsBetweenDatasets, IsInsideDataset};
@@ -26,16 +26,16 @@ const SIZES: [(u8, u8, &[u8]); 5] = [
 /// The number that each dataset encodes.
 type Numbers = ArrayVec<Option<u64>, 5>;
 
-/// Datasets of record 2 that are added to a copy.
+/// Datasets of record 2 that are added to a copy of an envelope.
 const ADDED: [(u8, &[u8]); 3] = [(105, b"Rates held"), (122, b"RELAYS"), (122, b"RELAY")];
 
-/// Limits of a copy: its octets and its datasets.
+/// The limits of copies: their numbers of octets and of datasets.
 const LIMITS_OF_COPIES: [(u32, u32); 4] = [(78, 16), (77, 16), (77, 15), (78, 15)];
 
-/// The name of a test that several functions log.
+/// The name of a test that is logged by several functions.
 const MEMORY: &str = "the_memory_of_an_envelope_serves_the_next";
 
-/// The name of another test that several functions log.
+/// The name of another test that is logged by several functions.
 const COPIED: &str = "copied_envelopes_take_a_dataset_more";
 
 /// Feeds all octets of the dataset in progress, in one chunk or one by one.
@@ -53,7 +53,7 @@ fn give(fields: &mut Fields, head: Head, octets: &[u8], one_by_one: bool)
     }
 }
 
-/// Feeds a dataset, and returns the number that it encodes.
+/// Feeds a dataset. Returns the number that it encodes.
 fn pass(
     fields: &mut Fields,
     rec: u8,
@@ -95,7 +95,7 @@ fn pass_fields(fields: &mut Fields, one_by_one: bool) -> Result<(), FieldFault>
     Ok(())
 }
 
-/// Feeds the datasets of records 7, 8 and 9, and stores the number that each encodes.
+/// Feeds the datasets of records 7, 8 and 9, and stores the number that each of them encodes.
 ///
 /// **Errors:** the first fault.
 fn pass_sizes(
@@ -148,7 +148,7 @@ fn log_fields(told: &mut TestLog, trial: &str, envelope: &Envelope) {
     }
 }
 
-/// Logs a title, or that there is no further one.
+/// Logs a title, or that there is no further title.
 fn log_title(told: &mut TestLog, title: Option<&[u8]>) {
     match title {
         Some(title) => told.line_of_octets(MEMORY, " title ", title),
@@ -164,7 +164,7 @@ fn log_titles(told: &mut TestLog, envelope: &Envelope) {
     }
 }
 
-/// Returns the envelope that is read in memory that another one has used.
+/// Reads an envelope into memory that was used for an earlier envelope, and returns it.
 fn read_twice(told: &mut TestLog, alloc: Global) -> Option<Envelope> {
     let mut fields = Fields::new(alloc, LIMITS).ok()?;
     log_all(told, &mut fields, false);
@@ -183,7 +183,7 @@ fn the_memory_of_an_envelope_serves_the_next(told: &mut TestLog, alloc: Global) 
     }
 }
 
-/// Adds the datasets of the longer example envelope, and returns whether each was accepted.
+/// Adds the datasets of the longer example envelope. Returns whether all were accepted.
 fn add_worked(builder: &mut EnvelopeBuilder) -> bool {
     for (rec, set, octets) in &STORY_FIELDS {
         if builder.add(*rec, *set, octets).is_err() {
@@ -202,7 +202,7 @@ fn built(alloc: Global) -> Option<Envelope> {
     builder.finish().ok()
 }
 
-/// Returns the reader after records 1 and 2, when it has no envelope to return yet.
+/// Returns a reader after records 1 and 2, which has no complete envelope yet.
 fn paused(alloc: Global) -> Option<Fields>
     ensures { IfSome result (λ fields. IsBetweenDatasets fields) }
 {
@@ -213,7 +213,7 @@ fn paused(alloc: Global) -> Option<Fields>
     }
 }
 
-/// Checks whether the envelope is the longer example one.
+/// Checks whether the envelope is the longer example envelope.
 fn is_worked(alloc: Global, read: &Envelope) -> bool {
     match built(alloc) {
         Some(built) => read.same(&built),
@@ -239,12 +239,12 @@ fn the_reader_continues_where_nothing_is_handed_over(told: &mut TestLog, alloc: 
     told.line(trial, " the same as the one that was built: ", &same);
 }
 
-/// Returns why the envelope is not copied into a builder of these limits.
+/// Returns why the envelope is not copied into a builder with these limits, or `None`.
 fn fault_of_copy(alloc: Global, limits: Limits, envelope: &Envelope) -> Option<CopyFault> {
     EnvelopeBuilder::from(alloc, limits, envelope).err()
 }
 
-/// Copies the envelope, which has 78 octets in 16 datasets, within several limits.
+/// Copies the envelope, which has 78 octets in 16 datasets, under several limits.
 fn envelopes_are_copied_within_other_limits(
     told: &mut TestLog,
     alloc: Global,
@@ -261,7 +261,7 @@ fn envelopes_are_copied_within_other_limits(
     }
 }
 
-/// Returns why a dataset is not accepted.
+/// Returns why a dataset was rejected, or `None`.
 fn cause_of(added: Result<(), FieldFault>) -> Option<FieldCause> {
     match added {
         Ok(()) => None,
@@ -269,7 +269,7 @@ fn cause_of(added: Result<(), FieldFault>) -> Option<FieldCause> {
     }
 }
 
-/// Adds datasets, and logs why some are not accepted.
+/// Adds datasets, and logs why some of them are rejected.
 fn log_added(told: &mut TestLog, builder: &mut EnvelopeBuilder) {
     for (set, octets) in &ADDED {
         told.begin(COPIED, " add 2:", set);
@@ -277,8 +277,8 @@ fn log_added(told: &mut TestLog, builder: &mut EnvelopeBuilder) {
     }
 }
 
-/// Returns a copy of the envelope, with capacity for five more octets and one more dataset, which
-/// it accepts.
+/// Returns a copy of the envelope, with capacity for five more octets and one more dataset, to
+/// which that dataset was added.
 fn copied(told: &mut TestLog, alloc: Global, envelope: &Envelope) -> Option<Envelope> {
     let limits = Limits {
         octets: 83,

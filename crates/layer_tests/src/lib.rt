@@ -1,10 +1,10 @@
-//! Tests of the layers below the unpacker by their public calls: with readers and writers that
-//! fail, with sinks that count and stop, with reused memory of an envelope, and with iterators over
-//! one.
+//! Tests the layers below the unpacker through their public functions: with readers and writers
+//! that fail, with sinks that count calls and stop, with memory that is reused for a second
+//! envelope, and with iterators over an envelope.
 //!
 //! Each line of the log begins with the name of its test. The program `envelope_tests` prints the
-//! lines, and its file `stdout` has the expected ones, worked out from the format and from the
-//! library's pages.
+//! lines, and its file `stdout` has the expected lines, which follow from the format and from the
+//! documentation of the libraries.
 #![tactic(auto)]
 
 mod causes;
@@ -18,7 +18,7 @@ mod told;
 use std::alloc::Global;
 pub use told::TestLog;
 
-/// Runs all tests, and returns their lines.
+/// Runs all tests. Returns their log.
 pub fn lines(alloc: Global) -> TestLog {
     let mut told = TestLog::new(alloc);
     causes::tell(&mut told);

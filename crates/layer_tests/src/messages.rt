@@ -1,4 +1,4 @@
-//! Sinks of messages that count calls and stop, and a long line.
+//! Tests sinks of messages that count calls and stop, and a long line.
 
 use crate::stories::log_lines;
 use crate::told::TestLog;
@@ -9,7 +9,7 @@ use wire_message::{MessageCause, MessageReader};
 use wire_story::{LineWriter, Lines, StorySink};
 use worked::STORY_OBJECT;
 
-/// A call of a sink: octets of a line, of which the number is stored, or the end of a line.
+/// A call of a sink: a number of octets of a line, or the end of a line.
 #[derive(Clone, Copy, Debug)]
 enum Call {
     Text(usize),
@@ -22,7 +22,7 @@ impl Default for Call {
     }
 }
 
-/// A sink that stores its first calls.
+/// A sink that records its first calls.
 #[derive(Drop)]
 struct Calls {
     first: arrayvec::ArrayVec<Call, 8>,
@@ -59,7 +59,8 @@ fn long_object() -> arrayvec::ArrayVec<u8, 32_768> {
     object
 }
 
-/// Reads an object in one chunk, or octet by octet, and returns where and why it is rejected.
+/// Reads an object in one chunk, or octet by octet. Returns the octet at which it is rejected, and
+/// the cause.
 fn read<S: StorySink>(
     object: &[u8],
     by_octets: bool,
@@ -81,8 +82,8 @@ fn read<S: StorySink>(
     }
 }
 
-/// Logs the first calls of a sink for an object in one chunk, and where and why the object is
-/// rejected.
+/// Reads an object in one chunk. Logs the first calls of the sink, and the octet and the cause if
+/// the object is rejected.
 fn log_calls(told: &mut TestLog, object: &[u8]) {
     let mut sink = Calls {
         first: arrayvec::ArrayVec::new(),
@@ -97,7 +98,7 @@ fn runs_of_messages_are_passed_on_whole(told: &mut TestLog) {
     log_calls(told, &long_object());
 }
 
-/// Reads an object in one chunk into lines, and once more if an allocation failed.
+/// Reads an object in one chunk into lines. If an allocation fails, reads it once more.
 fn read_lines(alloc: Global, object: &[u8], lines: &mut Lines) -> Option<(usize, MessageCause)> {
     let answer = read(object, false, lines);
     if !matches!(answer, Some((_, MessageCause::Sink))) {
@@ -107,7 +108,7 @@ fn read_lines(alloc: Global, object: &[u8], lines: &mut Lines) -> Option<(usize,
     read(object, false, lines)
 }
 
-/// Logs the lines that are stored of an object.
+/// Logs the lines of an object.
 fn log_kept(told: &mut TestLog, alloc: Global, object: &[u8]) {
     let trial = "a_long_line_is_kept";
     let mut lines = Lines::new(alloc);
@@ -121,7 +122,7 @@ fn a_long_line_is_kept(told: &mut TestLog, alloc: Global) {
     log_kept(told, alloc, &long_object());
 }
 
-/// Reads an object into a writer that fails after `good` octets, and logs the result and what was
+/// Reads an object into a writer that fails after `good` octets. Logs the result, and what was
 /// written.
 fn log_stop(told: &mut TestLog, good: u64, by_octets: bool) {
     let target: TrialWriter<32> = TrialWriter::new(good, Trouble::Failure);

@@ -1,4 +1,4 @@
-//! Sinks of objects that stop, and objects that are written to failing writers.
+//! Tests sinks of objects that stop, and objects that are written to writers that fail.
 
 ghost use Rattle.std.specs.Prelude.{⊤};
 
@@ -9,8 +9,8 @@ use iim_dataset::Stop;
 use iim_object::{ObjectReader, ObjectSink};
 use std::alloc::Global;
 
-/// A sink that counts the slices and their octets, and rejects the octet after `room` of them and
-/// perhaps the end.
+/// A sink that counts slices and their octets. It rejects the octet after the first `room` octets,
+/// and may reject the end.
 #[derive(Drop)]
 struct Counter {
     runs: usize,
@@ -60,7 +60,7 @@ fn make_counter(room: usize, refuses_end: bool) -> Counter {
     }
 }
 
-/// Logs what a reader returns if its sink stops in a slice.
+/// Logs the result of a reader whose sink stops inside a slice.
 fn stop_in_a_run(told: &mut TestLog, sink: &mut Counter) {
     let mut reader = ObjectReader::new();
     told.begin("stops_of_the_sink", " failed: ", &reader.is_failed());
@@ -68,7 +68,7 @@ fn stop_in_a_run(told: &mut TestLog, sink: &mut Counter) {
     told.end(", failed: ", &reader.is_failed());
 }
 
-/// Logs what a reader returns if its sink rejects the end.
+/// Logs the result of a reader whose sink rejects the end.
 fn stop_at_the_end(told: &mut TestLog, sink: &mut Counter) {
     let mut reader = ObjectReader::new();
     told.begin("stops_of_the_sink", " failed: ", &reader.is_failed());
@@ -82,7 +82,7 @@ fn stops_of_the_sink(told: &mut TestLog) {
     stop_at_the_end(told, &mut sink);
 }
 
-/// Logs what a reader returns for a slice, and what its sink has counted so far.
+/// Logs the result of a reader for a slice, and the counts of its sink so far.
 fn log_run(told: &mut TestLog, reader: &mut ObjectReader, sink: &mut Counter, run: &[u8]) {
     let trial = "runs_of_an_object";
     if reader.is_failed() {
@@ -94,7 +94,7 @@ fn log_run(told: &mut TestLog, reader: &mut ObjectReader, sink: &mut Counter, ru
     told.end_words(" octets");
 }
 
-/// Checks that each slice of an object reaches the sink in one call.
+/// Checks that each slice of an object is passed to the sink in one call.
 fn runs_of_an_object(told: &mut TestLog) {
     let mut reader = ObjectReader::new();
     let mut sink = make_counter(100, false);

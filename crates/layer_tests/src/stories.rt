@@ -1,4 +1,4 @@
-//! Sinks of stories that count calls, stop, and write to failing writers.
+//! Tests sinks of stories that count calls, that stop, and that write to writers that fail.
 
 ghost use Rattle.std.specs.Prelude.{◌≡◌, ◌++◌, OnOk};
 ghost use Rattle.wire_story.specs.Format.Texts.{HasLines, IsLine, delivered};
@@ -15,10 +15,10 @@ const RATES: &[u8] = b"Rates stay.\r\nNo change.";
 /// A line of ten octets.
 const TEN: &[u8] = b"0123456789";
 
-/// The name of tests that several functions log.
+/// The name of tests that are logged by several functions.
 const STOPPING: &str = "sinks_that_stop_at_a_call";
 
-/// A sink that stops, in front of a writer of lines.
+/// A sink that stops, in front of a sink that writes lines.
 type Stopping = TrialSink<LineWriter<TrialWriter<32>>>;
 
 /// Returns a line as long as the text of a message of 32,768 octets.
@@ -26,7 +26,7 @@ fn long_line() -> [u8; 32_754] {
     [b'a'; 32_754]
 }
 
-/// A sink that counts its calls, and the octets received.
+/// A sink that counts its calls and the octets received.
 struct Calls {
     calls: u32,
     octets: usize,
@@ -53,8 +53,8 @@ impl StorySink for Calls {
     }
 }
 
-/// Reads a text in two slices, for any sink. Its contract follows from the contracts of the layer
-/// alone.
+/// Reads a text in two slices, with any sink. The contract follows from the contracts of the text
+/// layer alone.
 fn read_in_two<S: StorySink>(front: &[u8], back: &[u8], sink: &mut S) -> Result<(), TextFault>
     ensures text { OnOk result (HasLines (front.now ++ back.now)) }
     ensures told { OnOk result (S.goes sink.old (delivered (front.now ++ back.now)) sink.new) }
@@ -66,7 +66,7 @@ fn read_in_two<S: StorySink>(front: &[u8], back: &[u8], sink: &mut S) -> Result<
     reader.close()
 }
 
-/// Reads a text octet by octet, with an empty slice before each.
+/// Reads a text octet by octet, with an empty slice before each octet.
 fn read_by_octets<S: StorySink>(text: &[u8], sink: &mut S) -> Result<(), TextFault> {
     let mut reader = TextReader::new();
     for octet in text {
@@ -76,8 +76,8 @@ fn read_by_octets<S: StorySink>(text: &[u8], sink: &mut S) -> Result<(), TextFau
     reader.close()
 }
 
-/// Reads a text into lines. If an allocation fails it reads once more, so that each test tolerates
-/// one failure.
+/// Reads a text into lines. If an allocation fails, reads it once more, so that each test tolerates
+/// one failed allocation.
 fn read_lines(alloc: Global, text: &[u8], lines: &mut Lines) -> Result<(), TextFault> {
     let answer = read_in_two(text, b"", lines);
     if !matches!(
@@ -93,7 +93,7 @@ fn read_lines(alloc: Global, text: &[u8], lines: &mut Lines) -> Result<(), TextF
     read_in_two(text, b"", lines)
 }
 
-/// Logs how many octets each line has, and how many of them are an `a`.
+/// Logs the number of octets in each line, and how many of them are an `a`.
 pub(crate) fn log_lines(told: &mut TestLog, trial: &str, lines: &Lines) {
     for line in lines.iter() {
         told.begin(trial, " a line of ", &line.len());
@@ -102,7 +102,7 @@ pub(crate) fn log_lines(told: &mut TestLog, trial: &str, lines: &Lines) {
     }
 }
 
-/// Logs what a sink counts of a text in one slice, and the result of reading the text.
+/// Reads a text in one slice. Logs what the sink has counted, and the result.
 fn log_calls(told: &mut TestLog, trial: &str, text: &[u8]) {
     let mut sink = Calls {
         calls: 0,
@@ -130,7 +130,7 @@ fn a_long_run_is_passed_on_whole(told: &mut TestLog, alloc: Global) {
 }
 
 /// Appends octets to the lines. If the allocation fails, the lines must be unchanged, and a second
-/// call must succeed. Returns whether this was so.
+/// call must succeed. Returns whether this is so.
 fn insists_on_text(lines: &mut Lines, line: &[u8]) -> bool
     requires { IsLine line.now }
 {
@@ -142,7 +142,7 @@ fn insists_on_text(lines: &mut Lines, line: &[u8]) -> bool
 }
 
 /// Appends a line end to the lines. If the allocation fails, the lines must be unchanged, and a
-/// second call must succeed. Returns whether this was so.
+/// second call must succeed. Returns whether this is so.
 fn insists_on_line_end(lines: &mut Lines) -> bool {
     let before = text_len(lines);
     match lines.line_end() {
@@ -151,7 +151,7 @@ fn insists_on_line_end(lines: &mut Lines) -> bool {
     }
 }
 
-/// Appends a hundred lines of ten octets, and returns whether each failed allocation was tolerated.
+/// Appends a hundred lines of ten octets. Returns whether each failed allocation was tolerated.
 fn grow(lines: &mut Lines) -> bool {
     let mut borne = true;
     for _ in 0..100 {
@@ -161,7 +161,7 @@ fn grow(lines: &mut Lines) -> bool {
     borne
 }
 
-/// Counts the lines that are the ten octets.
+/// Counts the lines that consist of the ten octets.
 fn full_lines(lines: &Lines) -> usize {
     let mut count = 0usize;
     for line in lines.iter() {
@@ -189,7 +189,7 @@ fn lines_are_written_past_interruptions(told: &mut TestLog) {
     told.line_and_octets(trial, &answer, target.octets());
 }
 
-/// Writes to a target that accepts `good` octets, one a call, and then fails.
+/// Writes to a target that accepts `good` octets, one in each call, and then fails.
 fn write_and_fail(told: &mut TestLog, good: u64) {
     let target: TrialWriter<32> = TrialWriter::new(good, Trouble::Failure);
     let mut sink = LineWriter::new(target);
@@ -198,7 +198,7 @@ fn write_and_fail(told: &mut TestLog, good: u64) {
     told.line_after("writes_that_fail", good, &answer, target.octets());
 }
 
-/// Passes a slice and the end of a line to a sink, and begins a line of the results.
+/// Passes a slice and the end of a line to a sink, and begins a line of the log with the results.
 fn begin_calls<S: StorySink>(told: &mut TestLog, trial: &str, words: &str, sink: &mut S, run: &[u8])
     requires { IsLine run.now }
 {
@@ -221,22 +221,22 @@ fn writes_that_fail(told: &mut TestLog) {
     write_past_room(told);
 }
 
-/// Returns a sink that stops after `good` good calls, in front of a writer that accepts `room`
-/// octets.
+/// Creates a sink that stops after `good` successful calls, in front of a writer that accepts
+/// `room` octets.
 fn trial_sink(good: u64, front: usize, room: u64) -> Stopping {
     let target = TrialWriter::new(room, Trouble::Failure);
     TrialSink::new(LineWriter::new(target), good, front)
 }
 
-/// Logs how often a sink has stopped, and the octets that it passed on.
+/// Logs the number of stops of a sink, and the octets that it forwarded.
 fn log_passed(told: &mut TestLog, trial: &str, sink: Stopping) {
     told.begin(trial, " ", &sink.failures());
     let target = sink.into_sink().into_writer();
     told.end_octets(" stops, ", target.octets());
 }
 
-/// Begins a line of the result of reading a text with a sink of `good` good calls, which passes on
-/// `front` octets of a later one.
+/// Reads a text with a sink that stops after `good` successful calls and `front` octets of a later
+/// call. Begins a line of the log with the result.
 fn stop_at_a_call<S: StorySink>(told: &mut TestLog, good: u64, front: usize, sink: &mut S) {
     let answer = read_in_two(RATES, b"", sink);
     told.begin(STOPPING, " ", &good);
@@ -244,7 +244,7 @@ fn stop_at_a_call<S: StorySink>(told: &mut TestLog, good: u64, front: usize, sin
     told.answer(": ", &answer);
 }
 
-/// Logs how a sink stops, and what it passed on.
+/// Logs how a sink stops, and what it forwarded.
 fn log_stop(told: &mut TestLog, good: u64, front: usize) {
     let mut sink = trial_sink(good, front, 100);
     stop_at_a_call(told, good, front, &mut sink);
@@ -252,13 +252,13 @@ fn log_stop(told: &mut TestLog, good: u64, front: usize) {
     log_passed(told, STOPPING, sink);
 }
 
-/// Logs what a sink returns for calls after its good ones.
+/// Logs the results of calls after a sink has stopped.
 fn log_calls_after<S: StorySink>(told: &mut TestLog, sink: &mut S) {
     begin_calls(told, STOPPING, " then ", sink, b"ab");
     told.end(" ", &sink.text(b""));
 }
 
-/// Logs a sink that accepts the whole text, and stops then.
+/// Logs the results of a sink that accepts the whole text, and then stops.
 fn stop_after_the_text(told: &mut TestLog) {
     let mut sink = trial_sink(3, 0, 100);
     stop_at_a_call(told, 3, 0, &mut sink);
@@ -268,8 +268,8 @@ fn stop_after_the_text(told: &mut TestLog) {
     log_passed(told, STOPPING, sink);
 }
 
-/// Stops sinks after different numbers of good calls, and of octets of a later one that are passed
-/// on.
+/// Tests sinks that stop after different numbers of successful calls, and of octets of a later
+/// call.
 fn sinks_that_stop_at_a_call(told: &mut TestLog) {
     log_stop(told, 0, 4);
     log_stop(told, 1, 4);

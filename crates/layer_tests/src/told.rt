@@ -4,8 +4,8 @@ use std::alloc::Global;
 use std::fmt::{Debug, Display};
 use std::io::Write;
 
-/// The lines that the tests have logged so far. If an allocation fails the log has no text any
-/// more, so that no test needs to check each line.
+/// The lines that the tests have logged so far. After a failed allocation the log has no text, so
+/// that a test need not check each line for errors.
 #[derive(Drop)]
 pub struct TestLog {
     text: Vec<u8>,
@@ -36,7 +36,7 @@ impl TestLog {
         }
     }
 
-    /// Appends text and then a value as it is printed.
+    /// Appends text and then the printed form of a value.
     fn show<T: Display>(&mut self, words: &str, value: &T) {
         self.put(words);
         if write!(self.text, "{value}").is_err() {
@@ -57,14 +57,14 @@ impl TestLog {
         self.show(words, &octets.escape_ascii());
     }
 
-    /// Begins a line of a test with text and a result.
+    /// Begins a line of the log with the name of a test, text and a result.
     pub(crate) fn begin<A: Debug>(&mut self, trial: &str, words: &str, answer: &A) {
         self.put(trial);
         self.put(":");
         self.answer(words, answer);
     }
 
-    /// Begins a line of a test with text and octets.
+    /// Begins a line of the log with the name of a test, text and octets.
     pub(crate) fn begin_octets(&mut self, trial: &str, words: &str, octets: &[u8]) {
         self.put(trial);
         self.put(":");
@@ -89,42 +89,42 @@ impl TestLog {
         self.put("\n");
     }
 
-    /// Ends a line with text and a value as it is printed.
+    /// Ends a line with text and the printed form of a value.
     pub(crate) fn end_shown<T: Display>(&mut self, words: &str, value: &T) {
         self.show(words, value);
         self.put("\n");
     }
 
-    /// Appends a line of text and a result.
+    /// Appends a line with the name of a test, text and a result.
     pub(crate) fn line<A: Debug>(&mut self, trial: &str, words: &str, answer: &A) {
         self.begin(trial, words, answer);
         self.put("\n");
     }
 
-    /// Appends a line of text and octets.
+    /// Appends a line with the name of a test, text and octets.
     pub(crate) fn line_of_octets(&mut self, trial: &str, words: &str, octets: &[u8]) {
         self.begin_octets(trial, words, octets);
         self.put("\n");
     }
 
-    /// Appends a line of a value as it is printed.
+    /// Appends a line with the name of a test and the printed form of a value.
     pub(crate) fn line_shown<T: Display>(&mut self, trial: &str, value: &T) {
         self.put(trial);
         self.end_shown(": ", value);
     }
 
-    /// Appends a line of text.
+    /// Appends a line with the name of a test and text.
     pub(crate) fn line_of_words(&mut self, trial: &str, words: &str) {
         self.line_shown(trial, &words);
     }
 
-    /// Appends a line of a result, and of octets.
+    /// Appends a line with the name of a test, a result and octets.
     pub(crate) fn line_and_octets<A: Debug>(&mut self, trial: &str, answer: &A, octets: &[u8]) {
         self.begin(trial, " ", answer);
         self.end_octets(" ", octets);
     }
 
-    /// Appends a line for a writer that fails after `good` successful calls: the result, and
+    /// Appends a line for a writer that fails after `good` successful calls, with the result and
     /// octets.
     pub(crate) fn line_after<A: Debug>(
         &mut self,
@@ -139,7 +139,7 @@ impl TestLog {
     }
 }
 
-/// Counts the octets that are this one.
+/// Counts how often an octet occurs.
 pub(crate) fn count_of(octet: u8, octets: &[u8]) -> usize {
     let mut count = 0usize;
     for other in octets {

@@ -17,8 +17,7 @@ use wire_story::Lines;
 /// The limits on records 1 and 2 of a received envelope.
 const RECEIVED: Limits = Limits::WIRE;
 
-/// The limits on records 1 and 2 of an envelope that is sent, with the capacity for the added
-/// dataset.
+/// The limits on records 1 and 2 of an envelope that is sent. They allow for the added dataset.
 const SENT: Limits = Limits {
     octets: 65_536 + 32,
     fields: 512 + 1,
@@ -33,7 +32,7 @@ fn main(rt: HostRuntime) -> Result<()> {
     relay(rt.alloc(), &mut intake, FromWrite::new(rt.stdout()))
 }
 
-/// Relays each envelope. It succeeds only at the end of the input, and if none of it was rejected.
+/// Relays each envelope. Succeeds only if the whole input was accepted.
 fn relay<R: Source, W: Target + Drop>(
     alloc: Global,
     intake: &mut Intake<R>,
@@ -49,14 +48,14 @@ fn relay<R: Source, W: Target + Drop>(
         match intake.next_envelope(unpacker, &mut lines) {
             Ok(Some(unpacked)) => output = send(alloc, &unpacked, &lines, output)?,
             Ok(None) => return Ok(()),
-            // The envelopes before it were sent. Nothing of this envelope is.
+            // The envelopes before this one were sent. No part of this one is sent.
             Err(fault) => bail!("envelope {number}: {fault}"),
         }
     }
     bail!("too many envelopes")
 }
 
-/// Sends an envelope with one more dataset. Its message is unchanged, in subfiles of 1,024 octets.
+/// Sends an envelope with the dataset added. Its message is unchanged, in subfiles of 1,024 octets.
 fn send<W: Target + Drop>(
     alloc: Global,
     unpacked: &Unpacked,
@@ -74,7 +73,7 @@ fn send<W: Target + Drop>(
     }
 }
 
-/// Returns the envelope with one more dataset at the end of record 2.
+/// Returns the envelope with the dataset added at the end of record 2.
 fn with_desk(alloc: Global, envelope: &Envelope) -> Result<Envelope>
     ensures { IfOk result (λ sent. sent ≡ envelope.now ++ record { rec = DESK.0; set = DESK.1; octets = DESK.2.now }
         ∷ []) }

@@ -1,4 +1,4 @@
--- The lemmas that the impl of the test reader provides.
+-- Lemmas for the implementation of the test reader.
 use Rattle.std.proofs.Common.{refl, ◌∙◌, arith}
 use Rattle.trials.specs.declared.device.{Plan.Plan, TrialReader.TrialReader}
 use Rattle.trials.specs.States.{FollowsPlan, ReadsByPlan, trial_device}

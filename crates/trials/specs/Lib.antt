@@ -1,4 +1,4 @@
--- The states of the readers, writers and sinks of tests.
+-- The states of readers, writers and sinks for tests.
 pub mod States
 -- Definitions that only proofs and private clauses cite.
 pub mod DeviceLaws

@@ -7,16 +7,16 @@ ghost use Rattle.trials.specs.States.{planned, new_plan, trial_device, reader_pl
 use arrayvec::ArrayVec;
 use iim_dataset::{IoFault, Source, Target};
 
-/// What goes wrong at a call.
+/// What goes wrong when a reader or a writer is called.
 #[derive(Clone, Copy, Debug, PartialEq, Eq)]
 pub enum Trouble {
-    /// This call and all later ones fail.
+    /// This call and all later calls fail.
     Failure,
-    /// This number of calls is interrupted, and then nothing goes wrong any more.
+    /// This number of calls is interrupted, and all later calls succeed.
     Interruptions(u32),
 }
 
-/// How many calls are good, what goes wrong then, and what went wrong so far.
+/// The number of calls that succeed, what goes wrong after them, and what went wrong so far.
 #[derive(Clone, Copy)]
 struct Plan {
     good: u64,
@@ -37,7 +37,7 @@ impl Plan {
         }
     }
 
-    /// Begins a call, and returns what goes wrong with it.
+    /// Begins a call. Returns what goes wrong with it, if anything.
     fn call(&mut self) -> Result<(), IoFault>
         ensures ok { OnOk result (CountedNoFault (planned None self.old) (planned None self.new)) }
         ensures err { IfErr result (CountedFault (planned None self.old) (planned None self.new)) }
@@ -72,7 +72,8 @@ impl Plan {
     }
 }
 
-/// A source of known octets that returns one a call, with trouble after `good` good calls.
+/// A source of known octets that returns one octet in each call, and has trouble after `good`
+/// successful calls.
 #[derive(Drop)]
 pub struct TrialReader<'a> {
     octets: &'a [u8],
@@ -81,7 +82,7 @@ pub struct TrialReader<'a> {
 }
 
 impl<'a> TrialReader<'a> {
-    /// Creates a source of these octets with `good` good calls before the trouble.
+    /// Creates a source of these octets that has trouble after `good` successful calls.
     pub fn new(octets: &'a [u8], good: u64, trouble: Trouble) -> TrialReader<'a>
         ensures device { trial_device result ≡ unbroken (Some octets.entry.now) }
         ensures plan { reader_plan result ≡ new_plan good trouble }
@@ -124,8 +125,8 @@ impl Source for TrialReader<'_> {
     }
 }
 
-/// A target that accepts one octet a call while it has fewer than `N`, and then none, with trouble
-/// after `good` good calls.
+/// A target that accepts one octet in each call, as long as it has fewer than `N` octets, and has
+/// trouble after `good` successful calls.
 #[derive(Drop)]
 pub struct TrialWriter<const N: usize> {
     octets: ArrayVec<u8, N>,
@@ -133,7 +134,7 @@ pub struct TrialWriter<const N: usize> {
 }
 
 impl<const N: usize> TrialWriter<N> {
-    /// Creates an empty target with `good` good calls before the trouble.
+    /// Creates an empty target that has trouble after `good` successful calls.
     pub fn new(good: u64, trouble: Trouble) -> TrialWriter<N>
         ensures empty { taken_octets result ≡ [] }
         ensures plan { writer_plan result ≡ new_plan good trouble }

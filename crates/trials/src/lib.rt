@@ -1,7 +1,6 @@
-//! Fault injection for tests: a reader and a writer that fail by a plan, and a sink of a story that
-//! stops by one.
+//! Fault injection for tests: a reader, a writer and a sink of stories that fail at a chosen call.
 //!
-//! Depends on `iim_dataset`, `wire_story` and `arrayvec`. Tests depend on it, and no library does.
+//! Depends on `iim_dataset`, `wire_story` and `arrayvec`. Only tests depend on this crate.
 #![tactic(auto)]
 
 mod device;

@@ -7,9 +7,9 @@ ghost use Rattle.wire_story.specs.Format.Texts.{IsLine, LineOctet, LineEnd};
 use iim_dataset::Stop;
 use wire_story::StorySink;
 
-/// A sink that passes `good` calls on to another sink, and stops at each later one: at a slice
-/// after some of its octets, which it passes on, and at a line end immediately. An empty slice is
-/// never rejected. It counts its stops, and those of the other sink; the counter saturates at
+/// A sink that forwards `good` calls to another sink, and stops at each later call. At a slice it
+/// first forwards some of the octets; at a line end it stops immediately. An empty slice is never
+/// rejected. It counts its own stops and those of the other sink; the counter saturates at
 /// `u64::MAX`.
 #[derive(Drop)]
 pub struct TrialSink<S> {
@@ -22,8 +22,8 @@ pub struct TrialSink<S> {
 impl<S: StorySink> TrialSink<S> {
     ghost use Rattle.trials.specs.States.{sink_of, good_of, front_of, failures_of, PassesEventsOn, CountsCall, StopsAsPlanned};
 
-    /// Creates a sink with `good` good calls, which then stops after `front` octets of a slice, or
-    /// after all but its last.
+    /// Creates a sink that forwards `good` calls, and then stops after `front` octets of a slice,
+    /// or after all but the last octet if the slice is shorter.
     pub fn new(sink: S, good: u64, front: usize) -> TrialSink<S>
         ensures sink { sink_of result ≡ sink }
         ensures good { good_of result ≡ good }
@@ -38,14 +38,14 @@ impl<S: StorySink> TrialSink<S> {
         }
     }
 
-    /// Returns how often the sink stopped.
+    /// Returns the number of times that the sink has stopped.
     pub fn failures(&self) -> u64
         ensures { result ≡ failures_of self.now }
     {
         self.failures
     }
 
-    /// Returns the sink that calls are passed on to.
+    /// Returns the sink to which calls are forwarded.
     pub fn into_sink(self) -> S
         ensures { result ≡ sink_of self }
     {
@@ -70,7 +70,7 @@ impl<S: StorySink> TrialSink<S> {
         Stop { taken }
     }
 
-    /// Passes octets on, and counts a stop of the other sink.
+    /// Forwards octets, and counts a stop of the other sink.
     fn pass(&mut self, run: &[u8]) -> Result<(), Stop>
         requires { IsLine run.now }
         ensures ok { OnOk result (PassesEventsOn S.goes self.old (map LineOctet run.now) self.new) }

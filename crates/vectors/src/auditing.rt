@@ -20,7 +20,7 @@ fn print_text(out: &mut Answers, text: &[u8]) {
     }
 }
 
-/// Prints a report, line by line.
+/// Prints the text of a report, line by line.
 fn print_report(out: &mut Answers, alloc: Global, report: &Report) {
     match report_text(alloc, report) {
         Ok(text) => print_text(out, text.as_slice()),
@@ -28,7 +28,7 @@ fn print_report(out: &mut Answers, alloc: Global, report: &Report) {
     }
 }
 
-/// Prints the number of the envelope that is rejected, and its refusal.
+/// Prints the number of the envelope that is rejected, and the refusal.
 fn print_fault(out: &mut Answers, fault: AuditFault) {
     out.put("  ");
     out.show(&fault.envelope);
@@ -37,7 +37,7 @@ fn print_fault(out: &mut Answers, fault: AuditFault) {
     out.end();
 }
 
-/// Prints the report of an intake, or why there is no report.
+/// Prints the report on an intake, or why there is no report.
 fn print_audit(
     out: &mut Answers,
     alloc: Global,
@@ -50,7 +50,7 @@ fn print_audit(
     }
 }
 
-/// Prints the reports of octets that are audited `times` times, from one intake.
+/// Prints the reports on octets that are audited `times` times, by one intake.
 fn print_audits(out: &mut Answers, alloc: Global, octets: &[u8], now: Timestamp, times: u8) {
     let mut intake = Intake::new(FromRead::new(octets));
     for _ in 0..times {
@@ -58,8 +58,8 @@ fn print_audits(out: &mut Answers, alloc: Global, octets: &[u8], now: Timestamp,
     }
 }
 
-/// Prints the reports of the octets in the next words, at the instant before them, which `jiff`
-/// parses.
+/// Prints the reports on the octets in the next words. The word before them is the instant, which
+/// `jiff` parses.
 fn print_next(out: &mut Answers, alloc: Global, names: &Names, words: &mut Words, times: u8) {
     let now = words.text().parse();
     let octets = words.octets(names);
@@ -69,7 +69,8 @@ fn print_next(out: &mut Answers, alloc: Global, names: &Names, words: &mut Words
     }
 }
 
-/// Replies to a question about audits. Returns false if the word is not one of them.
+/// Replies to a question about audits. Returns `false` if `word` is not the name of such a
+/// question.
 pub(crate) fn answer(
     out: &mut Answers,
     alloc: Global,

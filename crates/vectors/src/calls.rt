@@ -1,4 +1,4 @@
-//! A packer, call by call.
+//! Questions about the calls of a packer.
 
 use crate::scripts::Value;
 use crate::writers::{Keeps, Memory, Trial, memory, tell_kept, trial_of};
@@ -7,7 +7,7 @@ use iim_pack::Packer;
 use std::alloc::Global;
 use vectors_layers::{Answers, Names, Words};
 
-/// A packer, or its output after it has ended.
+/// A packer, or its output after the packer has ended.
 #[derive(Drop)]
 pub(crate) enum Begun {
     Whole(Packer<Memory>),
@@ -15,7 +15,7 @@ pub(crate) enum Begun {
     Ended(Vec<u8>),
 }
 
-/// The packer that questions are about.
+/// The packer that questions refer to.
 #[derive(Drop)]
 pub(crate) struct Calls {
     alloc: Global,
@@ -45,7 +45,7 @@ pub(crate) fn tell_fault<K: Keeps>(alloc: Global, out: &mut Answers, fault: Star
     out.end();
 }
 
-/// Prints the result of a call of a packer. If it failed, prints also the number of octets
+/// Prints the result of a call of a packer. If the call failed, also prints the number of octets
 /// written.
 fn tell_call(out: &mut Answers, answer: Result<(), PackCause>, written: u64) {
     match answer {
@@ -57,7 +57,7 @@ fn tell_call(out: &mut Answers, answer: Result<(), PackCause>, written: u64) {
     }
 }
 
-/// Returns the state after a packer over this writer has ended, or `None` if an allocation failed.
+/// Returns the state after the end of a packer with this writer, or `None` if an allocation failed.
 fn ended<K: Keeps>(alloc: Global, out: &mut Answers, writer: K) -> Option<Begun> {
     match writer.kept(alloc) {
         Some(octets) => Some(Begun::Ended(octets)),
@@ -87,7 +87,7 @@ fn end<K: Keeps>(
     }
 }
 
-/// Starts a packer, and prints the result. Returns `None` if it failed.
+/// Starts a packer, and prints the result. Returns `None` if the packer could not be started.
 fn started<K: Keeps>(
     alloc: Global,
     out: &mut Answers,
@@ -135,7 +135,7 @@ impl Begun {
         }
     }
 
-    /// Prints the octets written. This consumes the packer.
+    /// Prints the octets written. The packer is consumed.
     fn tell_out(self, alloc: Global, out: &mut Answers) {
         match self {
             Begun::Whole(packer) => tell_kept(alloc, out, packer.into_writer()),
@@ -163,7 +163,8 @@ impl Calls {
         Calls { alloc, begun: None }
     }
 
-    /// Starts a packer, which writes into memory unless the words name another writer.
+    /// Starts a packer. It writes into memory, unless the words of the question name another
+    /// writer.
     pub(crate) fn start(
         &mut self,
         out: &mut Answers,
@@ -213,7 +214,7 @@ impl Calls {
         }
     }
 
-    /// Ends the packer, if it can be ended.
+    /// Ends the packer, if there is one.
     fn finish(&mut self, out: &mut Answers, trailer: &[u8]) {
         match self.begun.take() {
             Some(begun) => self.begun = begun.finish(self.alloc, out, trailer),
@@ -229,7 +230,7 @@ impl Calls {
         }
     }
 
-    /// Prints the octets written. This consumes the packer.
+    /// Prints the octets written. The packer is consumed.
     fn tell_out(&mut self, out: &mut Answers) {
         out.put("  ");
         match self.begun.take() {

@@ -51,7 +51,7 @@ pub(crate) fn print_layers(out: &mut Answers) {
     }
 }
 
-/// Prints each cause: its number and its name, and the same as its layer prints it.
+/// Prints the number and the name of each cause, and its printed form.
 pub(crate) fn print_causes(out: &mut Answers) {
     for cause in CAUSES {
         out.put("  ");
@@ -64,7 +64,7 @@ pub(crate) fn print_causes(out: &mut Answers) {
     }
 }
 
-/// Appends a cause as its layer prints it.
+/// Appends the printed form of a cause.
 fn show_of_layer(out: &mut Answers, cause: Cause) {
     match cause {
         Cause::Field(cause) => out.show(&cause),

@@ -6,8 +6,8 @@ use wire_story::StorySink;
 /// The length of the longest chunk.
 pub(crate) const LONGEST: usize = 64;
 
-/// The lengths of chunks: all equal, or pseudo-random. The generator is a linear congruence modulo
-/// 2^64, with Knuth's factor.
+/// The lengths of chunks, which are all equal or pseudo-random. The generator is linear
+/// congruential modulo 2^64, with Knuth's multiplier.
 #[derive(Clone, Copy)]
 pub(crate) struct Cuts {
     least: usize,
@@ -25,7 +25,7 @@ impl Cuts {
         }
     }
 
-    /// Returns chunks of 1 to 64 octets, the same for the same seed.
+    /// Returns chunks of 1 to 64 octets, which depend only on the seed.
     pub(crate) fn random(seed: u64) -> Cuts {
         Cuts {
             least: 1,
@@ -43,7 +43,7 @@ impl Cuts {
     }
 }
 
-/// Feeds an empty chunk and, if that is not the end, then this one.
+/// Feeds an empty chunk and then, unless that ends the envelope, this chunk.
 fn feed_piece<S: StorySink>(
     unpacker: &mut Unpacker,
     piece: &[u8],
@@ -55,8 +55,8 @@ fn feed_piece<S: StorySink>(
     }
 }
 
-/// Feeds octets in chunks, with an empty one before each, up to the first result that is not
-/// `More`. Returns `Done` with the sum of the octets consumed.
+/// Feeds octets in chunks, with an empty chunk before each, up to the first result other than
+/// `More`. Returns `Done` with the total number of octets consumed.
 pub(crate) fn feed_cut<S: StorySink>(
     unpacker: &mut Unpacker,
     octets: &[u8],

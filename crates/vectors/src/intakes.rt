@@ -8,14 +8,14 @@ use std::alloc::Global;
 use vectors_layers::{Answers, Names, Words};
 use wire_story::Discard;
 
-/// Prints the length of an envelope and of its object.
+/// Prints the length of an envelope and the length of its object.
 fn print_sums(out: &mut Answers, octets: u64, total: u64) {
     out.number("  ", octets);
     out.number(" octets, ", total);
     out.put(" total\n");
 }
 
-/// Prints the result of an intake. Returns whether it has an envelope.
+/// Prints the result of an intake. Returns whether the result is an envelope.
 fn print_answer(
     out: &mut Answers,
     answer: Result<Option<Unpacked>, IntakeFault>,
@@ -32,8 +32,8 @@ fn print_answer(
     false
 }
 
-/// Reads the next envelope with a new unpacker, and prints the result. Returns whether there was
-/// one.
+/// Reads the next envelope with a new unpacker, and prints the result. Returns whether there was an
+/// envelope.
 fn print_envelope(
     out: &mut Answers,
     alloc: Global,
@@ -60,8 +60,8 @@ pub(crate) fn print_envelopes(out: &mut Answers, alloc: Global, names: &Names, w
     }
 }
 
-/// Prints the results of an intake with an unpacker that may have consumed octets, and then with
-/// two new ones.
+/// Prints the results of an intake with an unpacker that may already have consumed octets, and then
+/// with two new unpackers.
 pub(crate) fn print_next(
     out: &mut Answers,
     alloc: Global,

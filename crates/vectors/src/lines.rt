@@ -3,7 +3,7 @@
 use vectors_layers::Answers;
 use wire_story::Lines;
 
-/// The longest line whose octets are printed one by one if they are all equal.
+/// The greatest length of a line of equal octets that is printed in full.
 const LONG: usize = 100;
 
 /// Checks whether all octets of a line are equal.
@@ -19,7 +19,7 @@ fn are_alike(line: &[u8]) -> bool {
     true
 }
 
-/// Prints a line of one repeated octet as a question has it: `("a")*101`.
+/// Prints a line of one repeated octet in the notation of questions: `("a")*101`.
 fn print_repeated(out: &mut Answers, line: &[u8]) {
     out.put("(");
     out.octets(line.get(..1).unwrap_or(&[]));

@@ -1,9 +1,11 @@
-//! Replies to questions about octets, one a line. So a row of a table costs a line, and no proof.
+//! Replies to questions about octets, one in each line. A test case is a line of text here, and
+//! needs no proof.
 //!
-//! An empty line, and one that begins with `#`, is printed unchanged. Any other line is a
-//! question: a word and its arguments. The question is printed, and then the reply, each line
-//! after two spaces. `docs/VECTORS.md` lists the words. The questions are in `stdin`; `stdout` has
-//! them with their replies, which follow from the format.
+//! An empty line, and a line that begins with `#`, is printed unchanged. Any other line is a
+//! question: a word and its arguments. The question is printed, followed by the reply, whose lines
+//! are indented by two spaces. `docs/VECTORS.md` lists the words. The questions are in the file
+//! `stdin`; the file `stdout` has the questions and the expected replies, which follow from the
+//! format.
 #![tactic(auto)]
 
 mod auditing;
@@ -56,7 +58,7 @@ impl Vectors {
         })
     }
 
-    /// Replies to a question with this word. Returns false if there is no such word.
+    /// Replies to a question with this word. Returns `false` if there is no such word.
     fn answer_word(&mut self, answers: &mut Answers, word: &str, words: &mut Words) -> bool {
         if matches!(word, "let") {
             self.names.name(words);
@@ -82,7 +84,8 @@ impl Vectors {
     }
 }
 
-/// Replies to a question about streams. Returns false if the word is not one of them.
+/// Replies to a question about streams. Returns `false` if `word` is not the name of such a
+/// question.
 fn answer_streams(
     out: &mut Answers,
     alloc: Global,
@@ -99,7 +102,8 @@ fn answer_streams(
     true
 }
 
-/// Replies to a question that needs only names. Returns false if the word is not one of them.
+/// Replies to a question that needs only named octets. Returns `false` if `word` is not the name of
+/// such a question.
 fn answer_alone(
     answers: &mut Answers,
     alloc: Global,
@@ -112,7 +116,7 @@ fn answer_alone(
         || auditing::answer(answers, alloc, names, word, words)
 }
 
-/// Prints the reply to a question. Returns an error if the reply has one.
+/// Prints the reply to a question. Returns an error if the reply has an error.
 fn print_answers(rt: &impl Print, vectors: &mut Vectors, question: &[u8]) -> io::Result<()> {
     let mut answers = Answers::new(vectors.alloc);
     vectors.answer(&mut answers, question);
@@ -123,7 +127,7 @@ fn print_answers(rt: &impl Print, vectors: &mut Vectors, question: &[u8]) -> io:
     }
 }
 
-/// Prints a line, and the reply if it is a question.
+/// Prints a line. If the line is a question, prints the reply.
 fn pass(rt: &impl Print, vectors: &mut Vectors, line: &str) -> io::Result<()> {
     rt.println(line)?;
     let question = line.as_bytes();
@@ -133,7 +137,7 @@ fn pass(rt: &impl Print, vectors: &mut Vectors, line: &str) -> io::Result<()> {
     print_answers(rt, vectors, question)
 }
 
-/// Prints each line of the input, with replies.
+/// Prints each line of the input, with the replies to questions.
 fn pass_lines(rt: &(impl Input + Print), alloc: Global, vectors: &mut Vectors) -> io::Result<()> {
     for line in BufReader::new(alloc, rt.reader())?.lines(alloc) {
         pass(rt, vectors, line?.as_str())?;

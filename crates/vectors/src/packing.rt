@@ -1,4 +1,4 @@
-//! Questions about packing: the value of a script, packed at once and in chunks.
+//! Questions about packing: the value of a script is packed at once and in chunks.
 
 use crate::calls::{Calls, tell_fault};
 use crate::plans::{tell_bound, told_plan};
@@ -11,7 +11,7 @@ use std::alloc::Global;
 use vectors_layers::{Answers, Names, Words};
 use wire_story::Lines;
 
-/// The value to pack, and a packer for single calls.
+/// The value to pack, and a packer whose calls are made one by one.
 #[derive(Drop)]
 pub(crate) struct Packing {
     alloc: Global,
@@ -51,12 +51,12 @@ impl Packing {
         true
     }
 
-    /// Reads a script, and prints its content.
+    /// Parses a script, and prints its contents.
     fn read(&mut self, out: &mut Answers, octets: &[u8]) {
         self.told = told(self.alloc, out, octets);
     }
 
-    /// Returns the value of the last script, or `None` and an error if there is no value.
+    /// Returns the value of the last script. Returns `None` and reports an error if there is none.
     fn script(&self, out: &mut Answers) -> Option<&Value> {
         if self.told.is_none() {
             out.fail(NO_VALUE);
@@ -64,7 +64,7 @@ impl Packing {
         self.told.as_ref()
     }
 
-    /// Replaces the trailer of the value by any octets.
+    /// Replaces the trailer of the value with these octets, which may be invalid.
     fn set_trailer(&mut self, out: &mut Answers, octets: Vec<u8>) {
         match &mut self.told {
             Some(script) => script.trailer = octets,
@@ -80,7 +80,7 @@ impl Packing {
         }
     }
 
-    /// Packs the value at once.
+    /// Packs the value in one call.
     fn pack(&self, out: &mut Answers, words: &mut Words) {
         let Some(script) = self.script(out) else {
             return;
@@ -94,8 +94,8 @@ impl Packing {
         }
     }
 
-    /// Packs the value with its text in chunks of each length up to the given one. Prints each
-    /// result that differs from the one before.
+    /// Packs the value with its text in chunks, for each length of chunks up to the given one.
+    /// Prints each result that differs from the previous one.
     fn pack_in_pieces(&self, out: &mut Answers, words: &mut Words) {
         let most = words.number();
         let Some(script) = self.script(out) else {
@@ -106,7 +106,7 @@ impl Packing {
         }
     }
 
-    /// Starts a packer of the value.
+    /// Starts a packer for the value.
     fn start(&mut self, out: &mut Answers, words: &mut Words) {
         let Some(script) = &self.told else {
             out.fail(NO_VALUE);
@@ -121,7 +121,7 @@ impl Packing {
 /// The error if there is nothing to pack.
 const NO_VALUE: &str = "no script has told a value";
 
-/// Packs the value of a script at once, and prints the packed form or the error.
+/// Packs the value of a script in one call, and prints the packed form or the error.
 fn pack_over<K: Keeps>(alloc: Global, out: &mut Answers, script: &Value, plan: Plan, writer: K) {
     let trailer = script.trailer.as_slice();
     let packed = pack(
@@ -155,7 +155,8 @@ fn tell_refused(out: &mut Answers, length: u64) {
     out.put(" refused\n");
 }
 
-/// Packs the value of a script in chunks of each length up to `most`, until they are rejected.
+/// Packs the value of a script in chunks, for each length of chunks up to `most`, until a chunk is
+/// rejected.
 fn tell_lengths(alloc: Global, out: &mut Answers, script: &Value, plan: Plan, most: u64) {
     let mut before = Vec::new(alloc);
     for length in 1..most.saturating_add(1) {
@@ -170,7 +171,7 @@ fn tell_lengths(alloc: Global, out: &mut Answers, script: &Value, plan: Plan, mo
     }
 }
 
-/// Passes a line in chunks of up to `most` octets, each after an empty chunk.
+/// Passes a line in chunks of up to `most` octets, with an empty chunk before each.
 fn take_line<W: Target>(packer: &mut Packer<W>, line: &[u8], most: u64) -> Result<(), PackCause> {
     for piece in line.chunks((most as usize).max(1)) {
         packer.text(b"")?;
@@ -179,7 +180,7 @@ fn take_line<W: Target>(packer: &mut Packer<W>, line: &[u8], most: u64) -> Resul
     Ok(())
 }
 
-/// Passes lines in such chunks.
+/// Passes lines in chunks of up to `most` octets, with an empty chunk before each.
 fn take_lines<W: Target>(
     packer: &mut Packer<W>,
     lines: &Lines,
@@ -196,7 +197,8 @@ fn take_lines<W: Target>(
     Ok(())
 }
 
-/// Packs the value of a script in such chunks. Returns `None` if one is rejected.
+/// Packs the value of a script in chunks of up to `most` octets. Returns `None` if a chunk is
+/// rejected.
 fn in_pieces(alloc: Global, script: &Value, plan: Plan, most: u64) -> Option<Vec<u8>> {
     let writer = memory(alloc);
     let mut packer = Packer::start(alloc, &script.envelope, &script.head, plan, writer).ok()?;

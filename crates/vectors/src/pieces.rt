@@ -1,4 +1,4 @@
-//! Unpacks the stream of several chunks.
+//! Unpacks a stream of several chunks.
 
 use crate::lines::print_lines;
 use crate::values::{limits_of, print_done, print_value};
@@ -8,7 +8,7 @@ use std::alloc::Global;
 use vectors_layers::{Answers, MOST_ARGUMENTS, Names, Words};
 use wire_story::Lines;
 
-/// Returns the octets of all remaining arguments, or `None` if an allocation failed.
+/// Parses the octets of all remaining arguments. Returns `None` if an allocation failed.
 fn all_octets(alloc: Global, names: &Names, words: &mut Words) -> Option<Vec<Vec<u8>>> {
     let mut all = Vec::new(alloc);
     for _ in 0..MOST_ARGUMENTS {
@@ -20,7 +20,7 @@ fn all_octets(alloc: Global, names: &Names, words: &mut Words) -> Option<Vec<Vec
     Some(all)
 }
 
-/// Returns the octets of each chunk, or `None` if an allocation failed.
+/// Returns the chunks as slices, or `None` if an allocation failed.
 fn slices_of(alloc: Global, pieces: &[Vec<u8>]) -> Option<Vec<&[u8]>> {
     let mut slices = Vec::new(alloc);
     for piece in pieces {
@@ -29,7 +29,7 @@ fn slices_of(alloc: Global, pieces: &[Vec<u8>]) -> Option<Vec<&[u8]>> {
     Some(slices)
 }
 
-/// Prints the result for chunks.
+/// Prints the result of unpacking chunks.
 fn print_end(out: &mut Answers, answer: Result<(Unpacked, u64), Refusal>) {
     match answer {
         Ok((got, used)) => {
@@ -40,7 +40,7 @@ fn print_end(out: &mut Answers, answer: Result<(Unpacked, u64), Refusal>) {
     }
 }
 
-/// Prints the result for the stream of chunks, and its lines.
+/// Prints the result for the stream that chunks form, and the lines of its story.
 fn print_taken(out: &mut Answers, alloc: Global, limits: Limits, pieces: &[&[u8]]) {
     let mut lines = Lines::new(alloc);
     let Ok(unpacker) = Unpacker::new(alloc, limits) else {
@@ -51,7 +51,7 @@ fn print_taken(out: &mut Answers, alloc: Global, limits: Limits, pieces: &[&[u8]
     print_lines(out, &lines);
 }
 
-/// Prints the result for the stream of the remaining chunks. Returns `None` if an allocation
+/// Prints the result for the stream that the remaining chunks form. Returns `None` if an allocation
 /// failed.
 fn print_left(out: &mut Answers, alloc: Global, names: &Names, words: &mut Words) -> Option<()> {
     let limits = limits_of(words);
@@ -61,7 +61,7 @@ fn print_left(out: &mut Answers, alloc: Global, names: &Names, words: &mut Words
     Some(())
 }
 
-/// Prints the result for the stream of the remaining chunks.
+/// Prints the result for the stream that the remaining chunks form.
 pub(crate) fn print_pieces(out: &mut Answers, alloc: Global, names: &Names, words: &mut Words) {
     if print_left(out, alloc, names, words).is_none() {
         out.lack_memory();

@@ -15,8 +15,8 @@ fn size_of(word: &[u8]) -> Option<Size> {
     Some(Size::Unknown(Some(most)))
 }
 
-/// Parses a plan from the next two words: the octets of a full subfile, and the size. Returns
-/// `None` if it is invalid.
+/// Parses a plan from the next two words: the size of a full subfile, and the size of the object.
+/// Returns `None` if the plan is invalid.
 fn plan_of(words: &mut Words) -> Option<Plan> {
     let subfile = words.number();
     let size = size_of(words.word());
@@ -26,7 +26,7 @@ fn plan_of(words: &mut Words) -> Option<Plan> {
     Plan::new(subfile, size?)
 }
 
-/// Parses a plan from the next two words. If it is invalid, prints that.
+/// Parses a plan from the next two words. If the plan is invalid, prints that.
 pub(crate) fn told_plan(out: &mut Answers, words: &mut Words) -> Option<Plan> {
     let plan = plan_of(words);
     if plan.is_none() {

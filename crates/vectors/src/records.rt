@@ -1,4 +1,4 @@
-//! Questions about records that are checked, and envelopes that are read and built.
+//! Questions about records that are checked, and about envelopes that are read and built.
 
 ghost use Rattle.std.specs.Prelude.{◌≢◌, length, OnOk};
 ghost use Rattle.iim_fields.specs.States.Standing.{IsBetweenDatasets, IsInsideDataset, AcceptsHead};
@@ -11,7 +11,8 @@ use std::alloc::Global;
 use std::cmp::Ordering;
 use vectors_layers::{Answers, Names, Words};
 
-/// A dataset at the beginning of octets, and the octets after it. The data may be incomplete.
+/// A dataset at the beginning of octets, and the octets after that dataset. Its data may be
+/// incomplete.
 #[derive(Clone, Copy)]
 struct Front<'o> {
     head: Head,
@@ -39,8 +40,8 @@ fn split_head(octets: &[u8]) -> Option<(Head, &[u8])> {
     Some((head, after))
 }
 
-/// Parses the first dataset. Returns `None` if there are no octets, or they do not begin with a
-/// tag. The data of a subfile are not in the octets.
+/// Parses the first dataset. Returns `None` if there are no octets, or if they do not begin with a
+/// tag. The data of a subfile are left out of the octets.
 fn split_front<'o>(text: &mut Answers, octets: &'o [u8]) -> Option<Front<'o>> {
     if octets.is_empty() {
         return None;
@@ -58,7 +59,8 @@ fn split_front<'o>(text: &mut Answers, octets: &'o [u8]) -> Option<Front<'o>> {
     Some(Front { head, data, rest })
 }
 
-/// Parses the first dataset with all of its data. Returns `None` if there are too few octets.
+/// Parses the first dataset, whose data must be complete. Returns `None` if there are too few
+/// octets.
 fn split_whole<'o>(text: &mut Answers, octets: &'o [u8]) -> Option<Front<'o>> {
     let front = split_front(text, octets)?;
     if front.is_whole() {
@@ -97,7 +99,7 @@ fn give(fields: &mut Fields, head: Head, octets: &[u8], one_by_one: bool)
     }
 }
 
-/// Passes a dataset with these data. Returns the number that it encodes.
+/// Passes a dataset with these data. Returns the number that the dataset encodes.
 fn pass(
     fields: &mut Fields,
     head: Head,
@@ -118,7 +120,7 @@ fn pass(
     fields.close()
 }
 
-/// Passes octets of the dataset in progress, if they are not more than its head allows.
+/// Passes octets of the dataset in progress, if the head allows that many.
 fn give_some(fields: &mut Fields, head: Head, octets: &[u8])
     requires inside { IsInsideDataset fields.old head head.count }
     requires value { head.rec ≢ 8 }
@@ -128,7 +130,7 @@ fn give_some(fields: &mut Fields, head: Head, octets: &[u8])
     }
 }
 
-/// Begins a dataset of which only these data were received. Returns its error.
+/// Begins a dataset, of which only these data were received. Returns the error, or `None`.
 fn begin(fields: &mut Fields, head: Head, data: &[u8]) -> Option<FieldFault>
     requires { IsBetweenDatasets fields.old }
 {
@@ -141,7 +143,8 @@ fn begin(fields: &mut Fields, head: Head, data: &[u8]) -> Option<FieldFault>
     None
 }
 
-/// Passes the datasets that the octets encode, and prints their numbers, up to the first error.
+/// Passes the datasets that the octets encode, up to the first error, and prints the numbers that
+/// the datasets encode.
 fn pass_datasets(text: &mut Answers, fields: &mut Fields, octets: &[u8], one_by_one: bool)
     requires { IsBetweenDatasets fields.old }
 {
@@ -210,7 +213,7 @@ fn read_fields(
     Some(fields)
 }
 
-/// Checks a dataset with these data. Returns the number that it encodes.
+/// Checks a dataset with these data. Returns the number that the dataset encodes.
 fn check(check: &mut RecordCheck, head: Head, data: &[u8]) -> Result<Option<u64>, FieldFault>
     requires { AcceptsHead check.old }
     ensures { OnOk result (AcceptsHead check.new) }
@@ -224,7 +227,8 @@ fn check(check: &mut RecordCheck, head: Head, data: &[u8]) -> Result<Option<u64>
     check.value(data)
 }
 
-/// Checks the datasets that the octets encode, and prints their numbers, up to the first error.
+/// Checks the datasets that the octets encode, up to the first error, and prints the numbers that
+/// the datasets encode.
 fn check_datasets(text: &mut Answers, records: &mut RecordCheck, octets: &[u8])
     requires { AcceptsHead records.old }
 {
@@ -252,7 +256,7 @@ fn check_datasets(text: &mut Answers, records: &mut RecordCheck, octets: &[u8])
     }
 }
 
-/// Prints the result of a check of these datasets, without a reader.
+/// Prints the result of checking these datasets without a reader.
 fn print_check(out: &mut Answers, octets: &[u8]) {
     let mut records = RecordCheck::new();
     check_datasets(out, &mut records, octets);
@@ -288,7 +292,7 @@ fn add_datasets(text: &mut Answers, builder: &mut EnvelopeBuilder, octets: &[u8]
     text.line("added");
 }
 
-/// Prints the limit that these numbers of octets and fields exceed, or `none`.
+/// Prints the limit that these numbers of octets and datasets exceed, or `none`.
 fn print_passed(out: &mut Answers, words: &mut Words) {
     let limits = limits_of(words);
     let octets = words.number();
@@ -307,7 +311,7 @@ pub(crate) struct Envelopes {
     alloc: Global,
     builder: Option<EnvelopeBuilder>,
     fields: Option<Fields>,
-    /// The last envelope is the one that is viewed.
+    /// The envelopes. Questions refer to the last one.
     envelopes: Vec<Envelope>,
 }
 
@@ -322,7 +326,7 @@ impl Envelopes {
         }
     }
 
-    /// Reads datasets in one chunk each, and octet by octet, and stores the reader.
+    /// Reads datasets twice, in one chunk for each and octet by octet, and stores the reader.
     fn read(&mut self, out: &mut Answers, limits: Limits, octets: &[u8]) {
         let mut each = Answers::new(self.alloc);
         let _ = read_fields(&mut each, self.alloc, limits, octets, true);
@@ -352,7 +356,7 @@ impl Envelopes {
         }
     }
 
-    /// Takes the envelope of the reader, and prints whether there is one.
+    /// Takes the envelope out of the reader. Prints whether there is one.
     fn take_envelope(&mut self, out: &mut Answers) {
         let Some(fields) = self.fields.take() else {
             out.fail("nothing is read");
@@ -375,7 +379,7 @@ impl Envelopes {
         }
     }
 
-    /// Takes the envelope of the builder, or prints what is missing.
+    /// Takes the envelope out of the builder, or prints which dataset is missing.
     fn finish(&mut self, out: &mut Answers) {
         let Some(builder) = self.builder.take() else {
             out.fail("nothing is built");
@@ -390,7 +394,7 @@ impl Envelopes {
         }
     }
 
-    /// Returns the last envelope, or `None` and an error if there is no envelope.
+    /// Returns the last envelope. Returns `None` and reports an error if there is none.
     fn last(&self, out: &mut Answers) -> Option<&Envelope> {
         let last = self.envelopes.last();
         if last.is_none() {
@@ -406,7 +410,7 @@ impl Envelopes {
         self.read(out, limits, octets.as_slice())
     }
 
-    /// Creates a builder, which replaces the previous one.
+    /// Creates a builder, which replaces the previous builder.
     fn build(&mut self, out: &mut Answers, words: &mut Words) {
         match EnvelopeBuilder::new(self.alloc, limits_of(words)) {
             Ok(builder) => self.builder = Some(builder),
@@ -478,7 +482,8 @@ impl Envelopes {
         true
     }
 
-    /// Replies to a question about envelopes. Returns false if the word is not one of them.
+    /// Replies to a question about envelopes. Returns `false` if `word` is not the name of such a
+    /// question.
     fn answer_views(&mut self, out: &mut Answers, word: &str, words: &mut Words) -> bool {
         match word {
             "views" => self.print_views(out),
@@ -494,7 +499,7 @@ impl Envelopes {
     }
 }
 
-/// Compares two ids: less, equal or greater.
+/// Returns the result of comparing two ids: less, equal or greater.
 fn order_sign(id: &EnvelopeId, other: &EnvelopeId) -> &'static str {
     let order = id.cmp(other);
     if id.partial_cmp(other) != Some(order) || (id == other) != order.is_eq() {
@@ -507,7 +512,7 @@ fn order_sign(id: &EnvelopeId, other: &EnvelopeId) -> &'static str {
     }
 }
 
-/// Prints how an id compares to those of the envelopes.
+/// Prints how an id compares to the ids of the envelopes.
 fn print_order(out: &mut Answers, id: &EnvelopeId, envelopes: &[Envelope]) {
     out.put(" ");
     for other in envelopes {
@@ -516,7 +521,7 @@ fn print_order(out: &mut Answers, id: &EnvelopeId, envelopes: &[Envelope]) {
     out.end();
 }
 
-/// Prints an id, and how it compares to those of the envelopes.
+/// Prints an id, and how it compares to the ids of the envelopes.
 fn print_id(out: &mut Answers, envelope: &Envelope, envelopes: &[Envelope]) {
     let Ok(id) = envelope.id().clone() else {
         out.lack_memory();
@@ -527,14 +532,14 @@ fn print_id(out: &mut Answers, envelope: &Envelope, envelopes: &[Envelope]) {
     print_order(out, &id, envelopes);
 }
 
-/// Prints the id of each envelope, and how it compares to each.
+/// Prints the id of each envelope, and how it compares to the ids of all envelopes.
 fn print_ids(out: &mut Answers, envelopes: &[Envelope]) {
     for envelope in envelopes {
         print_id(out, envelope, envelopes);
     }
 }
 
-/// Prints which envelopes are equal to this one.
+/// Prints which of the envelopes are equal to this one.
 fn print_sames(out: &mut Answers, envelope: &Envelope, envelopes: &[Envelope]) {
     out.put("  ");
     for other in envelopes {
@@ -543,7 +548,7 @@ fn print_sames(out: &mut Answers, envelope: &Envelope, envelopes: &[Envelope]) {
     out.end();
 }
 
-/// Prints for each envelope which ones are equal to it.
+/// Prints for each envelope which of the envelopes are equal to it.
 fn print_same(out: &mut Answers, envelopes: &[Envelope]) {
     for envelope in envelopes {
         print_sames(out, envelope, envelopes);

@@ -1,4 +1,4 @@
-//! The content of scripts.
+//! Questions about scripts.
 
 use iim_fields::{Envelope, Limits};
 use iim_script::{Script, ScriptFault, read_script};
@@ -7,7 +7,7 @@ use vectors_layers::{Answers, tell_header, tell_lines};
 use wire_message::MessageHead;
 use wire_story::{Lines, TextReader};
 
-/// The content of a script, with the lines of its story collected.
+/// The contents of a script, with the lines of its story.
 #[derive(Drop)]
 pub(crate) struct Value {
     pub(crate) envelope: Envelope,
@@ -24,7 +24,8 @@ fn lines_of(alloc: Global, text: &[u8]) -> Option<Lines> {
     Some(lines)
 }
 
-/// Returns the content of a script, with its lines.
+/// Returns the contents of a script, with the lines of its story. Returns `None` if an allocation
+/// failed.
 fn collected(alloc: Global, script: Script<'_>) -> Option<Value> {
     Some(Value {
         lines: lines_of(alloc, script.text)?,
@@ -35,7 +36,7 @@ fn collected(alloc: Global, script: Script<'_>) -> Option<Value> {
     })
 }
 
-/// Prints the content of a script, and returns it with its lines.
+/// Prints the contents of a script. Returns them with the lines of the story.
 fn told_script(alloc: Global, out: &mut Answers, script: Script<'_>) -> Option<Value> {
     let told = collected(alloc, script);
     match &told {
@@ -45,7 +46,7 @@ fn told_script(alloc: Global, out: &mut Answers, script: Script<'_>) -> Option<V
     told
 }
 
-/// Prints the content of a script, and returns it; or prints its error.
+/// Parses a script, and prints its contents or its error. Returns the contents.
 pub(crate) fn told(alloc: Global, out: &mut Answers, octets: &[u8]) -> Option<Value> {
     match read_script(alloc, Limits::WIRE, octets) {
         Ok(script) => told_script(alloc, out, script),
@@ -66,7 +67,7 @@ fn tell_fault(out: &mut Answers, fault: ScriptFault) {
     out.end();
 }
 
-/// Prints the content of a script.
+/// Prints the contents of a script.
 fn tell(out: &mut Answers, script: &Value) {
     for (rec, set, octets) in script.envelope.fields() {
         out.field_line("  field ", rec, set, octets);

@@ -1,4 +1,5 @@
-//! A stream and its one result: in one chunk, in several, and continued from saved states.
+//! Questions about streams: a stream has the same result in one chunk, in several chunks, and when
+//! it is continued from a saved state.
 
 use crate::cuts::{Cuts, LONGEST, feed_cut};
 use crate::lines::print_line;
@@ -12,7 +13,7 @@ use std::alloc::Global;
 use vectors_layers::{Answers, Names, Words};
 use wire_story::{Discard, Lines};
 
-/// The approximate number of states at which a stream is saved.
+/// The approximate number of states that are saved in a stream.
 const PLACES: usize = 400;
 
 /// A stream, and the limits under which it is read.
@@ -29,16 +30,16 @@ struct Stream<'o> {
 /// The result for a stream.
 #[derive(Drop)]
 struct Told {
-    /// The length of the envelope, or the refusal. A truncated stream is a refusal.
+    /// The length of the envelope, or the refusal. A truncated stream has a refusal too.
     answer: Result<u64, Refusal>,
     /// The lines of the text, with an LF after each.
     text: Vec<u8>,
-    /// The value of the envelope.
+    /// The contents of the envelope, if it is complete.
     value: Option<Unpacked>,
 }
 
 impl Told {
-    /// Checks whether the result has this value.
+    /// Checks whether the result has these contents.
     fn has(&self, got: &Unpacked) -> bool {
         match &self.value {
             Some(value) => are_same(got, value),
@@ -46,7 +47,7 @@ impl Told {
         }
     }
 
-    /// Checks whether another result has the same value, or neither has one.
+    /// Checks whether two results have the same contents, or neither has any.
     fn has_value_of(&self, other: &Told) -> bool {
         match &other.value {
             Some(value) => self.has(value),
@@ -54,7 +55,7 @@ impl Told {
         }
     }
 
-    /// Checks whether another result is equal.
+    /// Checks whether two results are equal.
     fn is(&self, other: &Told) -> bool {
         self.has_value_of(other)
             && self.answer == other.answer
@@ -69,8 +70,8 @@ impl Told {
         }
     }
 
-    /// Checks whether an intake had the same result: its envelope or error, the number of octets,
-    /// and whether it was given no octets.
+    /// Checks whether an intake has the same result: the envelope or the error, the number of
+    /// octets, and whether any octet was received.
     fn is_given(
         &self,
         answer: Result<Option<Unpacked>, IntakeFault>,
@@ -111,7 +112,7 @@ fn print_text(out: &mut Answers, text: &[u8]) {
     }
 }
 
-/// Appends lines to a text that is empty or ends inside a line, with an LF after each. Returns
+/// Appends lines to a text, with an LF after each. The text is empty or ends inside a line. Returns
 /// `None` if an allocation failed.
 fn push_lines(text: &mut Vec<u8>, lines: &Lines) -> Option<()> {
     if matches!(text.last(), Some(b'\n')) {
@@ -124,8 +125,8 @@ fn push_lines(text: &mut Vec<u8>, lines: &Lines) -> Option<()> {
     Some(())
 }
 
-/// Returns the lines of a text, those before a ticket and those after it, with an LF after each.
-/// Returns `None` if an allocation failed.
+/// Joins the lines before a ticket and those after it, with an LF after each line. Returns `None`
+/// if an allocation failed.
 fn text_of(alloc: Global, before: &Lines, lines: &Lines) -> Option<Vec<u8>> {
     let mut text = Vec::new(alloc);
     push_lines(&mut text, before)?;
@@ -133,7 +134,7 @@ fn text_of(alloc: Global, before: &Lines, lines: &Lines) -> Option<Vec<u8>> {
     Some(text)
 }
 
-/// Reports an error, with this number of octets, if a check does not hold.
+/// Reports `fault`, with this number of octets, unless `holds` is true.
 fn hold(out: &mut Answers, octets: u64, holds: bool, fault: &'static str) {
     if !holds {
         out.number_line("  not at ", octets);
@@ -141,8 +142,8 @@ fn hold(out: &mut Answers, octets: u64, holds: bool, fault: &'static str) {
     }
 }
 
-/// Checks that an unpacker that rejected an octet rejects every call from then on, with the same
-/// octet, and has no ticket.
+/// Checks that an unpacker that has rejected an octet rejects every later call with the same octet,
+/// and has no ticket.
 fn check_failed(out: &mut Answers, alloc: Global, unpacker: &mut Unpacker, refusal: Refusal) {
     let at = refusal.octet;
     let failed = Refusal {
@@ -171,8 +172,8 @@ fn check_failed(out: &mut Answers, alloc: Global, unpacker: &mut Unpacker, refus
     hold(out, at, has_failed, "a ticket after a refusal")
 }
 
-/// Checks whether two unpackers have consumed the same number of octets, are both done or failed
-/// or neither, and have the same result at the end of input.
+/// Checks whether two unpackers have consumed the same number of octets, are both complete, both
+/// failed or neither, and have the same result at the end of the input.
 fn answer_alike(one: &Unpacker, other: &Unpacker) -> bool {
     one.octets() == other.octets()
         && one.is_done() == other.is_done()
@@ -180,7 +181,7 @@ fn answer_alike(one: &Unpacker, other: &Unpacker) -> bool {
         && one.end_of_input() == other.end_of_input()
 }
 
-/// Checks whether an unpacker has a ticket.
+/// Checks whether the ticket of an unpacker is this one.
 fn has_ticket(alloc: Global, unpacker: &Unpacker, ticket: &[u8]) -> bool {
     match unpacker.save(alloc) {
         Ok(saved) => saved.as_slice() == ticket,
@@ -188,8 +189,8 @@ fn has_ticket(alloc: Global, unpacker: &Unpacker, ticket: &[u8]) -> bool {
     }
 }
 
-/// Returns the final result of an unpacker, if no octets follow: the length of the envelope, or
-/// the refusal. `at` is the number of octets before the last call.
+/// Returns the result of an unpacker at the end of the input: the length of the envelope, or the
+/// refusal. `at` is the number of octets before the last call.
 fn settled(
     out: &mut Answers,
     alloc: Global,
@@ -217,8 +218,8 @@ fn settled(
     Ok(used)
 }
 
-/// Returns the result of an unpacker with this answer: its text has the lines before a ticket and
-/// those after it. Returns `None` if an allocation failed.
+/// Returns the result of an unpacker, with the lines before a ticket and those after it. Returns
+/// `None` if an allocation failed.
 fn told_by(
     alloc: Global,
     unpacker: Unpacker,
@@ -242,7 +243,7 @@ fn print_told(out: &mut Answers, whole: &Told) {
     print_text(out, whole.text.as_slice());
 }
 
-/// Prints how many tickets had the same result.
+/// Prints the number of tickets from which the result was the same.
 fn print_places(out: &mut Answers, places: u64) {
     out.number("  the same in pieces of 1 to ", LONGEST as u64);
     out.number(", and from ", places);
@@ -250,7 +251,7 @@ fn print_places(out: &mut Answers, places: u64) {
 }
 
 impl Stream<'_> {
-    /// Feeds all octets at once, or in chunks of a size with an empty one before each.
+    /// Feeds all octets at once, or in chunks of a given size with an empty chunk before each.
     fn feed(
         self,
         out: &mut Answers,
@@ -265,8 +266,8 @@ impl Stream<'_> {
         settled(out, self.alloc, unpacker, 0, answer)
     }
 
-    /// Returns the result for the octets, at once or in such chunks, or `None` if an allocation
-    /// failed.
+    /// Returns the result for the octets, at once or in chunks of a given size. Returns `None` if
+    /// an allocation failed.
     fn told(self, out: &mut Answers, size: Option<usize>) -> Option<Told> {
         let mut unpacker = Unpacker::new(self.alloc, self.limits).ok()?;
         let mut lines = Lines::new(self.alloc);
@@ -275,7 +276,7 @@ impl Stream<'_> {
         told_by(self.alloc, unpacker, &before, &lines, answer)
     }
 
-    /// Checks that chunks of each size have the same result as the whole.
+    /// Checks that the result is the same for chunks of each size.
     fn check_pieces(self, out: &mut Answers, whole: &Told) {
         for size in 1..=LONGEST {
             let is_same = match self.told(out, Some(size)) {
@@ -286,8 +287,9 @@ impl Stream<'_> {
         }
     }
 
-    /// Returns the unpacker that is restored from the ticket of another. It must answer as that
-    /// one, and have the same ticket. Returns `None` if there is no ticket, or it is not restored.
+    /// Restores an unpacker from the ticket of another. It must have the same result at the end of
+    /// the input and the same ticket. Returns `None` if there is no ticket, or if it cannot be
+    /// restored.
     fn restored(self, out: &mut Answers, saved: &Unpacker) -> Option<Unpacker> {
         let at = saved.octets();
         let ticket = saved.save(self.alloc).ok()?;
@@ -299,8 +301,8 @@ impl Stream<'_> {
         Some(unpacker)
     }
 
-    /// Returns the result for the remaining octets, from the ticket of an unpacker that consumed
-    /// those before them, or `None` if it has no ticket.
+    /// Restores an unpacker from the ticket of another, and feeds the remaining octets to it.
+    /// Returns the result, or `None` if there is no ticket.
     fn continued(
         self,
         out: &mut Answers,
@@ -315,8 +317,8 @@ impl Stream<'_> {
         told_by(self.alloc, unpacker, before, &lines, answer)
     }
 
-    /// Checks that the remaining octets have the same result as the whole by an intake, from the
-    /// ticket of an unpacker that is not done.
+    /// Restores an unpacker that is not complete from its ticket, and feeds the remaining octets to
+    /// it by an intake. Checks that the result is that of the whole stream.
     fn check_intake(self, out: &mut Answers, saved: &Unpacker, rest: &[u8], whole: &Told) {
         let Some(unpacker) = self.restored(out, saved) else {
             out.fail("no ticket");
@@ -333,8 +335,8 @@ impl Stream<'_> {
         hold(out, at, is_same, "another answer by an intake")
     }
 
-    /// Checks that the remaining octets have the same result as the whole, from the ticket of an
-    /// unpacker that consumed those before them.
+    /// Restores an unpacker from its ticket, and feeds the remaining octets to it. Checks that the
+    /// result is that of the whole stream.
     fn check_rest(
         self,
         out: &mut Answers,
@@ -356,8 +358,8 @@ impl Stream<'_> {
         self.check_intake(out, saved, rest, whole)
     }
 
-    /// Saves the state after every `size` octets, and checks the result from each. Returns the
-    /// number of states.
+    /// Saves the state after every `size` octets, and checks the result of continuing from each.
+    /// Returns the number of states.
     fn check_places(
         self,
         out: &mut Answers,
@@ -380,8 +382,8 @@ impl Stream<'_> {
         places
     }
 
-    /// Saves up to 400 states, or each of them if they are few, and checks the result from each.
-    /// Returns the number of states.
+    /// Saves up to 400 states, or all states if there are fewer, and checks the result of
+    /// continuing from each. Returns the number of states.
     fn check_tickets(self, out: &mut Answers, whole: &Told) -> u64 {
         let size = (self.octets.len() / PLACES).saturating_add(1);
         let Ok(mut saved) = Unpacker::new(self.alloc, self.limits) else {
@@ -392,8 +394,8 @@ impl Stream<'_> {
         self.check_places(out, size, &mut saved, &mut before, whole)
     }
 
-    /// Prints the result for the octets at once. Reports an error if chunks or a ticket have
-    /// another result.
+    /// Prints the result for the octets in one chunk. Reports an error if the result differs in
+    /// several chunks or from a ticket.
     fn print(self, out: &mut Answers) {
         let Some(whole) = self.told(out, None) else {
             out.lack_memory();

@@ -1,4 +1,4 @@
-//! Questions about tickets of partial envelopes.
+//! Questions about tickets.
 
 use crate::values::limits_of;
 use iim_fields::Limits;
@@ -26,7 +26,7 @@ fn print_hexadecimal(out: &mut Answers, octets: &[u8]) {
     out.end();
 }
 
-/// Prints a ticket, or `yes` if it is the expected one.
+/// Prints a ticket, or `yes` if it is the expected ticket.
 fn print_saved(out: &mut Answers, ticket: &[u8], wanted: Option<&[u8]>) {
     match wanted {
         Some(wanted) if wanted == ticket => out.line("yes"),
@@ -34,7 +34,8 @@ fn print_saved(out: &mut Answers, ticket: &[u8], wanted: Option<&[u8]>) {
     }
 }
 
-/// Prints the ticket of an unpacker, or why it has none. Prints `yes` if it is the expected one.
+/// Prints the ticket of an unpacker, or why there is none. Prints `yes` if it is the expected
+/// ticket.
 pub(crate) fn print_ticket(
     out: &mut Answers,
     alloc: Global,
@@ -50,7 +51,7 @@ pub(crate) fn print_ticket(
     }
 }
 
-/// Prints `restored`, and the ticket of the unpacker if it is not the expected one.
+/// Prints `restored`, followed by the ticket of the unpacker unless it is the expected ticket.
 fn print_again(out: &mut Answers, alloc: Global, unpacker: &Unpacker, wanted: &[u8]) {
     out.line("restored");
     if unpacker.is_failed() || unpacker.octets() != 0 {
@@ -65,8 +66,8 @@ fn print_again(out: &mut Answers, alloc: Global, unpacker: &Unpacker, wanted: &[
     }
 }
 
-/// Restores a ticket and saves it again. Prints `restored`, and the ticket if it is not the
-/// expected one; or the error.
+/// Restores an unpacker from a ticket, and saves it again. Prints `restored`, followed by the new
+/// ticket unless it is the expected one; or the error.
 fn print_restored(out: &mut Answers, alloc: Global, limits: Limits, ticket: &[u8], wanted: &[u8]) {
     match Unpacker::restore(alloc, limits, ticket, 0) {
         Ok(unpacker) => print_again(out, alloc, &unpacker, wanted),
@@ -74,7 +75,8 @@ fn print_restored(out: &mut Answers, alloc: Global, limits: Limits, ticket: &[u8
     }
 }
 
-/// Appends whether a ticket is restored: `restored`, or the number and the name of the error.
+/// Appends the result of restoring an unpacker from a ticket: `restored`, or the number and the
+/// name of the error.
 fn put_restored(out: &mut Answers, alloc: Global, limits: Limits, ticket: &[u8]) {
     match Unpacker::restore(alloc, limits, ticket, 0) {
         Ok(_) => out.put("restored"),
@@ -82,12 +84,12 @@ fn put_restored(out: &mut Answers, alloc: Global, limits: Limits, ticket: &[u8])
     }
 }
 
-/// A ticket without the number of octets of the object that were received.
+/// A ticket from which the number of octets of the object was removed.
 #[derive(Clone, Copy)]
 struct OpenTicket<'t> {
     /// The octets before the number.
     front: &'t [u8],
-    /// The octets after it.
+    /// The octets after the number.
     back: &'t [u8],
 }
 
@@ -107,7 +109,7 @@ impl OpenTicket<'_> {
         Some(ticket)
     }
 
-    /// Prints whether the ticket with a number is restored.
+    /// Prints the result of restoring an unpacker from the ticket with this number.
     fn print(self, out: &mut Answers, alloc: Global, limits: Limits, number: u64) {
         let Some(ticket) = self.with(alloc, number) else {
             out.lack_memory();
@@ -119,7 +121,8 @@ impl OpenTicket<'_> {
         out.end();
     }
 
-    /// Prints whether the ticket is restored with each of the remaining numbers.
+    /// Prints the result of restoring an unpacker from the ticket with each of the remaining
+    /// numbers.
     fn print_each(self, out: &mut Answers, alloc: Global, limits: Limits, words: &mut Words) {
         for _ in 0..MOST_ARGUMENTS {
             if !words.has_more() {
@@ -130,7 +133,7 @@ impl OpenTicket<'_> {
     }
 }
 
-/// Prints the data of a partial dataset.
+/// Prints the data in progress of a dataset.
 fn print_data(out: &mut Answers, set: u8, count: u64, left: u64, taken: &[u8]) {
     out.number("  data ", u64::from(set));
     out.number(" count ", count);
@@ -152,7 +155,8 @@ fn print_phase(out: &mut Answers, phase: &TicketPhase) {
     }
 }
 
-/// Prints the numbers of record 7, and how much of the object was received.
+/// Prints the numbers of record 7, and the numbers of octets and of heads of the object that were
+/// received.
 fn print_object(out: &mut Answers, numbers: [Option<u64>; 4], taken: u64, heads: u64) {
     out.put("  numbers");
     for number in numbers {
@@ -201,7 +205,7 @@ fn print_parts(out: &mut Answers, ticket: &[u8]) {
     }
 }
 
-/// Prints with which numbers of octets of the object a ticket is restored.
+/// Prints for which numbers of octets of the object an unpacker can be restored from a ticket.
 fn print_counts(out: &mut Answers, alloc: Global, names: &Names, words: &mut Words) {
     let limits = limits_of(words);
     let front = words.octets(names);
@@ -213,8 +217,8 @@ fn print_counts(out: &mut Answers, alloc: Global, names: &Names, words: &mut Wor
     ticket.print_each(out, alloc, limits, words)
 }
 
-/// Restores a ticket, and saves it again. The expected ticket is the next argument or, without
-/// one, the same ticket.
+/// Restores an unpacker from a ticket, and saves it again. The expected ticket is the next argument
+/// or, without an argument, the same ticket.
 fn print_next(out: &mut Answers, alloc: Global, names: &Names, words: &mut Words) {
     let limits = limits_of(words);
     let ticket = words.octets(names);
@@ -226,7 +230,8 @@ fn print_next(out: &mut Answers, alloc: Global, names: &Names, words: &mut Words
     }
 }
 
-/// Replies to a question about tickets alone. Returns false if the word is not one of them.
+/// Replies to a question about tickets alone. Returns `false` if `word` is not the name of such a
+/// question.
 pub(crate) fn answer(
     out: &mut Answers,
     alloc: Global,

@@ -32,7 +32,7 @@ fn print_progress(out: &mut Answers, answer: Result<Progress, Refusal>) {
 }
 
 impl Bench {
-    /// Creates the state for a new envelope, under the program's limits. Returns `None` if an
+    /// Creates an unpacker for a new envelope, with the limits of the command. Returns `None` if an
     /// allocation failed.
     pub(crate) fn new(alloc: Global) -> Option<Bench> {
         Some(Bench {
@@ -43,7 +43,7 @@ impl Bench {
         })
     }
 
-    /// Takes the unpacker, and puts a new one in its place. Returns `None` if an allocation
+    /// Takes the unpacker out, and puts a new one in its place. Returns `None` if an allocation
     /// failed.
     fn take_unpacker(&mut self, out: &mut Answers) -> Option<Unpacker> {
         match Unpacker::new(self.alloc, self.limits) {
@@ -55,7 +55,7 @@ impl Bench {
         }
     }
 
-    /// Begins a new envelope, under these limits.
+    /// Begins a new envelope with these limits.
     fn renew(&mut self, out: &mut Answers, limits: Limits) {
         match Unpacker::new(self.alloc, limits) {
             Ok(unpacker) => self.unpacker = unpacker,
@@ -78,14 +78,14 @@ impl Bench {
         print_progress(out, answer);
     }
 
-    /// Feeds the octets of the next word in chunks.
+    /// Feeds the octets of the next word, split into chunks.
     fn cut(&mut self, out: &mut Answers, names: &Names, words: &mut Words, cuts: Cuts) {
         let octets = words.octets(names);
         let answer = feed_cut(&mut self.unpacker, octets.as_slice(), cuts, &mut self.lines);
         print_progress(out, answer);
     }
 
-    /// Replaces the unpacker by one that is restored from its ticket. Returns `None` if that
+    /// Replaces the unpacker with one that is restored from its ticket. Returns `None` if that
     /// fails.
     fn carry_over(&mut self) -> Option<()> {
         let at = self.unpacker.octets();
@@ -95,8 +95,8 @@ impl Bench {
         Some(())
     }
 
-    /// Feeds octet by octet, each to an unpacker that is restored from the ticket of the one
-    /// before it.
+    /// Feeds octets one by one, each to an unpacker that is restored from the ticket of the
+    /// previous one.
     fn carry_octets(&mut self, out: &mut Answers, octets: &[u8]) -> Result<Progress, Refusal> {
         let mut sum = 0usize;
         for octet in octets {
@@ -113,14 +113,14 @@ impl Bench {
         Ok(Progress::More)
     }
 
-    /// Feeds the octets of the next word in this way.
+    /// Feeds the octets of the next word one by one, with a save and a restore before each.
     fn carry(&mut self, out: &mut Answers, names: &Names, words: &mut Words) {
         let octets = words.octets(names);
         let answer = self.carry_octets(out, octets.as_slice());
         print_progress(out, answer);
     }
 
-    /// Prints the value.
+    /// Prints the contents of the envelope.
     fn value(&mut self, out: &mut Answers) {
         let Some(unpacker) = self.take_unpacker(out) else {
             return;
@@ -134,7 +134,7 @@ impl Bench {
         }
     }
 
-    /// Replaces the unpacker by a restored one.
+    /// Replaces the unpacker with one that is restored from a ticket.
     fn restore(&mut self, out: &mut Answers, limits: Limits, at: u64, ticket: &[u8]) {
         match Unpacker::restore(self.alloc, limits, ticket, at) {
             Ok(unpacker) => {
@@ -146,7 +146,7 @@ impl Bench {
         }
     }
 
-    /// Restores the ticket in the next words.
+    /// Restores an unpacker from the ticket in the next words.
     fn restore_next(&mut self, out: &mut Answers, names: &Names, words: &mut Words) {
         let limits = limits_of(words);
         let at = words.number();
@@ -154,13 +154,13 @@ impl Bench {
         self.restore(out, limits, at, ticket.as_slice());
     }
 
-    /// Prints whether the ticket is the one in the next word.
+    /// Prints whether the ticket of the unpacker is the one in the next word.
     fn print_wanted(&self, out: &mut Answers, names: &Names, words: &mut Words) {
         let wanted = words.octets(names);
         print_ticket(out, self.alloc, &self.unpacker, Some(wanted.as_slice()));
     }
 
-    /// Prints the result of the unpacker if no octets follow.
+    /// Prints the result of the unpacker at the end of the input.
     fn print_end(&self, out: &mut Answers) {
         match self.unpacker.end_of_input() {
             Some(refusal) => out.tell(&refusal),
@@ -168,7 +168,8 @@ impl Bench {
         }
     }
 
-    /// Prints how many octets the unpacker consumed, and whether it is done or has failed.
+    /// Prints the number of octets that the unpacker has consumed, and whether it is complete or
+    /// has failed.
     fn print_state(&self, out: &mut Answers) {
         out.number("  octets ", self.unpacker.octets());
         out.holds(" done ", self.unpacker.is_done());
@@ -184,7 +185,8 @@ impl Bench {
         }
     }
 
-    /// Replies to a question about unpacking. Returns false if the word is not one of them.
+    /// Replies to a question about unpacking. Returns `false` if `word` is not the name of such a
+    /// question.
     pub(crate) fn answer(
         &mut self,
         out: &mut Answers,
@@ -209,8 +211,8 @@ impl Bench {
         true
     }
 
-    /// Replies to a question about the fed octets, or about all layers and causes. Returns false
-    /// if the word is not one of them.
+    /// Replies to a question about the octets that were fed, or about all layers and causes.
+    /// Returns `false` if `word` is not the name of such a question.
     fn answer_told(
         &mut self,
         out: &mut Answers,

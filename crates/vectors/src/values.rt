@@ -1,4 +1,4 @@
-//! Parses limits, and prints the value of an envelope.
+//! Parses limits, and prints the contents of an envelope.
 
 use iim_fields::Limits;
 use iim_unpack::Unpacked;
@@ -11,7 +11,7 @@ pub(crate) fn limits_of(words: &mut Words) -> Limits {
     Limits { octets, fields }
 }
 
-/// Prints that an envelope is complete, and its length.
+/// Prints that an envelope is complete, and prints its length.
 pub(crate) fn print_done(out: &mut Answers, octets: u64) {
     out.number_line("  done ", octets);
 }

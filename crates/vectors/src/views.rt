@@ -1,10 +1,10 @@
-//! Prints the views of an envelope.
+//! Prints the fields of an envelope by the methods of the library.
 
 use iim_fields::{DataIter, Envelope, FieldIter};
 use jiff::Timestamp;
 use vectors_layers::Answers;
 
-/// Prints a view of octets.
+/// Prints the octets of a field.
 fn print_octets(out: &mut Answers, name: &str, octets: &[u8]) {
     out.put("  ");
     out.put(name);
@@ -12,14 +12,14 @@ fn print_octets(out: &mut Answers, name: &str, octets: &[u8]) {
     out.end();
 }
 
-/// Prints that a view is absent.
+/// Prints that a field is missing.
 fn print_none(out: &mut Answers, name: &str) {
     out.put("  ");
     out.put(name);
     out.put(" none\n");
 }
 
-/// Prints a view of octets that may be absent.
+/// Prints the octets of a field, which may be missing.
 fn print_some(out: &mut Answers, name: &str, octets: Option<&[u8]>) {
     match octets {
         Some(octets) => print_octets(out, name, octets),
@@ -27,7 +27,7 @@ fn print_some(out: &mut Answers, name: &str, octets: Option<&[u8]>) {
     }
 }
 
-/// Prints a view of an instant.
+/// Prints an instant, which may be missing.
 fn print_instant(out: &mut Answers, name: &str, instant: Option<Timestamp>) {
     match instant {
         Some(instant) => {
@@ -41,7 +41,7 @@ fn print_instant(out: &mut Answers, name: &str, instant: Option<Timestamp>) {
     }
 }
 
-/// Prints the octets of an iteration, in order.
+/// Prints the items of an iterator, in order.
 pub(crate) fn print_walk(out: &mut Answers, name: &str, walk: DataIter<'_>) {
     let mut is_none = true;
     out.put("  ");
@@ -56,7 +56,7 @@ pub(crate) fn print_walk(out: &mut Answers, name: &str, walk: DataIter<'_>) {
     out.end();
 }
 
-/// Prints the mandatory views.
+/// Prints the mandatory fields.
 fn print_mandatory(out: &mut Answers, envelope: &Envelope) {
     print_octets(out, "service", envelope.service());
     print_octets(out, "number", envelope.number());
@@ -69,7 +69,7 @@ fn print_mandatory(out: &mut Answers, envelope: &Envelope) {
     out.end();
 }
 
-/// Prints the views that may be absent.
+/// Prints the optional fields.
 fn print_optional(out: &mut Answers, envelope: &Envelope) {
     print_instant(out, "sent", envelope.sent());
     print_instant(out, "release", envelope.release());
@@ -85,7 +85,7 @@ fn print_optional(out: &mut Answers, envelope: &Envelope) {
     print_some(out, "headline", envelope.headline())
 }
 
-/// Prints the views that may be repeated.
+/// Prints the fields that may be repeated.
 fn print_repeated(out: &mut Answers, envelope: &Envelope) {
     print_walk(out, "destinations", envelope.destinations());
     print_walk(out, "products", envelope.products());
@@ -96,7 +96,7 @@ fn print_repeated(out: &mut Answers, envelope: &Envelope) {
     print_walk(out, "writers", envelope.writers())
 }
 
-/// Prints each view of an envelope.
+/// Prints each field of an envelope that has a method.
 pub(crate) fn print_views(out: &mut Answers, envelope: &Envelope) {
     print_mandatory(out, envelope);
     print_optional(out, envelope);

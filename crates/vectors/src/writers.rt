@@ -1,4 +1,4 @@
-//! The targets of a packer: memory, or a writer that fails.
+//! The targets of a packer: memory, and a writer that fails.
 
 use crate::calls::Begun;
 use iim_dataset::{FromWrite, Target};
@@ -7,7 +7,7 @@ use std::alloc::Global;
 use trials::{TrialWriter, Trouble};
 use vectors_layers::{Answers, Words};
 
-/// Memory.
+/// A target in memory.
 pub(crate) type Memory = FromWrite<Vec<u8>>;
 
 /// Creates an empty target in memory.
@@ -15,7 +15,7 @@ pub(crate) fn memory(alloc: Global) -> Memory {
     FromWrite::new(Vec::new(alloc))
 }
 
-/// A writer that accepts one octet a call, up to 512, and has trouble after some of them.
+/// A writer that accepts one octet in each call, up to 512 octets, and fails after some of them.
 pub(crate) type Trial = TrialWriter<512>;
 
 /// A target that stores what it accepted.
@@ -23,7 +23,7 @@ pub(crate) trait Keeps: Target + Drop {
     /// Returns the octets that it accepted, or `None` if an allocation failed.
     fn kept(self, alloc: Global) -> Option<Vec<u8>>;
 
-    /// Returns a packer over this target as a packer for single calls.
+    /// Converts a packer with this target to the packer that questions refer to.
     fn begun(packer: Packer<Self>) -> Begun;
 }
 
@@ -57,7 +57,8 @@ pub(crate) fn tell_kept<K: Keeps>(alloc: Global, out: &mut Answers, target: K) {
     }
 }
 
-/// Returns the writer that is interrupted after `good` octets, as many times as the next word has.
+/// Creates a writer that is interrupted after `good` octets. The number of interruptions is the
+/// next word.
 fn interrupted(words: &mut Words, good: u64) -> Option<Trial> {
     match u32::try_from(words.number()) {
         Ok(times) => Some(TrialWriter::new(good, Trouble::Interruptions(times))),
@@ -68,8 +69,9 @@ fn interrupted(words: &mut Words, good: u64) -> Option<Trial> {
     }
 }
 
-/// Parses a writer that fails from the next words: `failing K` after K octets, `interrupted K
-/// TIMES` there TIMES times. Returns `None` if there are no more words.
+/// Parses a writer that fails from the next words: `failing K` fails after K octets, and
+/// `interrupted K TIMES` is interrupted TIMES times after K octets. Returns `None` if there are no
+/// more words.
 pub(crate) fn trial_of(words: &mut Words) -> Option<Trial> {
     if !words.has_more() {
         return None;

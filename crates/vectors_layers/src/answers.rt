@@ -6,7 +6,7 @@ use std::fmt::{Debug, Display};
 use std::io::Write;
 
 /// The reply to a question. Errors, such as a failed allocation, are stored and reported at the
-/// end. So the code for a question need not check for them at each line.
+/// end, so that the code for a question need not check for them in each line.
 #[derive(Drop)]
 pub struct Answers {
     text: Vec<u8>,
@@ -63,12 +63,12 @@ impl Answers {
         self.fail(NO_MEMORY);
     }
 
-    /// Checks whether two replies have the same text.
+    /// Checks whether two replies have equal text.
     pub fn are(&self, others: &Answers) -> bool {
         self.text.as_slice() == others.text.as_slice()
     }
 
-    /// Checks whether the last line is incomplete.
+    /// Checks whether the last line has not been ended.
     pub fn is_begun(&self) -> bool {
         !matches!(self.text.last(), None | Some(b'\n'))
     }
@@ -85,14 +85,14 @@ impl Answers {
         self.add(text.as_bytes());
     }
 
-    /// Appends a value.
+    /// Appends the printed form of a value.
     pub fn show<T: Display>(&mut self, value: &T) {
         if write!(self.text, "{value}").is_err() {
             self.lack_memory();
         }
     }
 
-    /// Appends the name of a choice.
+    /// Appends the name of an enum variant.
     pub fn name<T: Debug>(&mut self, choice: &T) {
         if write!(self.text, "{choice:?}").is_err() {
             self.lack_memory();
@@ -138,8 +138,8 @@ impl Answers {
         }
     }
 
-    /// Appends octets: `-` for the empty slice, text in quotes if all are printable ASCII and none
-    /// is a quote, otherwise hexadecimal digits.
+    /// Appends octets: `-` if there are none; text in quotes if all octets are printable ASCII and
+    /// none is a quote; otherwise hexadecimal digits.
     pub fn octets(&mut self, octets: &[u8]) {
         if octets.is_empty() {
             self.put("-");
@@ -152,7 +152,7 @@ impl Answers {
         }
     }
 
-    /// Appends octets, each item after a space.
+    /// Appends items of octets, each after a space.
     pub fn each(&mut self, all: &[&[u8]]) {
         for octets in all {
             self.put(" ");
@@ -192,21 +192,21 @@ impl Answers {
         self.end();
     }
 
-    /// Appends a line with a label and a dataset: its name and its octets.
+    /// Appends a line with a label, the name of a dataset and its data.
     pub fn field_line(&mut self, label: &str, rec: u8, set: u8, octets: &[u8]) {
         self.dataset(label, rec, set);
         self.each(&[octets]);
         self.end();
     }
 
-    /// Appends a line with a displayed value.
+    /// Appends a line with the printed form of a value.
     pub fn tell<T: Display>(&mut self, line: &T) {
         self.put("  ");
         self.show(line);
         self.end();
     }
 
-    /// Appends a line with a value, or `none`.
+    /// Appends a line with the printed form of a value, or `none`.
     pub fn found<T: Display + Drop>(&mut self, found: Option<T>) {
         match found {
             Some(value) => self.tell(&value),
@@ -214,7 +214,7 @@ impl Answers {
         }
     }
 
-    /// Appends a line: `yes` if something holds, otherwise `no`.
+    /// Appends a line: `yes` if `holds` is true, otherwise `no`.
     pub fn truth(&mut self, holds: bool) {
         self.line(if holds { "yes" } else { "no" });
     }

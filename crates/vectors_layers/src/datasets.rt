@@ -1,4 +1,4 @@
-//! Questions about datasets: tags that are written, and datasets that are read in all splits into
+//! Questions about datasets: tags that are encoded, and datasets that are read in all splits into
 //! chunks.
 
 ghost use Rattle.std.specs.Prelude.{◌≡◌, ◌≢◌, ⊤, Some};
@@ -17,8 +17,8 @@ use std::alloc::Global;
 struct Record {
     answers: Answers,
     runs: u64,
-    /// The number of datasets that are still expected, the last one included, or `None` if there
-    /// is no end.
+    /// The number of datasets that are still expected, including the last one, or `None` if no
+    /// dataset is the last one.
     left: Option<u64>,
     refused: bool,
 }
@@ -73,14 +73,14 @@ impl DatasetSink for Record {
 }
 
 impl Record {
-    /// Ends a partial line.
+    /// Ends the line, unless it has been ended.
     fn end_line(&mut self) {
         if self.answers.is_begun() {
             self.answers.end();
         }
     }
 
-    /// Logs which octet is rejected, and why.
+    /// Logs which octet is rejected, and the cause.
     fn refuse(&mut self, at: usize, cause: FaultCause) {
         self.refused = true;
         self.end_line();
@@ -97,14 +97,14 @@ impl Record {
     }
 }
 
-/// A reading of datasets. `last` is the number of datasets after which it ends, if there is one.
+/// A reading of datasets. `last` is the number of datasets after which it ends, or `None`.
 #[derive(Drop)]
 struct Datasets {
     alloc: Global,
     last: Option<u64>,
 }
 
-/// Feeds the chunks up to the end of the last dataset, or to a rejected octet, and logs the number
+/// Feeds the chunks, up to the end of the last dataset or to a rejected octet, and logs the number
 /// of octets consumed.
 fn feed_pieces(reader: &mut HeadReader, record: &mut Record, octets: &[u8], cut: Cut) {
     let mut used = 0;
@@ -147,7 +147,7 @@ impl Datasets {
         record
     }
 
-    /// Prints the datasets that the octets encode, and the number of slices of data if they are
+    /// Prints the datasets that the octets encode, and the number of slices of data when they are
     /// read in one chunk.
     fn tell(&self, answers: &mut Answers, octets: &[u8]) {
         tell_reading(answers, self, octets);
@@ -161,7 +161,7 @@ impl Reading for Datasets {
     }
 }
 
-/// The octets that may follow others in datasets.
+/// The octets that can follow these octets in a stream of datasets.
 #[derive(Drop)]
 struct Next<'o> {
     alloc: Global,
@@ -202,7 +202,7 @@ fn tell_place(answers: &mut Answers, reader: &HeadReader) {
     tell_named(answers, reader);
 }
 
-/// Prints the state of a reader that is created in a state, or `none`.
+/// Prints the state of a reader that is created in this state, or `none` if that is impossible.
 fn tell_put(answers: &mut Answers, place: DatasetPlace) {
     match HeadReader::at(place) {
         Some(reader) => tell_place(answers, &reader),
@@ -223,7 +223,8 @@ fn tell_tag(answers: &mut Answers, head: Head) {
     answers.octets_line("  ", head_bytes(head).as_slice());
 }
 
-/// Prints the state of a reader with these pending octets of a tag, or `none`.
+/// Prints the state of a reader with these pending octets of a tag, or `none` if that is
+/// impossible.
 fn tell_held(answers: &mut Answers, words: &mut Words, octets: &[u8]) {
     let mut held = ArrayVec::new();
     if held.try_extend_from_slice(octets).is_err() {
@@ -232,7 +233,8 @@ fn tell_held(answers: &mut Answers, words: &mut Words, octets: &[u8]) {
     tell_put(answers, DatasetPlace::Tag(held));
 }
 
-/// Replies to a question about datasets. Returns false if the word is not one of them.
+/// Replies to a question about datasets. Returns `false` if `word` is not the name of such a
+/// question.
 pub(crate) fn answer(
     answers: &mut Answers,
     alloc: Global,

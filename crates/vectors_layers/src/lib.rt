@@ -1,9 +1,9 @@
-//! Replies to questions about octets for the layers below the unpacker: tables, datasets, objects,
-//! stories and messages.
+//! Replies to questions about the layers below the unpacker: tables, datasets, objects, stories and
+//! messages.
 //!
 //! Depends on `wire_message`, `wire_story`, `iim_object`, `iim_tables`, `iim_dataset` and
 //! `arrayvec`. `docs/VECTORS.md` defines the form of questions and replies. The program `vectors`
-//! parses its questions and writes its replies with this crate, too.
+//! uses this crate to parse its own questions and to write its own replies.
 #![tactic(auto)]
 
 mod answers;
@@ -22,8 +22,8 @@ pub use octets::{MOST_ARGUMENTS, Names, Words, number_of};
 use std::alloc::Global;
 pub use stories::tell_lines;
 
-/// Replies to a question about the layers below complete envelopes. Returns false if the word is
-/// not one of them.
+/// Replies to a question about the layers below the unpacker. Returns `false` if `word` is not the
+/// name of such a question.
 pub fn answer(
     answers: &mut Answers,
     alloc: Global,

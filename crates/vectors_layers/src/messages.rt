@@ -1,4 +1,5 @@
-//! Questions about messages, which are read in all splits into chunks, and written.
+//! Questions about messages that are read in all splits into chunks, and about messages that are
+//! written.
 
 use crate::answers::Answers;
 use crate::octets::{Names, Words};
@@ -12,7 +13,7 @@ use wire_message::{
 };
 use wire_story::{Discard, Lines, StorySink};
 
-/// Feeds a chunk. Returns which octet of it is rejected, and why.
+/// Feeds a chunk. Returns the octet that is rejected and the cause, or `None`.
 fn feed<S: StorySink>(
     reader: &mut MessageReader,
     piece: &[u8],
@@ -24,7 +25,8 @@ fn feed<S: StorySink>(
     reader.feed(piece, sink).err()
 }
 
-/// Replaces a reader by one in its state. Returns whether octets reach that state.
+/// Replaces a reader with one that is created in its state. Returns whether such a reader could be
+/// created.
 fn put_back(reader: &mut MessageReader) -> bool {
     if reader.is_failed() {
         return true;
@@ -38,8 +40,8 @@ fn put_back(reader: &mut MessageReader) -> bool {
     }
 }
 
-/// Feeds the chunks, up to a rejected octet. Returns which one it is, and why. The reader is
-/// replaced by one in its state before each chunk.
+/// Feeds the chunks, up to a rejected octet. Returns that octet and the cause, or `None`. Before
+/// each chunk the reader is replaced with one that is created in its state.
 fn feed_pieces<S: StorySink>(
     reader: &mut MessageReader,
     octets: &[u8],
@@ -62,7 +64,7 @@ fn feed_pieces<S: StorySink>(
     None
 }
 
-/// Closes an object of `len` octets. Returns why it is rejected.
+/// Closes an object of `len` octets. Returns why it is rejected, or `None`.
 fn close(reader: &mut MessageReader, len: usize) -> Option<MessageFault> {
     if reader.is_failed() {
         return None;
@@ -76,7 +78,7 @@ fn close(reader: &mut MessageReader, len: usize) -> Option<MessageFault> {
     }
 }
 
-/// Returns the parts of a header, in the order sent.
+/// Returns the parts of a header, in their order in a message.
 fn header_parts(head: &MessageHead) -> [&[u8]; 6] {
     [
         head.source(),
@@ -163,7 +165,7 @@ fn tell_place(text: &mut Answers, place: &MessagePlace) {
     text.end();
 }
 
-/// Prints the state of a reader, and the number of octets that reach it.
+/// Prints the state of a reader, and the numbers of octets that reach this state.
 fn tell_stand(text: &mut Answers, reader: &MessageReader) {
     if reader.is_failed() {
         text.line("failed");
@@ -174,7 +176,7 @@ fn tell_stand(text: &mut Answers, reader: &MessageReader) {
     tell_lengths(text, least, greatest);
 }
 
-/// Prints the least and the greatest number of octets that reach a state.
+/// Prints the minimum and the maximum number of octets that reach a state.
 fn tell_lengths(text: &mut Answers, least: u64, greatest: Option<u64>) {
     text.number("  after ", least);
     if let Some(greatest) = greatest {
@@ -230,7 +232,7 @@ fn part_of(word: &str) -> Option<MessagePart> {
     })
 }
 
-/// Parses the octets of a state from the next word.
+/// Parses the octets of a part from the next word.
 fn saved(names: &Names, words: &mut Words) -> ArrayVec<u8, 64> {
     let octets = words.octets(names);
     let mut kept = ArrayVec::new();
@@ -260,7 +262,7 @@ fn place_of(names: &Names, words: &mut Words) -> MessagePlace {
     }
 }
 
-/// Prints the state of a reader that is created in a state, or `none`.
+/// Prints the state of a reader that is created in this state, or `none` if that is impossible.
 fn print_put(out: &mut Answers, place: MessagePlace) {
     let Some(reader) = MessageReader::at(place) else {
         out.line("none");
@@ -269,14 +271,14 @@ fn print_put(out: &mut Answers, place: MessagePlace) {
     tell_stand(out, &reader);
 }
 
-/// Reads an object in one chunk. Returns which octet is rejected, and why.
+/// Reads an object in one chunk. Returns the octet that is rejected and the cause, or `None`.
 fn read_whole(octets: &[u8]) -> Option<MessageFault> {
     let mut reader = MessageReader::new();
     let refused = feed(&mut reader, octets, &mut Discard);
     refused.or(close(&mut reader, octets.len()))
 }
 
-/// Reads an object octet by octet. Returns which one is rejected, and why.
+/// Reads an object octet by octet. Returns the octet that is rejected and the cause, or `None`.
 fn read_each(octets: &[u8]) -> Option<MessageFault> {
     let mut reader = MessageReader::new();
     let mut at = 0usize;
@@ -290,7 +292,7 @@ fn read_each(octets: &[u8]) -> Option<MessageFault> {
     close(&mut reader, octets.len())
 }
 
-/// Returns an octet between others, or `None` if an allocation failed.
+/// Returns `octet` between `front` and `back`, or `None` if an allocation failed.
 fn joined(alloc: Global, front: &[u8], octet: u8, back: &[u8]) -> Option<Vec<u8>> {
     let mut octets = Vec::new(alloc);
     octets.extend_from_slice(front).ok()?;
@@ -299,7 +301,7 @@ fn joined(alloc: Global, front: &[u8], octet: u8, back: &[u8]) -> Option<Vec<u8>
     Some(octets)
 }
 
-/// Prints a range of octets with their common result between the octets around them.
+/// Prints a range of octets with the result that they all have between the octets around them.
 fn print_run(out: &mut Answers, first: u8, last: u8, fault: Option<MessageFault>) {
     out.put("  ");
     out.digits(first);
@@ -313,8 +315,8 @@ fn print_run(out: &mut Answers, first: u8, last: u8, fault: Option<MessageFault>
     }
 }
 
-/// Returns the result for an octet between others, in one chunk. Prints it if it differs octet by
-/// octet.
+/// Reads an octet between others in one chunk, and returns the result. If the result differs octet
+/// by octet, prints that.
 fn read_between(
     out: &mut Answers,
     alloc: Global,
@@ -335,7 +337,8 @@ fn read_between(
     here
 }
 
-/// Prints the result for each octet between others, in one chunk and octet by octet.
+/// Prints the result of reading each octet between `front` and `back`, in one chunk and octet by
+/// octet.
 fn print_between(out: &mut Answers, alloc: Global, front: &[u8], back: &[u8]) {
     let mut first = 0;
     let mut before = read_between(out, alloc, front, 0, back);
@@ -350,14 +353,14 @@ fn print_between(out: &mut Answers, alloc: Global, front: &[u8], back: &[u8]) {
     print_run(out, first, 255, before)
 }
 
-/// Prints the result for each octet between those of the next two words.
+/// Prints the result of reading each octet between those of the next two words.
 fn print_next_between(out: &mut Answers, alloc: Global, names: &Names, words: &mut Words) {
     let front = words.octets(names);
     let back = words.octets(names);
     print_between(out, alloc, front.as_slice(), back.as_slice())
 }
 
-/// The parts of a message that can have one octet.
+/// The parts of a message that can consist of a single octet.
 #[derive(Clone, Copy)]
 enum Part {
     Source,
@@ -436,7 +439,8 @@ fn print_part(out: &mut Answers, words: &mut Words) {
     }
 }
 
-/// Replies to a question about messages. Returns false if the word is not one of them.
+/// Replies to a question about messages. Returns `false` if `word` is not the name of such a
+/// question.
 pub(crate) fn answer(
     out: &mut Answers,
     alloc: Global,

@@ -1,4 +1,4 @@
-//! Questions about objects, which are read token by token, planned and written.
+//! Questions about objects that are read token by token, planned and written.
 
 ghost use Rattle.std.specs.Prelude.{⊤};
 
@@ -47,7 +47,7 @@ impl ObjectSink for Joined {
     }
 }
 
-/// Returns the number in record 7 that a word names.
+/// Returns the number of the dataset of record 7 that a word names.
 fn set_of(word: &str) -> Option<u8> {
     match word {
         "7:10" => Some(10),
@@ -58,7 +58,8 @@ fn set_of(word: &str) -> Option<u8> {
     }
 }
 
-/// Passes a number of record 7: a word names it, and the next one has its value.
+/// Passes the number of a dataset of record 7. `word` names the dataset, and the next word is its
+/// value.
 fn take_number(
     reader: &mut ObjectReader,
     word: &str,
@@ -77,7 +78,7 @@ fn take_number(
     }
 }
 
-/// Passes the token in a word and the next one.
+/// Passes the token that this word and the next one specify.
 fn take(
     reader: &mut ObjectReader,
     sink: &mut Joined,
@@ -132,7 +133,7 @@ fn print_joined(out: &mut Answers, sink: &Joined) {
     out.put(if sink.ended { ", ended\n" } else { "\n" });
 }
 
-/// Prints why a token is rejected, after `taken` tokens.
+/// Prints why a token is rejected, and the number of tokens before it.
 fn print_refused(out: &mut Answers, taken: u64, cause: SizeCause) {
     out.number("  refused after ", taken);
     out.put(": ");
@@ -140,7 +141,8 @@ fn print_refused(out: &mut Answers, taken: u64, cause: SizeCause) {
     out.end();
 }
 
-/// Prints the error of a token, after `taken` tokens. The sink stops only if an allocation fails.
+/// Prints the error of a token, and the number of tokens before it. The sink stops only if an
+/// allocation fails.
 fn print_fault(out: &mut Answers, taken: u64, fault: ObjectFault) {
     match fault {
         ObjectFault::Size { cause } => print_refused(out, taken, cause),
@@ -148,8 +150,8 @@ fn print_fault(out: &mut Answers, taken: u64, fault: ObjectFault) {
     }
 }
 
-/// Reads tokens up to the first refusal, and prints that. Returns whether the last token was the
-/// number of 9:10.
+/// Reads tokens, up to the first refusal, and prints that refusal. Returns whether the last token
+/// was the number of 9:10.
 fn read_tokens(
     out: &mut Answers,
     names: &Names,
@@ -192,9 +194,9 @@ fn print_tokens(
     print_joined(out, &sink)
 }
 
-/// Parses the state of a reader from the next words: the numbers of 7:10, 7:20, 7:90 and 7:95, the
-/// octets received, the count of a partial subfile and its remaining octets, and the number of
-/// subfiles. Returns `None` if no tokens reach it.
+/// Creates a reader in the state that the next words specify: the numbers of 7:10, 7:20, 7:90 and
+/// 7:95, the octets received, the count of a partial subfile and its remaining octets, and the
+/// number of subfiles. Returns `None` if no tokens reach that state.
 fn reader_at(words: &mut Words) -> Option<ObjectReader> {
     let mode = words.number_or_none();
     let subfile = words.number_or_none();
@@ -212,7 +214,7 @@ fn reader_at(words: &mut Words) -> Option<ObjectReader> {
     ObjectReader::at(numbers, taken, begun, heads)
 }
 
-/// Reads tokens from the state in the next words on.
+/// Reads tokens, starting in the state that the next words specify.
 fn print_tokens_at(out: &mut Answers, alloc: Global, names: &Names, words: &mut Words) {
     match reader_at(words) {
         Some(reader) => print_tokens(out, alloc, names, words, reader),
@@ -265,8 +267,8 @@ fn tell_unwritten(text: &mut Answers, at: usize, cause: PackCause, is_same: bool
     tell_unchanged(text, is_same);
 }
 
-/// Writes the chunk after `at` octets, with an empty one before it. Returns whether it was
-/// accepted, and otherwise prints why not.
+/// Writes the chunk after `at` octets, with an empty chunk before it. Returns whether it was
+/// accepted; if not, prints the cause.
 fn write_piece(text: &mut Answers, writer: &mut MemoryWriter, at: usize, piece: &[u8]) -> bool {
     let before = writer.written();
     if writer.write(&[]).is_err() {
@@ -292,7 +294,7 @@ fn write_pieces(text: &mut Answers, writer: &mut MemoryWriter, object: &[u8], cu
     }
 }
 
-/// Writes an object by a plan in chunks of `cut` octets. Returns the octets or the refusal.
+/// Writes an object under a plan in chunks of `cut` octets. Returns the octets or the refusal.
 fn written(alloc: Global, plan: Plan, object: &[u8], cut: usize) -> Answers {
     let mut text = Answers::new(alloc);
     match writer_of(alloc, plan) {
@@ -328,7 +330,7 @@ fn tell_unended(text: &mut Answers, writer: &MemoryWriter, cause: PackCause, tot
     tell_unchanged(text, writer.total() == total);
 }
 
-/// Ends an object, and prints its octets, or why the end is rejected.
+/// Ends an object. Prints its octets, or why the end is rejected.
 fn tell_end(text: &mut Answers, writer: MemoryWriter) {
     let total = writer.total();
     match writer.finish() {
@@ -337,8 +339,8 @@ fn tell_end(text: &mut Answers, writer: MemoryWriter) {
     }
 }
 
-/// Prints the octets of an object that is written at once, and those of the same object in chunks,
-/// if they differ.
+/// Prints the octets of an object that is written in one call. If they differ when the object is
+/// written in chunks, prints those octets too.
 fn print_written(out: &mut Answers, alloc: Global, plan: Plan, object: &[u8]) {
     let whole = written(alloc, plan, object, usize::MAX);
     out.join(&whole);
@@ -361,7 +363,7 @@ fn print_subfiles(out: &mut Answers, alloc: Global, names: &Names, words: &mut W
     }
 }
 
-/// Each cause of the sizes of an object.
+/// All causes of the sizes of an object.
 const SIZE_CAUSES: [SizeCause; 6] = [
     SizeCause::ModeClash,
     SizeCause::SizeClash,
@@ -371,7 +373,7 @@ const SIZE_CAUSES: [SizeCause; 6] = [
     SizeCause::ConfirmedWrong,
 ];
 
-/// Each cause of a packer.
+/// All causes of a packer.
 const PACK_CAUSES: [PackCause; 7] = [
     PackCause::OutOfMemory,
     PackCause::PastAnnounced,
@@ -382,21 +384,22 @@ const PACK_CAUSES: [PackCause; 7] = [
     PackCause::Failed,
 ];
 
-/// Prints each cause of the sizes of an object: its number and its name.
+/// Prints the number and the name of each cause of the sizes of an object.
 fn print_size_causes(out: &mut Answers) {
     for cause in SIZE_CAUSES {
         out.tell(&cause);
     }
 }
 
-/// Prints each cause of a packer: its number and its name.
+/// Prints the number and the name of each cause of a packer.
 fn print_pack_causes(out: &mut Answers) {
     for cause in PACK_CAUSES {
         out.tell(&cause);
     }
 }
 
-/// Replies to a question about objects. Returns false if the word is not one of them.
+/// Replies to a question about objects. Returns `false` if `word` is not the name of such a
+/// question.
 pub(crate) fn answer(
     out: &mut Answers,
     alloc: Global,

@@ -53,7 +53,7 @@ fn len_before(octets: &[u8], end: u8) -> usize {
     len
 }
 
-/// Splits octets at the first `end`, which is dropped. Returns `None` if there is no such octet.
+/// Splits octets at the first `end`, which is removed. Returns `None` if there is no such octet.
 fn cut_at(octets: &[u8], end: u8) -> Option<(&[u8], &[u8])> {
     match parted(octets, len_before(octets, end)) {
         (before, [_, after @ ..]) => Some((before, after)),
@@ -61,12 +61,12 @@ fn cut_at(octets: &[u8], end: u8) -> Option<(&[u8], &[u8])> {
     }
 }
 
-/// Checks whether a name may have an octet.
+/// Checks whether an octet is allowed in a name.
 fn is_in_name(octet: u8) -> bool {
     octet == b'_' || octet.is_ascii_lowercase()
 }
 
-/// Returns the number of octets before the first that a name may not have.
+/// Returns the number of octets before the first one that is not allowed in a name.
 fn name_len(octets: &[u8]) -> usize {
     let mut len = 0usize;
     for octet in octets {
@@ -90,8 +90,8 @@ fn digits_len(octets: &[u8]) -> usize {
     len
 }
 
-/// The words of a question that were not read yet. An invalid word is replaced by a default, and
-/// the error is reported at the end.
+/// The words of a question that have not been read yet. An invalid word is replaced with a default
+/// value, and the error is reported at the end.
 #[derive(Clone, Copy)]
 pub struct Words<'q> {
     rest: &'q [u8],
@@ -115,7 +115,7 @@ fn word_len(octets: &[u8]) -> usize {
 }
 
 impl<'q> Words<'q> {
-    /// Creates the reader of a question's words.
+    /// Creates a reader of the words of a question.
     pub fn new(question: &'q [u8]) -> Words<'q> {
         Words {
             rest: question,
@@ -195,7 +195,7 @@ impl<'q> Words<'q> {
         octets.unwrap_or(Vec::new(names.alloc))
     }
 
-    /// Checks whether all words were valid, and were read.
+    /// Checks whether all words were valid, and all were read.
     pub fn are_right(&self) -> bool {
         !self.is_wrong && self.rest.is_empty()
     }
@@ -212,14 +212,14 @@ fn pair_of(word: &[u8]) -> Option<(u32, u32)> {
     Some((short_number_of(first)?, short_number_of(second)?))
 }
 
-/// A name, and its octets.
+/// A name, with its octets.
 #[derive(Drop)]
 struct Named {
     name: Vec<u8>,
     octets: Vec<u8>,
 }
 
-/// The octets that were named so far.
+/// The names that were given so far, with their octets.
 #[derive(Drop)]
 pub struct Names {
     alloc: Global,
@@ -227,7 +227,7 @@ pub struct Names {
 }
 
 impl Names {
-    /// Creates the value without names.
+    /// Creates the value without any name.
     pub fn new(alloc: Global) -> Names {
         Names {
             alloc,
@@ -235,7 +235,7 @@ impl Names {
         }
     }
 
-    /// Names octets: the next words are the name and the octets.
+    /// Gives octets a name. The next two words are the name and the octets.
     pub fn name(&mut self, words: &mut Words) {
         let word = words.word();
         let octets = words.octets(self);
@@ -248,7 +248,8 @@ impl Names {
         }
     }
 
-    /// Returns the octets that a name was given last.
+    /// Returns the octets with this name. If the name was given more than once, returns the last
+    /// octets.
     fn find(&self, name: &[u8]) -> Option<&[u8]> {
         let mut found = None;
         for named in self.named.as_slice() {
@@ -259,7 +260,7 @@ impl Names {
         found
     }
 
-    /// Parses the octets in a word.
+    /// Parses the octets that a word specifies.
     fn octets_of(&self, word: &[u8]) -> Option<Vec<u8>> {
         let mut octets = Vec::new(self.alloc);
         if matches!(word, b"-") {
@@ -276,8 +277,8 @@ impl Names {
         Some(octets)
     }
 
-    /// Appends items as many times as the number after them. Returns the remaining octets of the
-    /// word.
+    /// Appends repeated items: the number of repetitions follows the items. Returns the remaining
+    /// octets of the word.
     fn push_repeated<'w>(&self, octets: &mut Vec<u8>, rest: &'w [u8]) -> Option<&'w [u8]> {
         let Some((items, [b'*', more @ ..])) = cut_at(rest, b')') else {
             return None;
@@ -291,7 +292,7 @@ impl Names {
         Some(more)
     }
 
-    /// Appends items without repetition.
+    /// Appends items that are not repeated.
     fn push_items(&self, octets: &mut Vec<u8>, items: &[u8]) -> Option<()> {
         let mut rest = items;
         for _ in 0..items.len() {
@@ -317,8 +318,8 @@ impl Names {
         }
     }
 
-    /// Appends named octets, all or those between two indices. Returns the remaining octets of the
-    /// word.
+    /// Appends the octets with a name, or those of them between two indices. Returns the remaining
+    /// octets of the word.
     fn push_named<'w>(&self, octets: &mut Vec<u8>, rest: &'w [u8]) -> Option<&'w [u8]> {
         let (name, more) = parted(rest, name_len(rest));
         let named = self.find(name)?;
@@ -339,7 +340,7 @@ fn push_text<'w>(octets: &mut Vec<u8>, rest: &'w [u8]) -> Option<&'w [u8]> {
     Some(more)
 }
 
-/// Returns the octets between two indices, which are written with a colon between them.
+/// Returns the octets between two indices, which the word has with a colon between them.
 fn between<'n>(named: &'n [u8], places: &[u8]) -> Option<&'n [u8]> {
     let (from, to) = cut_at(places, b':')?;
     let from = if from.is_empty() { 0 } else { number_of(from)? };

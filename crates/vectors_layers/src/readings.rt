@@ -1,25 +1,25 @@
-//! Splits octets into chunks, in each way that a reader may receive them, and prints numbers as
+//! Splits octets into chunks in each way that a reader must accept, and prints sets of numbers as
 //! ranges.
 
 use crate::answers::Answers;
 
-/// The greatest length at which octets are split in two at every index. Longer ones are split in
-/// the middle.
+/// The greatest length of octets that are split at every index. Longer octets are split in the
+/// middle only.
 const MOST_CUT: usize = 128;
 
 /// How octets are split into chunks.
 #[derive(Clone, Copy)]
 pub enum Cut {
-    /// One chunk.
+    /// In one chunk.
     Whole,
-    /// Octet by octet, with an empty chunk before each.
+    /// Octet by octet, with an empty chunk before each octet.
     Each,
-    /// Two chunks, the first with this number of octets.
+    /// In two chunks, of which the first has this number of octets.
     At(usize),
 }
 
 impl Cut {
-    /// Returns the chunk with this number, and the number of octets before it.
+    /// Returns the chunk with this index, and the number of octets before it.
     pub fn piece(self, octets: &[u8], number: usize) -> Option<(usize, &[u8])> {
         let at = number / 2;
         let (from, to) = match self {
@@ -32,19 +32,19 @@ impl Cut {
         Some((from, octets.get(from..to)?))
     }
 
-    /// Returns the greatest number of chunks that octets are split into.
+    /// Returns the greatest number of chunks that these octets are split into.
     pub fn most_pieces(octets: &[u8]) -> usize {
         octets.len().saturating_mul(2).saturating_add(2)
     }
 }
 
-/// A way to read octets, which replies in lines.
+/// A way to read octets, whose result is a reply.
 pub trait Reading {
     /// Reads the octets in these chunks.
     fn read(&self, octets: &[u8], cut: Cut) -> Answers;
 }
 
-/// Returns the split with this number, of those of `len` octets into more than one chunk.
+/// Returns the split with this index, among the splits of `len` octets into more than one chunk.
 fn other_cut(len: usize, number: usize) -> Option<Cut> {
     match number {
         0 => Some(Cut::Each),
@@ -66,7 +66,8 @@ fn tell_cut(answers: &mut Answers, cut: Cut) {
     }
 }
 
-/// Prints the reply for the octets in one chunk, and the reply for another split if it differs.
+/// Prints the reply for the octets in one chunk. If the reply for another split differs, prints
+/// that reply too.
 pub(crate) fn tell_reading<R: Reading>(answers: &mut Answers, reading: &R, octets: &[u8]) {
     let whole = reading.read(octets, Cut::Whole);
     answers.join(&whole);
@@ -88,10 +89,10 @@ pub trait Class {
     fn has(&self, number: u64) -> bool;
 }
 
-/// How numbers are printed.
+/// The notation in which numbers are printed.
 #[derive(Clone, Copy)]
 pub enum Digits {
-    /// As octets, in hexadecimal.
+    /// As octets, in hexadecimal digits.
     Octets,
     /// In decimal.
     Decimal,
@@ -118,7 +119,7 @@ fn tell_range(answers: &mut Answers, first: u64, last: u64, digits: Digits) {
     }
 }
 
-/// Prints the numbers of a set, up to the greatest, as ranges in one line.
+/// Prints the numbers of a set, up to the greatest one, as ranges in one line.
 pub(crate) fn tell_class<C: Class>(
     answers: &mut Answers,
     class: &C,

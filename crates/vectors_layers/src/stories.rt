@@ -1,4 +1,4 @@
-//! Questions about stories: texts that are read in all splits into chunks, their lines and their
+//! Questions about stories: texts that are read in all splits into chunks, with their lines and
 //! words.
 
 use crate::answers::Answers;
@@ -11,8 +11,8 @@ use wire_story::{
     text_len,
 };
 
-/// Reads a text in these chunks. Returns which octet is rejected, and why; the reader has failed
-/// then.
+/// Reads a text in these chunks. Returns the octet that is rejected and the cause, or `None`. If
+/// one is rejected, the reader must have failed.
 fn read_text<S: StorySink>(
     reader: &mut TextReader,
     octets: &[u8],
@@ -43,7 +43,7 @@ fn read_text<S: StorySink>(
     }
 }
 
-/// Prints which octet is rejected, and why.
+/// Prints which octet is rejected, and the cause.
 fn tell_fault(answers: &mut Answers, fault: TextFault, reader: &TextReader) {
     answers.number("  refused at ", fault.taken as u64);
     answers.put(" ");
@@ -61,7 +61,7 @@ pub fn tell_lines(answers: &mut Answers, lines: &Lines) {
     }
 }
 
-/// A reading of a text into lines, and the length of their packed form.
+/// A reading of a text into lines, which also prints the length of their packed form.
 #[derive(Drop)]
 struct InLines {
     alloc: Global,
@@ -84,7 +84,7 @@ impl Reading for InLines {
     }
 }
 
-/// A reading of a text that is passed to a writer, with its lines joined by LF.
+/// A reading of a text that is written to a target, with its lines joined by LF.
 #[derive(Drop)]
 struct Written {
     alloc: Global,
@@ -124,7 +124,7 @@ impl Reading for Counted {
     }
 }
 
-/// The octets that a line may have.
+/// The octets that are allowed in a line.
 #[derive(Drop)]
 struct InLine;
 
@@ -137,7 +137,7 @@ impl Class for InLine {
     }
 }
 
-/// The octets that are a text by themselves.
+/// The octets that form a text alone.
 #[derive(Drop)]
 struct AloneText;
 
@@ -151,7 +151,7 @@ impl Class for AloneText {
     }
 }
 
-/// The octets between two words.
+/// The octets that form a text between two words.
 #[derive(Drop)]
 struct Between;
 
@@ -167,7 +167,7 @@ impl Class for Between {
     }
 }
 
-/// Prints how many pending CR a reader has.
+/// Prints the number of pending CR of a reader.
 fn tell_reader(answers: &mut Answers, reader: &TextReader) {
     if reader.is_failed() {
         answers.line("no");
@@ -176,7 +176,8 @@ fn tell_reader(answers: &mut Answers, reader: &TextReader) {
     answers.number_line("  ", u64::from(reader.held()));
 }
 
-/// Prints how many pending CR a reader has that is created after `held` of them, or `none`.
+/// Prints the number of pending CR of a reader that is created with `held` of them, or `none` if
+/// that is impossible.
 fn tell_held(answers: &mut Answers, held: u8) {
     match TextReader::at(held) {
         None => answers.line("none"),
@@ -189,7 +190,7 @@ fn tell_line_end(answers: &mut Answers) {
     answers.octets_line("  ", &LINE_END);
 }
 
-/// Replies to a question about texts. Returns false if the word is not one of them.
+/// Replies to a question about texts. Returns `false` if `word` is not the name of such a question.
 pub(crate) fn answer(
     answers: &mut Answers,
     alloc: Global,

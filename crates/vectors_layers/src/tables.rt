@@ -29,7 +29,7 @@ fn kind_of(word: &str) -> Option<Kind> {
     })
 }
 
-/// The values of one octet of a kind.
+/// The single octets that are values of a kind.
 #[derive(Drop)]
 struct Alone {
     row: Row,
@@ -60,7 +60,7 @@ fn print_kind(out: &mut Answers, words: &mut Words) {
     tell_class(out, &Alone { row }, 255, Digits::Octets)
 }
 
-/// The lengths of values that a row accepts, of repeated octets.
+/// The lengths at which repeated octets are a value for a row.
 #[derive(Drop)]
 struct Lengths<'o> {
     row: Row,
@@ -76,7 +76,7 @@ impl Class for Lengths<'_> {
     }
 }
 
-/// Returns repeated octets, or `None` if an allocation failed.
+/// Repeats octets up to the greatest length. Returns `None` if an allocation failed.
 fn repeated(alloc: Global, sample: &[u8]) -> Option<Vec<u8>> {
     let mut octets = Vec::new(alloc);
     for at in 0..MOST_OCTETS {
@@ -88,7 +88,7 @@ fn repeated(alloc: Global, sample: &[u8]) -> Option<Vec<u8>> {
     Some(octets)
 }
 
-/// Prints the lengths that the row accepts of a repeated sample.
+/// Prints the lengths at which a repeated sample is a value for the row.
 fn print_lengths(out: &mut Answers, alloc: Global, row: Row, sample: &[u8]) {
     let Some(octets) = repeated(alloc, sample) else {
         out.lack_memory();
@@ -101,7 +101,7 @@ fn print_lengths(out: &mut Answers, alloc: Global, row: Row, sample: &[u8]) {
     tell_class(out, &class, MOST_OCTETS as u64, Digits::Decimal)
 }
 
-/// Prints the rows of a record. Consecutive equal rows are joined.
+/// Prints the rows of a record. Consecutive equal rows are printed as one.
 fn print_rows(out: &mut Answers, rec: u8) {
     let mut first = 0;
     let mut is_none = true;
@@ -121,7 +121,7 @@ fn print_rows(out: &mut Answers, rec: u8) {
     }
 }
 
-/// Prints the row of the numbers from first to last.
+/// Prints the row of the datasets with the numbers `first` to `last`.
 fn print_row(out: &mut Answers, rec: u8, first: u8, last: u8, row: Row) {
     out.dataset("  ", rec, first);
     if first != last {
@@ -130,7 +130,8 @@ fn print_row(out: &mut Answers, rec: u8, first: u8, last: u8, row: Row) {
     print_admitted(out, row)
 }
 
-/// Ends a line with the properties of a row: the number of octets, the kind, and how often.
+/// Ends a line with the properties of a row: the number of octets, the kind, and how often the
+/// dataset may occur.
 fn print_admitted(out: &mut Answers, row: Row) {
     out.put(" ");
     out.show(&row.min);
@@ -160,12 +161,12 @@ fn print_named(out: &mut Answers, words: &mut Words) {
     }
 }
 
-/// What is asked about the values of a row.
+/// A question about the values of a row.
 #[derive(Clone, Copy)]
 enum Asked {
-    /// Whether it accepts these octets.
+    /// Whether these octets are a value.
     Octets,
-    /// Which lengths of a repeated sample it accepts.
+    /// At which lengths a repeated sample is a value.
     Lengths,
 }
 
@@ -184,8 +185,8 @@ fn print_of_row(out: &mut Answers, alloc: Global, names: &Names, words: &mut Wor
     }
 }
 
-/// Replies to a question about numbers, dates and instants. Returns false if the word is not one
-/// of them.
+/// Replies to a question about numbers, dates and instants. Returns `false` if `word` is not the
+/// name of such a question.
 fn answer_values(out: &mut Answers, names: &Names, word: &str, words: &mut Words) -> bool {
     match word {
         "number" => out.found(number_of(words.octets(names).as_slice())),
@@ -201,7 +202,8 @@ fn answer_values(out: &mut Answers, names: &Names, word: &str, words: &mut Words
     true
 }
 
-/// Replies to a question about the tables. Returns false if the word is not one of them.
+/// Replies to a question about the tables. Returns `false` if `word` is not the name of such a
+/// question.
 pub(crate) fn answer(
     out: &mut Answers,
     alloc: Global,

@@ -1,4 +1,4 @@
--- How a state gets to the next one, and how a saved state is restored.
+-- The transitions of a state, and restoring a saved state.
 use Rattle.std.specs.Prelude.{◌≡◌, ℕ, ◌+◌, ◌<◌, ◌&&◌, ◌||◌, ◌==◌, nat_lt, if◌then◌else◌, Bool, false, List, [], ◌∷◌, length, Option, Some, ◌≤◌, ◌++◌, take}
 use Rattle.iim_dataset.specs.Format.Octets.{lf, sp, is_digit, is_letter}
 use Rattle.wire_message.specs.Format.Messages.{is_alphanumeric, is_info_octet, is_trailer_octet, is_filler_octet, max_filler, max_source, max_number, max_priority, max_category, max_words, max_info, max_trailer, Header, header_of, EndsViableMessage}
@@ -14,13 +14,13 @@ use Rattle.wire_story.specs.declared.fault.TextCause.TheVariants as text_cause
 
 -- ---- The parts of a header before its info.
 
--- the octets that the part may have
+-- the octets that are allowed in the part
 abbrev pub is_octet_of : HeaderPart → ℕ → Bool
 is_octet_of Source = is_letter
 is_octet_of Category = is_alphanumeric
 is_octet_of _ = is_digit
 
--- the greatest number of octets of the part
+-- the maximum length of the part, in octets
 abbrev pub most_of_part : HeaderPart → ℕ
 most_of_part Source = max_source
 most_of_part Number = max_number
@@ -36,17 +36,19 @@ octets_of_part Priority t = t.priority.items
 octets_of_part Category t = t.category.items
 octets_of_part Words t = t.words.items
 
--- the header of the parts, with an empty info so far
+-- the header with these parts and an empty info
 abbrev pub begun : HeaderTexts → Header
 begun t = header_of t.source.items t.number.items t.priority.items t.category.items t.words.items []
 
 -- ---- All parts.
 
--- The octet extends a gap of `count` octets, with or without an LF, so that STX can still come.
+-- The octet may be the next octet of a gap of `count` octets, so that STX may still follow. `feed`
+-- is whether the gap has an LF.
 abbrev pub lengthens_gap : ℕ → Bool → ℕ → Bool
 lengthens_gap count feed octet = is_filler_octet octet && nat_lt count max_filler && (feed || octet == lf || nat_lt (count + 1) max_filler)
 
--- The octet does not extend the part that is being read: the part may not have it, or is full.
+-- The octet cannot be the next octet of the part in progress: it is not allowed in that part, or
+-- the part is full.
 abbrev pub DoesNotExtendPart : Place → ℕ → Type 0
 DoesNotExtendPart (Filler count) octet = (is_filler_octet octet && nat_lt count max_filler) ≡ false
 DoesNotExtendPart (InHeader part t) octet = length (octets_of_part part t) < most_of_part part → is_octet_of part octet ≡ false
@@ -56,14 +58,14 @@ DoesNotExtendPart (Trailer h t) octet = length t.items < max_trailer → is_trai
 DoesNotExtendPart (AfterEnd h t count) octet = (is_filler_octet octet && nat_lt count max_filler) ≡ false
 DoesNotExtendPart _ octet = Unit {0}
 
--- The octet ends a part of the header, once the part has octets.
+-- The octet ends a part of the header, if the part is non-empty.
 abbrev pub ends : HeaderPart → ℕ → Bool
 ends Source octet = is_digit octet
 ends Words octet = octet == sp || is_filler_octet octet
 ends _ octet = octet == sp
 
--- the state after the octet that ends a part: the digit that ends the source begins the number, and
--- after the words SP begins the info, and filler the gap
+-- the state after the octet that ends a part: the digit that ends the source begins the number;
+-- after the words, SP begins the info and filler begins the gap
 abbrev pub begins : HeaderPart → ℕ → HeaderTexts → Place
 begins Source octet t = InHeader Number (record t { number = record { items = octet ∷ [] } })
 begins Number octet t = InHeader Priority t
@@ -71,31 +73,31 @@ begins Priority octet t = InHeader Category t
 begins Category octet t = InHeader Words t
 begins Words octet t = if octet == sp then Info (begun t) else Gap (begun t) 1 (octet == lf)
 
--- the header of a saved state
+-- the header in a saved state
 abbrev pub head_in : MessagePlace → Header
 head_in place = header_of place.source.items place.number.items place.priority.items place.category.items place.words.items place.info.items
 
--- the parts of the header of a saved state so far
+-- the parts of the header so far in a saved state
 abbrev pub texts_in : MessagePlace → HeaderTexts
 texts_in m = record { source = m.source; number = m.number; priority = m.priority; category = m.category; words = m.words }
 
--- No state other than the one found has this saved state.
+-- No other state than the one found has this saved form.
 abbrev pub IsOnlyState : Option Place → MessagePlace → Type 0
 IsOnlyState found place = (at : Place) → IsMessageState at → saved at ≡ place → found ≡ Some at
 
--- the cause of a message for a cause of its text
+-- converts a cause of the text to a cause of the message
 abbrev pub message_cause_of : TextCause → MessageCause
 message_cause_of text_cause.LoneReturn = LoneReturn
 message_cause_of text_cause.ControlOctet = ControlOctet
 message_cause_of text_cause.Sink = Sink
 
--- ---- One state and the next.
+-- ---- Transitions.
 
--- With the octet the octets so far are no longer a viable prefix of a message.
+-- The octets so far, followed by this octet, are not a viable prefix of a message.
 abbrev pub OctetEndsViableMessage : Place → ℕ → Type 0
 OctetEndsViableMessage place octet = (octets text : List ℕ) → MatchesState octets text place → EndsViableMessage octets (Octet octet)
 
--- After at least one of the octets this is the state. They add nothing to the text.
+-- After one or more of the octets this is the state. These octets add no text.
 pub record ConsumesAnOctet (old : Place) (rest : List ℕ) (new : Place) (used : ℕ) : Type 0 where
   pub some : 0 < used
   pub within : used ≤ length rest
@@ -103,16 +105,16 @@ pub record ConsumesAnOctet (old : Place) (rest : List ℕ) (new : Place) (used :
   pub adds : (before text : List ℕ) → MatchesState before text old → MatchesState (before ++ take used rest) text new
   pub story : (text : List ℕ) → IsStoryState text old → IsStoryState text new
 
--- Octets were consumed: they reach the next state, the sink received the events that they deliver,
--- and it did not stop.
+-- Octets were consumed: they reach the next state, the sink received the events that are delivered
+-- for them, and it did not stop.
 pub record ConsumesOctets {S : Type 0} (goes : S → List StoryEvent → S → Type 0) (failures : S → ℕ) (old : Place) (before : S) (octets : List ℕ)
     (new : Place) (after : S) : Type 0 where
   pub is_place : IsMessageState new
   pub told : PassesStoryToSink goes before (Some old) octets (Some new) after
   pub no_failure : failures after ≡ failures before
 
--- An octet of a chunk was rejected, for its cause, and the sink received the events that those
--- before it deliver.
+-- An octet of a chunk was rejected, for its cause, and the sink received the events that are
+-- delivered for the octets before it.
 pub record RejectsOctetOfMessage {S : Type 0} (goes : S → List StoryEvent → S → Type 0) (failures : S → ℕ) (old : Place) (before : S) (piece : List ℕ)
     (after : S) (fault : MessageFault) : Type 0 where
   pub within : fault.taken < length piece

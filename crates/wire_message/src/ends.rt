@@ -1,12 +1,11 @@
-//! Where the parts of a header end.
+//! The offsets at which the parts of a header end.
 
 ghost use Rattle.std.specs.Prelude.{◌≡◌, ◌≤◌, length};
 ghost use Rattle.wire_message.specs.Format.Messages.{max_source, max_number, max_category, max_words};
 ghost use Rattle.wire_message.specs.Kept.{ends_of};
 
-/// Where the parts of a header end in its octets. The number follows the source immediately, and
-/// other parts are separated by one octet. The priority has one octet, and the info ends where the
-/// octets do.
+/// The offsets at which the parts of a header end. The number directly follows the source; other
+/// parts are separated by one octet. The priority has one octet, and the info ends with the header.
 #[derive(Clone, Copy, Debug, Drop)]
 pub(crate) struct Ends {
     pub(crate) source: u8,
@@ -16,7 +15,7 @@ pub(crate) struct Ends {
 }
 
 impl Ends {
-    /// Returns where these parts end if they are joined.
+    /// Returns the offsets for these parts.
     #[inline(always)]
     pub(crate) fn of(source: &[u8], number: &[u8], category: &[u8], words: &[u8]) -> Ends
         requires source { length source.now ≤ max_source }

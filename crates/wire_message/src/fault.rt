@@ -8,14 +8,14 @@ use std::fmt;
 use std::fmt::{Display, Formatter};
 use wire_story::TextCause;
 
-/// Why a reader of messages rejected an octet, or the end, each with its number.
+/// Why a reader of messages rejected an octet, or the end of the object. Each cause has a number.
 #[derive(Clone, Copy, Debug, PartialEq, Eq)]
 pub enum MessageCause {
-    /// No message can continue with the octet.
+    /// The octet cannot be part of any message here.
     BadOctet = 30,
     /// No message may end here.
     Unfinished = 32,
-    /// A CR was received before it in the text, and no LF followed that CR.
+    /// The text has a CR before this octet that no LF follows.
     LoneReturn = 40,
     /// SOH, STX or EOT occurs in the text.
     ControlOctet = 41,
@@ -31,7 +31,7 @@ impl MessageCause {
         self as u8
     }
 
-    /// Returns the name of the cause, as it is printed. A cause of the text has the name of the
+    /// Returns the name of the cause, as it is printed. The causes of the text have the names of
     /// [`TextCause`].
     pub fn name(self) -> &'static str
         ensures { result.now ≡ name_of_message self }
@@ -59,12 +59,12 @@ impl Display for MessageCause {
 
 impl Error for MessageCause {}
 
-/// A reader of messages rejected an octet, or the end.
+/// The error of a reader of messages that rejected an octet, or the end of the object.
 #[derive(Clone, Copy, Debug, PartialEq, Eq)]
 pub struct MessageFault {
     /// The number of octets of the chunk before the rejected one.
     pub taken: usize,
-    /// Why it was rejected.
+    /// Why the octet or the end was rejected.
     pub cause: MessageCause,
 }
 

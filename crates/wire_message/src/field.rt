@@ -10,14 +10,15 @@ use crate::class::{Class, is_in};
 use arrayvec::ArrayVec;
 use iim_dataset::octets::SP;
 
-/// Checks whether each octet is of the class.
+/// Checks whether all octets are in the class.
 fn are_in(class: Class, octets: &[u8]) -> bool
     ensures { IsTrue result ↔ Are (is_in_class class) octets.now }
 {
     octets.iter().all(|octet| is_in(class, *octet))
 }
 
-/// Checks whether the octets are of the class, and at least `least` and at most `most`.
+/// Checks whether all octets are in the class, and their number is at least `least` and at most
+/// `most`.
 pub(crate) fn is_field(class: Class, least: usize, most: usize, octets: &[u8]) -> bool
     ensures { IsTrue result ↔ IsField (is_in_class class) least most octets.now }
 {
@@ -27,24 +28,24 @@ pub(crate) fn is_field(class: Class, least: usize, most: usize, octets: &[u8]) -
     are_in(class, octets)
 }
 
-/// Copies the octets into a fixed capacity.
+/// Copies the octets into an array that has capacity for them.
 pub(crate) fn kept<const ROOM: usize>(octets: &[u8]) -> ArrayVec<u8, ROOM>
     requires { length octets.now ≤ ROOM }
     ensures { result.items ≡ octets.now }
 {
     let mut kept = ArrayVec::new();
-    // There is capacity, so this cannot fail.
+    // The array has the capacity, so this cannot fail.
     let _ = kept.try_extend_from_slice(octets);
     kept
 }
 
-/// Appends octets, for which there must be capacity.
+/// Appends octets, for which the array must have capacity.
 pub(crate) fn append<const ROOM: usize>(out: &mut ArrayVec<u8, ROOM>, octets: &[u8])
     requires { array_vec_len out.old + length octets.now ≤ ROOM }
     ensures items { out.new.items ≡ out.old.items ++ octets.now }
     ensures len { array_vec_len out.new ≡ array_vec_len out.old + length octets.now }
 {
-    // There is capacity, so this cannot fail.
+    // The array has the capacity, so this cannot fail.
     let _ = out.try_extend_from_slice(octets);
 }
 
@@ -58,7 +59,7 @@ pub(crate) fn append_part<const ROOM: usize>(out: &mut ArrayVec<u8, ROOM>, part:
     append(out, part);
 }
 
-/// Returns the length of the longest prefix of the class.
+/// Returns the length of the longest prefix whose octets are in the class.
 #[inline(always)]
 pub(crate) fn run_len(class: Class, octets: &[u8]) -> usize
     ensures within { result ≤ length octets.now }
@@ -73,7 +74,7 @@ pub(crate) fn run_len(class: Class, octets: &[u8]) -> usize
     octets.len()
 }
 
-/// Returns the length of the longest prefix of the class, up to `most`.
+/// Returns the length of the longest prefix whose octets are in the class, but at most `most`.
 #[inline(always)]
 pub(crate) fn prefix_len(class: Class, most: usize, octets: &[u8]) -> usize
     ensures within { result ≤ length octets.now }
@@ -86,8 +87,8 @@ pub(crate) fn prefix_len(class: Class, most: usize, octets: &[u8]) -> usize
     run_len(class, &octets[..room])
 }
 
-/// Appends to a part the octets of its class that follow it, up to its capacity, and returns their
-/// number.
+/// Appends octets from the start of a slice to a part, as long as they are in its class and it has
+/// capacity. Returns their number.
 #[inline(always)]
 pub(crate) fn take_run<const ROOM: usize>(
     part: &mut ArrayVec<u8, ROOM>,

@@ -12,10 +12,10 @@ use crate::part::HeaderTexts;
 use arrayvec::ArrayVec;
 use std::marker::Model;
 
-/// The header of a message: each part has a length and octets that the format allows. It stores the
-/// parts joined, with one octet between two of them, at most 99 octets, and does not allocate.
+/// The header of a message. Each part has a length and octets that the format allows. The parts are
+/// stored joined, with one octet between two of them, in at most 99 octets, without allocation.
 ///
-/// Contracts see it as the six parts.
+/// Its model in contracts is the six parts.
 #[derive(Debug, Drop)]
 pub struct MessageHead {
     octets: ArrayVec<u8, MAX_KEPT>,
@@ -39,7 +39,7 @@ ghost use Rattle.iim_dataset.specs.Format.Octets.{is_letter, is_digit};
 ghost use Rattle.wire_message.specs.Kept.{parts_in, IsKept};
 ghost use Rattle.wire_message.specs.Steps.{begun};
 
-/// Checks whether the parts are those of a valid header.
+/// Checks whether these parts form a valid header.
 fn is_header(
     source: &[u8],
     number: &[u8],
@@ -104,7 +104,8 @@ impl MessageHead {
         }
     }
 
-    /// Creates the header of the joined parts `octets`, which end as `ends` states.
+    /// Creates the header whose joined parts are `octets`. `ends` has the offsets at which the
+    /// parts end.
     #[inline(always)]
     pub(crate) fn of_octets(octets: &[u8], ends: Ends) -> MessageHead
         requires { IsKept octets.now ends }
@@ -116,7 +117,7 @@ impl MessageHead {
         }
     }
 
-    /// Creates the header of these parts, with an empty info so far.
+    /// Creates the header of these parts, with an empty info.
     pub(crate) fn begun(texts: &HeaderTexts) -> MessageHead
         requires { IsHeader (begun texts.now) }
         ensures { result ≡ begun texts.now }
@@ -131,8 +132,8 @@ impl MessageHead {
         )
     }
 
-    /// Appends to the info the octets of it that follow, up to its capacity, and returns their
-    /// number.
+    /// Appends octets from the start of a slice to the info, as long as the info may have them.
+    /// Returns their number.
     pub(crate) fn take_info(&mut self, octets: &[u8]) -> usize
         ensures within { result ≤ length octets.now }
         ensures class { Are is_info_octet (take result octets.now) }

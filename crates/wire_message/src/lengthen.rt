@@ -1,4 +1,4 @@
-//! Appends octets to the part that is being read: its longest slice, or one octet of filler.
+//! Appends octets to the part of a message that is in progress.
 
 ghost use Rattle.std.specs.Prelude.{◌≡◌, ◌<◌, ◌≤◌, ◌+◌, ◌&&◌, ◌||◌, ◌==◌, nat_lt, true, false, length, slice_index};
 ghost use Rattle.iim_dataset.specs.Format.Octets.{lf};
@@ -13,7 +13,7 @@ use crate::part::HeaderPart;
 use crate::place::Place;
 use iim_dataset::octets::LF;
 
-/// Checks whether an octet extends filler of `count` octets.
+/// Checks whether an octet may be the next octet of filler after `count` octets of filler.
 #[inline(always)]
 fn fills(count: u8, octet: u8) -> bool
     ensures { result ≡ (is_filler_octet octet && nat_lt count max_filler) }
@@ -21,7 +21,8 @@ fn fills(count: u8, octet: u8) -> bool
     is_in(Class::Filler, octet) && count < MAX_FILLER
 }
 
-/// Counts an octet if it extends filler of `count` octets, and returns how many it counted.
+/// Counts an octet if it may be the next octet of filler. Returns the number of octets counted, 0
+/// or 1.
 #[inline(always)]
 fn lengthen_filler(count: &mut u8, octet: u8) -> usize
     ensures one { result ≤ 1 }
@@ -36,8 +37,8 @@ fn lengthen_filler(count: &mut u8, octet: u8) -> usize
     1
 }
 
-/// Checks whether an octet extends a gap of `count` octets, with or without an LF, so that STX can
-/// still come.
+/// Checks whether an octet may be the next octet of a gap of `count` octets, so that an STX may
+/// still follow. `feed` is whether the gap has an LF.
 #[inline(always)]
 fn extends_gap(count: u8, feed: bool, octet: u8) -> bool
     ensures { result ≡ lengthens_gap count feed octet }
@@ -45,8 +46,8 @@ fn extends_gap(count: u8, feed: bool, octet: u8) -> bool
     fills(count, octet) && (feed || octet == LF || count < MAX_FILLER - 1)
 }
 
-/// Counts an octet if it extends a gap, stores whether an LF has come, and returns how many it
-/// counted.
+/// Counts an octet if it may be the next octet of a gap, and records whether it is an LF. Returns
+/// the number of octets counted, 0 or 1.
 #[inline(always)]
 fn lengthen_gap(count: &mut u8, feed: &mut bool, octet: u8) -> usize
     ensures one { result ≤ 1 }
@@ -64,7 +65,8 @@ fn lengthen_gap(count: &mut u8, feed: &mut bool, octet: u8) -> usize
     1
 }
 
-/// Appends to the part that is being read the octets of it that follow, and returns their number.
+/// Appends octets from the start of a slice to the part in progress, as long as that part may have
+/// them. Returns their number.
 #[inline(always)]
 pub(crate) fn lengthen(place: &mut Place, rest: &[u8]) -> usize
     requires place { IsMessageState place.old }

@@ -1,4 +1,4 @@
-//! The greatest numbers of octets of the parts of a message.
+//! The maximum lengths of the parts of a message, in octets.
 
 pub(crate) const MAX_SOURCE: usize = 8;
 
@@ -12,13 +12,13 @@ pub(crate) const MAX_WORDS: usize = 6;
 
 pub(crate) const MAX_INFO: usize = 64;
 
-/// The parts of a header, and the four octets between them.
+/// The length of the parts of a header together with the four octets between them.
 pub(crate) const MAX_KEPT: usize = 99;
 
 pub(crate) const MAX_TRAILER: usize = 64;
 
-/// The greatest number of octets of filler before SOH, in the gap, or after EOT.
+/// The maximum length of the filler before SOH, of the gap, and of the filler after EOT.
 pub(crate) const MAX_FILLER: u8 = 32;
 
-/// The capacity of a saved state for each part.
+/// The capacity for each part in a saved state.
 pub(crate) const MAX_SAVED: usize = 64;

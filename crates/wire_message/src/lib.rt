@@ -1,11 +1,13 @@
-//! The message of IPTC 7901, in our own profile: header, text and trailer, read and written.
+//! Messages of IPTC 7901, in the profile of this project: reads and writes their header, text and
+//! trailer.
 //!
 //! Depends on `wire_story` for the text, on `arrayvec` for parts of fixed capacity, and on
-//! `iim_dataset`, whose definitions it uses. The crates above read an object by [`MessageReader`],
-//! for any split into chunks. The octets consumed are a message so far with this header and
-//! trailer, and the sink receives exactly what is delivered of its text. A fault is reported at the
-//! first octet with which they are not a viable prefix of a message, or their text of a story, or
-//! at which the sink stopped.
+//! `iim_dataset`, whose definitions it uses. The crates above read an object with
+//! [`MessageReader`], which accepts any split into chunks. The octets consumed are a prefix of a
+//! message with this header and trailer, and the sink receives exactly the text that is delivered
+//! for them. A fault is reported at the first octet with which they are no longer a viable prefix
+//! of a message, or their text is no longer a viable prefix of a story, or at which the sink
+//! stopped.
 #![tactic(auto)]
 
 mod class;

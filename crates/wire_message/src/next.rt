@@ -1,4 +1,4 @@
-//! The step from one part of a message to the next.
+//! The transition from one part of a message to the next.
 
 ghost use Rattle.std.specs.Prelude.{◌<◌, ◌≤◌, ◌≡◌, true, false, [], length, slice_index, IfSome, IfNone};
 ghost use Rattle.iim_dataset.specs.Format.Octets.{eot};
@@ -17,9 +17,9 @@ use arrayvec::ArrayVec;
 use iim_dataset::octets::EOT;
 use std::mem;
 
-/// Returns the state after an octet that does not extend the part that is being read, or `None` if
-/// no message can have it there. The part must not be the text, or a part of the header before its
-/// info.
+/// Returns the state after an octet that cannot belong to the part in progress, or `None` if no
+/// message can have that octet there. The part must not be the text, or a part of the header before
+/// its info.
 fn next_part(place: Place, rest: &[u8]) -> Option<Place>
     requires place { IsMessageState place }
     requires outside { (head : Header) (text : TextReader) → place ≡ Place.Text head text → ⊥ }
@@ -44,8 +44,8 @@ fn next_part(place: Place, rest: &[u8]) -> Option<Place>
     }
 }
 
-/// Consumes an octet that does not extend the part that is being read, and returns whether it
-/// begins the next part.
+/// Consumes an octet that cannot belong to the part in progress. Returns whether it begins the next
+/// part.
 #[inline(never)]
 pub(crate) fn begin_next(place: &mut Place, rest: &[u8]) -> bool
     requires place { IsMessageState place.old }
@@ -74,8 +74,8 @@ pub(crate) fn begin_next(place: &mut Place, rest: &[u8]) -> bool
     }
 }
 
-/// Ends the text and begins the trailer, which an EOT that follows ends immediately. Returns the
-/// number of octets consumed: 1 if EOT follows, and otherwise 0.
+/// Ends the text and begins the trailer. If EOT follows, ends the trailer too. Returns the number
+/// of octets consumed: 1 if EOT follows, otherwise 0.
 #[inline(never)]
 pub(crate) fn end_text(place: &mut Place, rest: &[u8]) -> usize
     ensures few { result ≤ 1 }

@@ -1,4 +1,4 @@
-//! The parts of a header that are read before its info.
+//! The parts of a header before its info.
 
 use crate::lengths::{MAX_CATEGORY, MAX_NUMBER, MAX_PRIORITY, MAX_SOURCE, MAX_WORDS};
 use arrayvec::ArrayVec;
@@ -13,7 +13,7 @@ pub(crate) enum HeaderPart {
     Words,
 }
 
-/// The octets received of each part. Parts after the one that is being read are empty.
+/// The octets received of each part. The parts after the one in progress are empty.
 #[derive(Drop)]
 pub(crate) struct HeaderTexts {
     pub(crate) source: ArrayVec<u8, MAX_SOURCE>,

@@ -1,4 +1,4 @@
-//! Reads a chunk of a message from a state on: by the longest slices that lie in one part, and
+//! Consumes a chunk of a message in a given state: the longest slices that are within one part, and
 //! otherwise octet by octet.
 
 ghost use Rattle.std.specs.Prelude.{◌≡◌, ◌<◌, ◌≤◌, length, slice_index, take, IfOk, IfErr, IfSome, IfNone, OnOk};
@@ -16,7 +16,7 @@ use crate::text::in_text;
 use crate::whole::whole_head;
 use wire_story::StorySink;
 
-/// Returns the number of octets of filler received, if SOH has not come.
+/// Returns the number of octets of filler received, if SOH has not been received.
 #[inline(always)]
 fn filler_in(place: &Place) -> Option<u8>
     ensures { IfSome result (λ count. place.now ≡ Filler count) }
@@ -27,7 +27,8 @@ fn filler_in(place: &Place) -> Option<u8>
     }
 }
 
-/// Consumes a complete header in place, if the state is filler, and returns its number of octets.
+/// Consumes a header that is complete in the chunk, if the state is in the filler before SOH.
+/// Returns the number of octets consumed.
 #[inline(always)]
 fn consume_header(place: &mut Place, rest: &[u8]) -> Option<usize>
     ensures takes { IfSome result (λ used. ConsumesAnOctet place.old rest.now place.new used) }
@@ -39,8 +40,8 @@ fn consume_header(place: &mut Place, rest: &[u8]) -> Option<usize>
     whole_head(place, rest)
 }
 
-/// Consumes octets outside the text in place, and returns their number, or `None` if no message can
-/// have the first one there.
+/// Consumes octets outside the text. Returns their number, or `None` if no message can have the
+/// first one there.
 #[inline(never)]
 fn consume_outside_text(place: &mut Place, rest: &[u8]) -> Option<usize>
     requires place { IsMessageState place.old }
@@ -62,7 +63,7 @@ fn consume_outside_text(place: &mut Place, rest: &[u8]) -> Option<usize>
     None
 }
 
-/// Consumes octets outside the text as `consume_outside_text` does. The sink receives nothing.
+/// Consumes octets outside the text, as `consume_outside_text` does. The sink receives nothing.
 #[inline(always)]
 fn pass_outside_text<S: StorySink>(
     place: &mut Place,
@@ -88,7 +89,7 @@ fn pass_outside_text<S: StorySink>(
     }
 }
 
-/// Consumes a prefix of the remaining octets, and returns its length.
+/// Consumes a prefix of the remaining octets. Returns its length.
 #[inline(always)]
 fn consume_prefix<S: StorySink>(
     place: &mut Place,
@@ -117,7 +118,7 @@ fn consume_prefix<S: StorySink>(
     }
 }
 
-/// Consumes a chunk in place.
+/// Consumes a chunk, and updates the state in place.
 pub(crate) fn consume_chunk<S: StorySink>(
     place: &mut Place,
     piece: &[u8],

@@ -1,4 +1,4 @@
-//! The states of a reader of messages.
+//! States of a reader of messages.
 
 use crate::head::MessageHead;
 use crate::lengths::MAX_TRAILER;
@@ -6,39 +6,39 @@ use crate::part::{HeaderPart, HeaderTexts};
 use arrayvec::ArrayVec;
 use wire_story::TextReader;
 
-/// The part of a message that is being read, with what was read of the header and the trailer.
+/// The part of a message that is in progress, with what was received of the header and the trailer.
 #[derive(Drop)]
 pub(crate) enum Place {
-    /// `count` octets of filler, and no SOH yet.
+    /// The filler before SOH: `count` octets of it were received.
     Filler {
         count: u8,
     },
-    /// SOH, and the parts of the header up to the one that is being read.
+    /// In the header, after SOH: the octets received of the parts, up to the part in progress.
     InHeader {
         part: HeaderPart,
         texts: HeaderTexts,
     },
-    /// The header, with an SP after which the info has started.
+    /// In the info, after the SP before it: the header so far.
     Info {
         head: MessageHead,
     },
-    /// The header, and `count` octets of the gap, and whether an LF is among them.
+    /// In the gap: the header, the number of octets of the gap, and whether an LF is among them.
     Gap {
         head: MessageHead,
         count: u8,
         has_feed: bool,
     },
-    /// The header, the gap, STX, and the text so far.
+    /// In the text, after STX: the header, and the number of pending CR.
     Text {
         head: MessageHead,
         text: TextReader,
     },
-    /// The header, the text, ETX, and the trailer so far.
+    /// In the trailer, after ETX: the header, and the trailer so far.
     Trailer {
         head: MessageHead,
         trailer: ArrayVec<u8, MAX_TRAILER>,
     },
-    /// The header, the text, the trailer, EOT, and `count` octets of filler.
+    /// In the filler after EOT: the header, the trailer, and the number of octets of this filler.
     AfterEnd {
         head: MessageHead,
         trailer: ArrayVec<u8, MAX_TRAILER>,

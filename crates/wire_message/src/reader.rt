@@ -1,4 +1,4 @@
-//! The push parser of a message, for any split into chunks.
+//! The push parser of a message, which accepts any split of the octets into chunks.
 
 ghost use Rattle.std.specs.Prelude.{◌≡◌, ◌↔◌, ◌<◌, [], List, ℕ, Option, false, is_none, length, Some, None, IsTrue, IsSome, IsOk, IfSome, IfErr, OnOk, OnErr};
 ghost use Rattle.std.specs.Option.{option_map};
@@ -22,17 +22,17 @@ use std::marker::Model;
 use wire_story::StorySink;
 
 /// A push parser of a message. It stores the octets received of the header and the trailer, at most
-/// 163, and a few counters. Of the text it stores only the number of CR at its end. No call
-/// allocates.
+/// 163, and a few counters. Of the text it stores only the number of CR at the end of the octets so
+/// far. No call allocates.
 ///
-/// Contracts see it as the state that the octets so far reach, and as `None` after an error.
+/// Its model in contracts is the state that the octets so far reach, or `None` after an error.
 #[derive(Drop)]
 pub struct MessageReader {
     place: Option<Place>,
 }
 
 impl fmt::Debug for MessageReader {
-    /// Writes the name of the type alone. [`MessageReader::place`] returns the state.
+    /// Writes only the name of the type. [`MessageReader::place`] returns the state.
     fn fmt<W: fmt::Write>(&self, f: &mut fmt::Formatter<W>) -> fmt::Result {
         f.write_str("MessageReader")
     }
@@ -65,7 +65,7 @@ impl MessageReader {
         }
     }
 
-    /// Checks whether a call returned an error.
+    /// Returns whether a call has returned an error.
     pub fn is_failed(&self) -> bool
         ensures { result ≡ is_none self.now }
     {
@@ -84,7 +84,8 @@ impl MessageReader {
         }
     }
 
-    /// Restores a reader from a saved state. Returns `None` exactly if no octets reach that state.
+    /// Restores a reader from a saved state. Returns `None` if and only if no octets reach that
+    /// state.
     pub fn at(place: MessagePlace) -> Option<MessageReader>
         ensures place { IfSome result (λ reader. ReaderHasSavedState reader place) }
         ensures stands { IfSome result (λ reader.
@@ -97,9 +98,9 @@ impl MessageReader {
         Some(MessageReader { place: Some(place) })
     }
 
-    /// Returns the least and the greatest number of octets that reach the state of the reader;
-    /// `None` if there is no greatest. For each number between them some octets do. The reader must
-    /// not have failed.
+    /// Returns the minimum and the maximum number of octets that reach the state of the reader. The
+    /// maximum is `None` if there is none. Every number between them is the length of some octets
+    /// that reach the state. The reader must not have failed.
     pub fn lengths(&self) -> (u64, Option<u64>)
         requires { IsSome self.now }
         ensures exactly { (count : ℕ) → IsReachedByLength self.now count ↔ IsPossibleLength result.0 result.1 count }
@@ -112,17 +113,18 @@ impl MessageReader {
         }
     }
 
-    /// Feeds the next octets of the object, and passes to the sink what is delivered of its text
-    /// among them, or among those before the rejected one.
+    /// Feeds the next octets of the object, and passes their text to the sink. On an error, passes
+    /// the text of the octets before the rejected one.
     ///
-    /// **Errors:** the first octet with which the octets so far are not a viable prefix of a
-    /// message, or their text of a story, or at which the sink stopped. The reader has then failed
-    /// ([`MessageReader::is_failed`]), and accepts no further call.
+    /// **Errors:** the first octet with which the octets so far are no longer a viable prefix of a
+    /// message, or their text is no longer a viable prefix of a story, or at which the sink
+    /// stopped. The reader has then failed ([`MessageReader::is_failed`]), and must not be called
+    /// again.
     pub fn feed<S: StorySink>(&mut self, piece: &[u8], sink: &mut S) -> Result<(), MessageFault>
         requires { IsSome self.old }
 
-        // The octets so far, with the chunk, are a viable prefix of a message, and their text of a
-        // story.
+        // The octets so far, including the chunk, are a viable prefix of a message, and their text
+        // is a viable prefix of a story.
         ensures takes_calls { OnOk result (IsSome self.new) }
         ensures taken { OnOk result (MessageReaderConsumes S.goes S.failures self.old piece.now self.new sink.old
             sink.new) }
@@ -131,8 +133,9 @@ impl MessageReader {
         ensures takes_nothing { length piece.now ≡ 0 → IsOk result }
         ensures nothing { length piece.now ≡ 0 → (self.new ≡ self.old) × (sink.new ≡ sink.old) }
 
-        // With the rejected octet they are not a viable prefix of a message, or their text of a
-        // story, or the sink stopped. Before it both were.
+        // With the rejected octet, the octets are no longer a viable prefix of a message, or their
+        // text is no longer a viable prefix of a story, or the sink stopped. Before that octet both
+        // were viable.
         ensures failed { OnErr result (self.new ≡ None) }
         ensures refused { IfErr result (λ fault.
             MessageReaderRejects S.goes S.failures self.old piece.now fault sink.old sink.new) }
@@ -150,7 +153,7 @@ impl MessageReader {
         }
     }
 
-    /// Checks whether the octets so far are a message: whether the object may end here.
+    /// Checks whether the octets so far are a complete message, so that the object may end here.
     #[inline(always)]
     pub fn is_whole(&self) -> bool
         ensures whole { IsTrue result → IsCompleteMessage self.now }
@@ -162,16 +165,17 @@ impl MessageReader {
 
     /// Ends the object.
     ///
-    /// **Errors:** `Unfinished`, with `taken` 0, before EOT. The reader has then failed.
+    /// **Errors:** `Unfinished`, with `taken` 0, if EOT has not been received. The reader has then
+    /// failed.
     pub fn close(&mut self) -> Result<(), MessageFault>
         requires { IsSome self.old }
 
-        // The octets so far are a message with the header and the trailer that were read, and with
-        // a text.
+        // The octets so far are a message with a text, and with the header and the trailer that
+        // were received.
         ensures unchanged { OnOk result (self.new ≡ self.old) }
         ensures whole { OnOk result (IsCompleteMessage self.old) }
 
-        // No message may end here.
+        // No message can end here.
         ensures failed { OnErr result (self.new ≡ None) }
         ensures fault { IfErr result (λ fault. (fault.taken ≡ 0) × (fault.cause ≡ MessageCause.Unfinished)) }
         ensures refused { OnErr result ((octets text : List ℕ) → MessageReaderHasRead self.old octets text
@@ -187,7 +191,7 @@ impl MessageReader {
         })
     }
 
-    /// Returns the header, once STX was received.
+    /// Returns the header, after STX was received.
     pub fn head(&self) -> Option<&MessageHead>
         ensures { option_map (λ head. head.now) result ≡ head_read self.now }
     {
@@ -199,7 +203,8 @@ impl MessageReader {
         }
     }
 
-    /// Returns the octets received of the trailer: empty before ETX, and complete from EOT on.
+    /// Returns the octets received of the trailer. They are empty before ETX, and complete after
+    /// EOT.
     pub fn trailer(&self) -> &[u8]
         ensures { result.now ≡ trailer_read self.now }
     {

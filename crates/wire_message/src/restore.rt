@@ -1,4 +1,4 @@
-//! Restores a state: from its parts, and then by a check that it is saved in this form.
+//! Restores a state from its saved parts, and checks that the state saves to the same parts.
 
 ghost use Rattle.std.specs.Prelude.{◌≡◌, ◌≤◌, ◌↔◌, ◌||◌, nat_lt, if◌then◌else◌, IsTrue, IsSome, IfSome};
 ghost use Rattle.wire_message.specs.declared.place.Place.{Place};
@@ -27,8 +27,8 @@ fn is_filler(count: u8) -> bool
     count <= MAX_FILLER
 }
 
-/// Checks whether the octets may be a part: at least one if `some`, none unless `begun`, and
-/// otherwise at most `most`.
+/// Checks whether the octets are valid for a part. They must be non-empty if `some`, must be empty
+/// unless `begun`, and may have at most `most` octets.
 fn is_part(class: Class, some: bool, begun: bool, most: usize, octets: &[u8]) -> bool
     ensures { IsTrue result ↔
         IsField (is_in_class class) (if some then 1 else 0) (if begun then most else 0) octets.now }
@@ -37,9 +37,8 @@ fn is_part(class: Class, some: bool, begun: bool, most: usize, octets: &[u8]) ->
     is_field(class, usize::from(some), most, octets)
 }
 
-/// Checks whether the saved header is consistent with `part`, the part that is being read. The
-/// first `some` parts must be non-empty, the parts after the first `begun` must be empty, and any
-/// between them may be either.
+/// Checks whether the saved header is consistent with `part`, the part in progress. The first
+/// `some` parts must be non-empty, and the parts after the first `begun` must be empty.
 fn is_header_so_far(part: HeaderPart, place: &MessagePlace) -> bool
     ensures { IsTrue result ↔ IsMessageState (Place.InHeader part (texts_in place.now)) }
 {
@@ -74,14 +73,15 @@ fn is_header_so_far(part: HeaderPart, place: &MessagePlace) -> bool
         && is_part(Class::Digit, some > 4, begun > 4, MAX_WORDS, &place.words)
 }
 
-/// Checks whether STX can still come after `count` octets of a gap, with or without an LF.
+/// Checks whether STX may still follow a gap of `count` octets. `has_feed` is whether the gap has
+/// an LF.
 fn is_gap(count: u8, has_feed: bool) -> bool
     ensures { IsTrue result ↔ (1 ≤ count) × (count ≤ max_filler) × IsTrue (has_feed || nat_lt count max_filler) }
 {
     1 <= count && count <= MAX_FILLER && (has_feed || count < MAX_FILLER)
 }
 
-/// Returns the header of a saved state, if it has a valid one.
+/// Returns the header of a saved state, if it is valid.
 fn head_of(place: &MessagePlace) -> Option<MessageHead>
     ensures admitted { IsSome result ↔ IsHeader (head_in place.now) }
     ensures parts { IfSome result (λ head. head ≡ head_in place.now) }
@@ -190,7 +190,7 @@ fn after_end(place: &MessagePlace) -> Option<Place>
     None
 }
 
-/// Returns the only state that may have this saved state.
+/// Returns the only state that could have this saved form, or `None`.
 fn only_state_for(place: &MessagePlace) -> Option<Place>
     ensures place { IfSome result IsMessageState }
     ensures only { IsOnlyState result place.now }
@@ -214,7 +214,7 @@ fn only_state_for(place: &MessagePlace) -> Option<Place>
     }
 }
 
-/// Returns the state with this saved state, or `None` if there is no such state.
+/// Returns the state with this saved form, or `None` if there is no such state.
 pub(crate) fn restore(saved_place: &MessagePlace) -> Option<Place>
     ensures place { IfSome result IsMessageState }
     ensures same { IfSome result (λ place. saved place ≡ saved_place.now) }

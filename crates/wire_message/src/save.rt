@@ -1,4 +1,4 @@
-//! Saves a state.
+//! Saves a state of a reader.
 
 ghost use Rattle.std.specs.Prelude.{◌≡◌, ◌≤◌, [], length};
 ghost use Rattle.wire_message.specs.States.Reading.{IsMessageState, place_with_header, saved, saved_part};
@@ -10,8 +10,8 @@ use crate::part::{HeaderPart, HeaderTexts};
 use crate::place::Place;
 use crate::saved::{MessagePart as Part, MessagePlace};
 
-/// Returns a part of the header in its saved form, in which the priority before its digit and after
-/// it are two.
+/// Converts a part of the header to its saved form, which distinguishes whether the digit of the
+/// priority was received.
 fn saved_part(part: HeaderPart, priority: &[u8]) -> Part
     ensures { result ≡ saved_part part priority.now }
 {
@@ -27,7 +27,7 @@ fn saved_part(part: HeaderPart, priority: &[u8]) -> Part
     }
 }
 
-/// Saves a state in a header, with what was read of it.
+/// Saves a state inside a header, with the octets received of each part.
 fn in_header(part: HeaderPart, texts: &HeaderTexts) -> MessagePlace
     ensures { result ≡ saved (Place.InHeader part texts.now) }
 {
@@ -41,7 +41,7 @@ fn in_header(part: HeaderPart, texts: &HeaderTexts) -> MessagePlace
     }
 }
 
-/// Saves a state after a header, with what was read of the trailer.
+/// Saves a state after a header, with the octets received of the trailer.
 fn saved_after_header(
     part: Part,
     counter: u8,

@@ -1,4 +1,4 @@
-//! The saved state of a reader.
+//! The saved form of a reader's state.
 
 ghost use Rattle.std.specs.Prelude.{◌≡◌, ◌↔◌, [], IsTrue};
 ghost use Rattle.wire_message.specs.States.Reading.{place_from};
@@ -6,7 +6,7 @@ ghost use Rattle.wire_message.specs.States.Reading.{place_from};
 use crate::lengths::MAX_SAVED;
 use arrayvec::ArrayVec;
 
-/// The part of a message that is being read.
+/// The part of a message that is in progress.
 #[derive(Clone, Copy, Debug, PartialEq, Eq)]
 pub enum MessagePart {
     /// Filler before SOH.
@@ -15,9 +15,9 @@ pub enum MessagePart {
     Source,
     /// The number, after its first digit.
     Number,
-    /// The priority, after the SP that follows the number.
+    /// The priority, after the SP before it.
     Priority,
-    /// The SP after the priority, which has been read.
+    /// The priority, after its digit.
     PriorityRead,
     /// The category, after the SP before it.
     Category,
@@ -35,16 +35,16 @@ pub enum MessagePart {
     AfterEnd,
 }
 
-/// The saved state of a reader of messages: all that it has stored of the octets so far. Parts
-/// after the one that is being read are empty.
+/// The saved state of a reader of messages: everything that it stores about the octets so far.
+/// Parts after the one in progress are empty.
 #[derive(Debug, Drop)]
 pub struct MessagePlace {
-    /// The part that is being read.
+    /// The part in progress.
     pub part: MessagePart,
-    /// The number of octets of filler before SOH or after EOT, or of the gap; 0 in other parts.
+    /// The number of octets of the filler before SOH or after EOT, or of the gap; 0 in other parts.
     pub counter: u8,
     /// In the gap, 1 if it has an LF. In the text, the number of CR at the end of the octets so
-    /// far. Otherwise 0.
+    /// far. In other parts 0.
     pub flag: u8,
     /// The source so far.
     pub source: ArrayVec<u8, MAX_SAVED>,
@@ -62,7 +62,7 @@ pub struct MessagePlace {
     pub trailer: ArrayVec<u8, MAX_SAVED>,
 }
 
-/// Checks whether two parts have the same octets.
+/// Checks whether two parts have equal octets.
 fn is_same(part: &ArrayVec<u8, MAX_SAVED>, other: &ArrayVec<u8, MAX_SAVED>) -> bool
     ensures { IsTrue result ↔ (part.now ≡ other.now) }
 {
@@ -70,7 +70,7 @@ fn is_same(part: &ArrayVec<u8, MAX_SAVED>, other: &ArrayVec<u8, MAX_SAVED>) -> b
 }
 
 impl MessagePlace {
-    /// Creates a saved state in a part, with no octets and counters of 0.
+    /// Creates a saved state in a part, without octets and with counters of 0.
     pub(crate) fn bare(part: MessagePart) -> MessagePlace
         ensures { result ≡ place_from part 0 0 [] [] [] [] [] [] [] }
     {
@@ -88,7 +88,7 @@ impl MessagePlace {
         }
     }
 
-    /// Checks whether the part and the counters are the same.
+    /// Checks whether the parts in progress and the counters are equal.
     fn has_counters_of(&self, other: &MessagePlace) -> bool
         ensures { IsTrue result ↔
             (self.now.part ≡ other.now.part) × (self.now.counter ≡ other.now.counter)
@@ -97,7 +97,7 @@ impl MessagePlace {
         self.part == other.part && self.counter == other.counter && self.flag == other.flag
     }
 
-    /// Checks whether two saved states are the same.
+    /// Checks whether two saved states are equal.
     pub(crate) fn is(&self, other: &MessagePlace) -> bool
         ensures { IsTrue result ↔ (self.now ≡ other.now) }
     {

@@ -1,4 +1,4 @@
-//! How many octets reach a state.
+//! Computes how many octets can reach a state.
 
 ghost use Rattle.std.specs.Prelude.{◌≡◌, ◌≤◌, ◌+◌, Some, None, length};
 ghost use Rattle.wire_message.specs.Format.Messages.{max_filler, max_source, max_number, max_priority, max_category, max_words, max_info, packed_info};
@@ -9,8 +9,7 @@ use crate::lengths::MAX_FILLER;
 use crate::part::{HeaderPart, HeaderTexts};
 use crate::place::Place;
 
-/// Returns the least and the greatest number of octets, if there are `octets` of them from SOH on,
-/// and any filler before them.
+/// Returns the minimum and the maximum length of a filler and `octets` octets from SOH on.
 fn after_filler(octets: usize) -> (u64, Option<u64>)
     requires { octets ≤ 256 }
     ensures least { result.0 ≡ octets }
@@ -20,8 +19,8 @@ fn after_filler(octets: usize) -> (u64, Option<u64>)
     (octets, Some(u64::from(MAX_FILLER) + octets))
 }
 
-/// Returns the least number of octets and no greatest, if there are at least `octets` of them from
-/// SOH on, with a text of any length among them.
+/// Returns the minimum length, and no maximum, of octets that contain a text of any length and at
+/// least `octets` octets from SOH on.
 fn with_text(octets: usize) -> (u64, Option<u64>)
     ensures least { result.0 ≡ octets }
     ensures greatest { result.1 ≡ None }
@@ -29,8 +28,8 @@ fn with_text(octets: usize) -> (u64, Option<u64>)
     (octets as u64, None)
 }
 
-/// Returns the length of the parts of a header up to the one that is being read, with the SP
-/// between them.
+/// Returns the length of the parts of a header up to the one in progress, including the SP between
+/// them.
 fn so_far_len(part: HeaderPart, texts: &HeaderTexts) -> usize
     ensures sum { result ≡ length (so_far part texts.now) }
     ensures within { result ≤ 3 + max_source + max_number + max_priority + max_category + max_words }
@@ -46,7 +45,7 @@ fn so_far_len(part: HeaderPart, texts: &HeaderTexts) -> usize
     }
 }
 
-/// Returns the length of SOH and the parts up to the words, with the SP between them.
+/// Returns the length of SOH and the parts up to the words, including the SP between them.
 fn fixed_len(head: &MessageHead) -> usize
     ensures sum { result ≡ fixed_octets head.now }
     ensures within { result ≤ 4 + max_source + max_number + max_priority + max_category + max_words }
@@ -55,7 +54,7 @@ fn fixed_len(head: &MessageHead) -> usize
     4 + numbered + head.priority().len() + head.category().len() + head.words().len()
 }
 
-/// Returns the length of SP and the info, or 0 for an empty info.
+/// Returns the length of SP and the info, or 0 if the info is empty.
 fn info_len(head: &MessageHead) -> usize
     ensures least { result ≡ length (packed_info head.now.info) }
     ensures within { result ≤ 1 + max_info }
@@ -64,7 +63,7 @@ fn info_len(head: &MessageHead) -> usize
     if info.is_empty() { 0 } else { 1 + info.len() }
 }
 
-/// Returns the length from SOH to STX, with LF alone as the gap.
+/// Returns the length from SOH to STX if the gap is a single LF.
 fn head_len(head: &MessageHead) -> usize
     ensures least { result ≡ least_head head.now }
     ensures within { result ≤ 7 + max_source + max_number + max_priority + max_category + max_words + max_info }
@@ -72,7 +71,7 @@ fn head_len(head: &MessageHead) -> usize
     fixed_len(head) + info_len(head) + 2
 }
 
-/// Returns the least and the greatest number of octets of the header and `count` octets of the gap.
+/// Returns the minimum and the maximum length up to the octet `count` of the gap.
 fn in_gap(head: &MessageHead, count: u8) -> (u64, Option<u64>)
     requires { count ≤ max_filler }
     ensures least { result.0 ≡ fixed_octets head.now + length (packed_info head.now.info) + count }
@@ -84,7 +83,7 @@ fn in_gap(head: &MessageHead, count: u8) -> (u64, Option<u64>)
     (least, greatest)
 }
 
-/// Returns the least number of octets that reach a state, and the greatest if there is one.
+/// Returns the minimum length of octets that reach a state, and the maximum length if there is one.
 pub(crate) fn lengths_to(place: &Place) -> (u64, Option<u64>)
     requires { IsMessageState place.now }
     ensures least { result.0 ≡ least_of place.now }

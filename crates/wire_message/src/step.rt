@@ -1,4 +1,4 @@
-//! The octets that end the filler and the parts of the header, and the part that comes after each.
+//! The octets that end the filler and each part of the header, and the part that follows.
 
 ghost use Rattle.std.specs.Prelude.{◌≡◌, ◌<◌, ◌&&◌, nat_lt, IfSome, IfNone, length, slice_index};
 ghost use Rattle.std.specs.Option.{unwrap_or};
@@ -13,7 +13,7 @@ use crate::place::Place;
 use arrayvec::ArrayVec;
 use iim_dataset::octets::{LF, SOH, SP};
 
-/// Consumes SOH, which ends the filler.
+/// Consumes SOH, which ends the filler before it.
 #[inline(never)]
 pub(crate) fn after_filler(count: u8, rest: &[u8]) -> Option<Place>
     requires place { IsMessageState (Place.Filler count) }
@@ -38,7 +38,8 @@ pub(crate) fn after_filler(count: u8, rest: &[u8]) -> Option<Place>
     None
 }
 
-/// Checks whether an octet ends a part of the header: it is one that does, and the part has octets.
+/// Checks whether an octet ends a part of the header: the part is non-empty, and the octet is its
+/// separator.
 #[inline(always)]
 pub(crate) fn ends_part(part: HeaderPart, texts: &HeaderTexts, octet: u8) -> bool
     ensures { result ≡ (ends part octet && nat_lt 0 (length (octets_of_part part texts.now))) }
@@ -70,8 +71,8 @@ fn after_words(texts: &HeaderTexts, octet: u8) -> Place
     }
 }
 
-/// Begins the part that comes after the octet, in place, or returns the state that comes after the
-/// words.
+/// Begins the part that follows the octet. If the info or the gap follows, returns that state
+/// instead.
 pub(crate) fn begin_part(part: &mut HeaderPart, texts: &mut HeaderTexts, octet: u8) -> Option<Place>
     requires { IsMessageState (begins part.old octet texts.old) }
     ensures { unwrap_or result (Place.InHeader part.new texts.new) ≡ begins part.old octet texts.old }

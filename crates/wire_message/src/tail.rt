@@ -1,4 +1,4 @@
-//! The octets that end the info, the gap and the trailer, and the part that comes after each.
+//! The octets that end the info, the gap and the trailer, and the part that follows.
 
 ghost use Rattle.std.specs.Prelude.{◌≡◌, ◌<◌, ◌&&◌, ◌==◌, IfSome, IfNone, length, slice_index};
 ghost use Rattle.iim_dataset.specs.Format.Octets.{stx};
@@ -33,7 +33,7 @@ pub(crate) fn after_info(head: MessageHead, rest: &[u8]) -> Option<Place>
     None
 }
 
-/// Checks whether an octet ends a gap, with or without an LF.
+/// Checks whether an octet ends a gap. `feed` is whether the gap has an LF.
 #[inline(always)]
 fn ends_gap(feed: bool, octet: u8) -> bool
     ensures { result ≡ (octet == stx && feed) }

@@ -1,4 +1,5 @@
-//! Reads the text: the reader of the story consumes it, and rejects ETX, which ends it.
+//! Consumes the text. The reader of the story consumes it up to ETX, which ends the text of the
+//! message.
 
 ghost use Rattle.std.specs.Prelude.{◌≡◌, ◌<◌, ◌≤◌, ℕ, false, true, [], length, take, IfOk, IfErr};
 ghost use Rattle.arrayvec.specs.ArrayVec.{ArrayVec};
@@ -12,7 +13,7 @@ use iim_dataset::octets::ETX;
 use wire_story::laws::{story_laws, text_states_are_reached};
 use wire_story::{StorySink, TextCause, TextReader};
 
-/// Returns the cause of a message for a cause of its text.
+/// Converts a cause of the text to a cause of the message.
 #[inline(always)]
 fn cause_in_text(cause: TextCause) -> MessageCause
     ensures { result ≡ message_cause_of cause }
@@ -24,7 +25,7 @@ fn cause_in_text(cause: TextCause) -> MessageCause
     }
 }
 
-/// Checks whether the reader of the story rejected a control octet.
+/// Checks whether a cause of the text is a control octet.
 #[inline(always)]
 fn is_control(cause: TextCause) -> bool
     ensures yes { result ≡ true → cause ≡ TextCause.ControlOctet }
@@ -34,7 +35,7 @@ fn is_control(cause: TextCause) -> bool
 }
 
 /// Consumes octets of the text, and the ETX that ends it. Returns the number of octets consumed,
-/// and whether ETX was the last of them.
+/// and whether the last of them was ETX.
 #[inline(always)]
 pub(crate) fn in_text<S: StorySink>(
     head: &MessageHead,

@@ -1,4 +1,4 @@
-//! Reads a header that is complete in a chunk in one step.
+//! Parses in one step a header that is complete in a chunk.
 
 ghost use Rattle.std.specs.Prelude.{ℕ, ◌≡◌, ◌≤◌, ◌<◌, ◌⊎◌, List, [], ◌∷◌, ◌++◌, length, take, IsTrue, IfSome, IfNone};
 ghost use Rattle.iim_dataset.specs.Format.Octets.{stx, sp};
@@ -18,7 +18,8 @@ use crate::place::Place;
 use iim_dataset::octets::{LF, SOH, SP, STX};
 use wire_story::TextReader;
 
-/// Returns the longest prefix of the class, of at most `most` octets, and what follows.
+/// Splits off the longest prefix whose octets are in the class, but at most `most` octets. Returns
+/// the prefix and the rest.
 #[inline(always)]
 fn part(class: Class, most: usize, octets: &[u8]) -> (&[u8], &[u8])
     ensures parts { octets.now ≡ result.0.now ++ result.1.now }
@@ -28,7 +29,7 @@ fn part(class: Class, most: usize, octets: &[u8]) -> (&[u8], &[u8])
     octets.split_at(prefix_len(class, most, octets))
 }
 
-/// Returns what follows the octet, if it comes first.
+/// Removes `octet` from the start. Returns the rest, or `None` if another octet is first.
 #[inline(always)]
 pub(crate) fn after(octet: u8, octets: &[u8]) -> Option<&[u8]>
     ensures { IfSome result (λ rest. octets.now ≡ octet ∷ rest.now) }
@@ -39,7 +40,8 @@ pub(crate) fn after(octet: u8, octets: &[u8]) -> Option<&[u8]>
     }
 }
 
-/// Returns the info of a header, which may be left out with its SP, and what follows.
+/// Splits off the info of a header, which may be missing together with the SP before it. Returns
+/// the info and the rest.
 #[inline(always)]
 fn info_part(octets: &[u8]) -> (&[u8], &[u8])
     ensures front { (octets.now ≡ sp ∷ result.0.now ++ result.1.now)
@@ -52,7 +54,7 @@ fn info_part(octets: &[u8]) -> (&[u8], &[u8])
     }
 }
 
-/// Checks whether an LF is among the octets.
+/// Checks whether the octets contain an LF.
 #[inline(always)]
 fn has_feed(octets: &[u8]) -> bool
     ensures { result ≡ has_feed octets.now }
@@ -60,7 +62,8 @@ fn has_feed(octets: &[u8]) -> bool
     octets.iter().any(|octet| *octet == LF)
 }
 
-/// Returns what follows a gap and STX.
+/// Removes a gap and STX from the start. Returns the rest, or `None` if the octets do not begin
+/// with a gap and STX.
 #[inline(always)]
 fn after_gap(octets: &[u8]) -> Option<&[u8]>
     ensures { IfSome result (λ rest. (gap : List ℕ) × IsGap gap × (octets.now ≡ gap ++ stx ∷ rest.now)) }
@@ -88,8 +91,8 @@ fn are_some(source: &[u8], number: &[u8], priority: &[u8], category: &[u8], word
         && !words.is_empty()
 }
 
-/// Reads a header that is complete at the start, from SOH to STX. Returns its joined parts, where
-/// they end, and what follows STX.
+/// Parses a complete header at the start, from SOH to STX. Returns its joined parts, the offsets at
+/// which they end, and the octets after STX.
 #[inline(always)]
 fn parse_header(octets: &[u8]) -> Option<(&[u8], Ends, &[u8])>
     ensures head { IfSome result (λ front. (begins : BeginsWithHeader octets.now (parts_in front.0.now front.1))
@@ -118,8 +121,8 @@ fn parse_header(octets: &[u8]) -> Option<(&[u8], Ends, &[u8])>
     ))
 }
 
-/// Consumes a header that is complete at the start, after any number of octets of filler, and
-/// returns its number of octets.
+/// Consumes a complete header at the start, which filler may precede. Returns the number of octets
+/// consumed.
 #[inline(never)]
 pub(crate) fn whole_head(place: &mut Place, octets: &[u8]) -> Option<usize>
     ensures takes { IfSome result (λ used. (count : ℕ) → ConsumesAnOctet (Filler count) octets.now place.new used) }

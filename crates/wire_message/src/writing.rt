@@ -1,4 +1,4 @@
-//! The octets of a message before and after its text, as a packer writes them.
+//! The octets of a message before and after its text, in the form that a packer writes.
 
 ghost use Rattle.std.specs.Prelude.{◌≡◌, ◌↔◌, ◌+◌, ◌≤◌, ◌∷◌, ◌++◌, length, IsTrue, IsSome, IfSome};
 ghost use Rattle.arrayvec.specs.ArrayVec.{array_vec_len};
@@ -11,7 +11,7 @@ use crate::lengths::MAX_TRAILER;
 use arrayvec::ArrayVec;
 use iim_dataset::octets::{CR, EOT, ETX, LF, SOH, STX};
 
-/// Appends SP and the info, or nothing for an empty one.
+/// Appends SP and the info, or nothing if the info is empty.
 fn append_info(out: &mut ArrayVec<u8, 128>, info: &[u8])
     requires { array_vec_len out.old + 1 + length info.now ≤ 128 }
     ensures items { out.new.items ≡ out.old.items ++ packed_info info.now }

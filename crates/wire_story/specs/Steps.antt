@@ -1,4 +1,4 @@
--- Lines joined by LF, masks of octets, and the lemmas on collected lines.
+-- Lines joined by LF, masks of octets, and lemmas about collected lines.
 use Rattle.std.specs.Prelude.{ℕ, ◌==◌, List, if◌then◌else◌, ◌≡◌, ◌+◌, ◌-◌, ◌^◌, ◌<◌, ◌≤◌, Bool, nat_lt, length, take, drop, map}
 use Rattle.std.specs.{List.slice_split, Simd.Lanes.mask_l}
 use Rattle.std.proofs.Common.{rules, [], ◌∷◌, ◌++◌, refl, ap, ◌∙◌, false, arith}
@@ -8,41 +8,43 @@ use Rattle.wire_story.specs.Format.Texts.{max_returns, line_end, LineOctet, insi
 use Rattle.wire_story.specs.States.Reading.{add_octet, collect, WritesToTarget}
 use Rattle.wire_story.specs.declared.marks.Marks.{Marks}
 
--- the lines that are stored joined by LF
+-- the lines in octets that are joined by LF
 abbrev pub lines_in : List ℕ → List (List ℕ)
 lines_in octets = slice_split (λ b. b == lf) octets
 
--- The octet is low: below all octets that certainly belong to a line.
+-- The octet is low: less than every octet that is certainly allowed in a line.
 abbrev pub is_low : ℕ → Bool
 is_low b = nat_lt b 14
 
--- 0 if octets of a line end inside a word, after others that do or do not, and otherwise 1
+-- 0 if octets of a line end inside a word, otherwise 1; `inside` is whether the octets before them
+-- end inside a word
 abbrev pub outside_after : Bool → List ℕ → ℕ
 outside_after inside xs = if inside_after inside (map LineOctet xs) then 0 else 1
 
--- The mask covers the next `many` octets: it has a bit for each, and the sentinel bit after those.
+-- The mask covers the next `many` octets: it has a bit for each, and the sentinel bit above these
+-- bits.
 pub record MaskCovers (xs : List ℕ) (m : Marks) : Type 0 where
   pub many : ℕ
   pub within : many ≤ length xs
   pub few : many ≤ 16
   pub is : m.left ≡ mask_l (map is_low (take many xs)) + 2 ^ many
 
--- The first `used` octets, at least one, were consumed: `held` CR are pending after them, and this
--- is the mask of what remains.
+-- The first `used` octets, one or more, were consumed. Afterwards `held` CR are pending, and this
+-- is the mask of the remaining octets.
 pub record IsTextPrefix (rest : List ℕ) (held used : ℕ) (marks : Marks) : Type 0 where
   pub few : held ≤ max_returns
   pub some : 0 < used
   pub within : used ≤ length rest
   pub next : MaskCovers (drop used rest) marks
 
--- A line end of `end` octets comes first: LF alone, or with one CR before it.
+-- A line end of `end` octets is first: LF alone, or CR LF.
 pub record BeginsWithLineEnd (rest : List ℕ) (end : ℕ) : Type 0 where
   pub some : 0 < end
   pub few : end ≤ 2
   pub within : end ≤ length rest
   pub is : take end rest ≡ line_end (end - 1)
 
--- ---- The lemmas on collected lines that their impl provides.
+-- ---- Lemmas about collected lines, for the implementation of the sink's trait.
 
 pub collect-append : (lines : List (List ℕ)) (xs ys : List StoryEvent) → collect lines (xs ++ ys) ≡ collect (collect lines xs) ys
 collect-append lines [] ys = refl
@@ -52,7 +54,7 @@ collect-append lines (LineEnd ∷ xs) ys = collect-append (lines ++ [] ∷ []) x
 pub collect_joined : (a b c : List (List ℕ)) (xs ys : List StoryEvent) → b ≡ collect a xs → c ≡ collect b ys → c ≡ collect a (xs ++ ys)
 collect_joined a b c xs ys first later = later ∙ (ap (λ (lines : List (List ℕ)). collect lines ys) first ∙ rw collect-append refl)
 
--- ---- The lemmas on a counter of words that its impl provides.
+-- ---- Lemmas about a counter of words, for the implementation of the sink's trait.
 
 pub told-append : (inside : Bool) (xs ys : List StoryEvent)
     → (words_of_events inside (xs ++ ys) ≡ words_of_events inside xs + words_of_events (inside_after inside xs) ys)
@@ -70,7 +72,7 @@ counts_joined a b c xs ys first later = record {
   inside = rw (later.inside, first.inside, (told-append a.inside xs ys).1) refl;
 }
 
--- ---- The lemmas on writers of lines that their impl provides.
+-- ---- Lemmas about writers of lines, for the implementation of the sink's trait.
 
 pub writes_nothing : (device : Device) (stops : ℕ) → WritesToTarget device device stops stops []
 writes_nothing device stops = search (rules, arith, appends_nothing)

@@ -7,10 +7,10 @@ use std::error::Error;
 use std::fmt;
 use std::fmt::{Display, Formatter};
 
-/// Why a reader of a text rejected an octet, or the end, each with its number.
+/// Why a reader of a text rejected an octet, or the end of the text. Each cause has a number.
 #[derive(Clone, Copy, Debug, PartialEq, Eq)]
 pub enum TextCause {
-    /// A CR was received before it, and no LF followed that CR.
+    /// The text has a CR before this octet that no LF follows.
     LoneReturn = 40,
     /// SOH, STX, ETX or EOT occurs in the text.
     ControlOctet = 41,
@@ -51,12 +51,12 @@ impl Display for TextCause {
 
 impl Error for TextCause {}
 
-/// A reader of a text rejected an octet, or the end.
+/// The error of a reader of a text that rejected an octet, or the end of the text.
 #[derive(Clone, Copy, Debug, PartialEq, Eq)]
 pub struct TextFault {
     /// The number of octets of the slice before the rejected one.
     pub taken: usize,
-    /// Why it was rejected.
+    /// Why the octet or the end was rejected.
     pub cause: TextCause,
 }
 
@@ -75,7 +75,7 @@ impl Display for TextFault {
 impl Error for TextFault {}
 
 impl TextFault {
-    /// Returns the same fault for a slice that begins `octets` octets earlier.
+    /// Converts the fault to one for a longer slice, which begins `octets` octets earlier.
     pub(crate) fn after(self, octets: usize) -> TextFault
         requires { octets + self.taken < 2 ^ 64 }
         ensures { result ≡ record { taken = octets + self.taken; cause = self.cause } }

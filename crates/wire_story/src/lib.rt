@@ -1,9 +1,10 @@
-//! The text of a story, by the rules of our own profile: its lines, its line ends, and the sinks
-//! that they go to.
+//! The text of a story, in the profile of this project: its lines, its line ends, and the sinks
+//! that receive them.
 //!
-//! Depends on `iim_dataset`. The crates above read a text by [`TextReader`], for any split into
-//! slices. The sink receives exactly what is delivered of the octets so far. A fault is reported at
-//! the first octet with which they are not a viable prefix of a text, or at which the sink stopped.
+//! Depends on `iim_dataset`. The crates above read a text with [`TextReader`], which accepts any
+//! split into slices. The sink receives exactly the text that is delivered for the octets so far. A
+//! fault is reported at the first octet with which they are no longer a viable prefix of a text, or
+//! at which the sink stopped.
 #![tactic(auto)]
 
 mod discard;

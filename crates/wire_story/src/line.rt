@@ -1,4 +1,4 @@
-//! The octets of lines and line ends.
+//! Lines and line ends.
 
 ghost use Rattle.std.specs.Prelude.{◌≡◌, ◌↔◌, IsTrue};
 ghost use Rattle.wire_story.specs.Format.Texts.{is_line_octet, IsLine};
@@ -9,7 +9,7 @@ use iim_dataset::octets::{CR, EOT, ETX, LF, SOH, STX};
 /// The line end that a packer writes.
 pub const LINE_END: [u8; 2] = [CR, LF];
 
-/// Checks whether a line may have the octet.
+/// Checks whether the octet is allowed in a line.
 #[inline(always)]
 pub(crate) fn may_be_in_line(octet: u8) -> bool
     ensures { result ≡ is_line_octet octet }
@@ -17,7 +17,7 @@ pub(crate) fn may_be_in_line(octet: u8) -> bool
     !(octet == SOH || octet == STX || octet == ETX || octet == EOT || octet == LF || octet == CR)
 }
 
-/// Checks whether a line may have each of the octets: any but SOH, STX, ETX, EOT, LF and CR.
+/// Checks whether all octets are allowed in a line: any octets but SOH, STX, ETX, EOT, LF and CR.
 pub fn is_text(octets: &[u8]) -> bool
     ensures { IsTrue result ↔ IsLine octets.now }
 {

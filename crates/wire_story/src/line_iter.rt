@@ -11,11 +11,11 @@ use crate::marks::Marks;
 use iim_dataset::octets::LF;
 use std::marker::Model;
 
-/// An iterator over the lines of a text, in order. Contracts see it as the list of lines that
-/// remain.
+/// An iterator over the lines of a text, in order. Its model in contracts is the list of the
+/// remaining lines.
 #[derive(Debug, Drop)]
 pub struct LineIter<'a> {
-    // The octets that remain, or `None` after the last line.
+    // The remaining octets, or `None` after the last line.
     rest: Option<&'a [u8]>,
 }
 
@@ -26,7 +26,7 @@ impl<'a> Model for LineIter<'a> {
 }
 
 impl<'a> LineIter<'a> {
-    /// Creates an iterator over the lines of these octets, which are joined by LF.
+    /// Creates an iterator over the lines in these octets, which are joined by LF.
     pub(crate) fn new(octets: &'a [u8]) -> LineIter<'a>
         ensures { result ≡ lines_in octets.entry.now }
     {

@@ -1,4 +1,4 @@
-//! A sink that collects the lines.
+//! A sink that collects lines.
 
 ghost use Rattle.std.specs.Prelude.{◌≡◌, ◌<◌, [], ◌∷◌, length, map, take, refl, vec_capacity, IfErr, OnOk, OnErr};
 ghost use Rattle.iim_dataset.specs.Format.Octets.{CounterRose};
@@ -13,10 +13,10 @@ use iim_dataset::octets::LF;
 use std::alloc::Global;
 use std::marker::Model;
 
-/// A sink that stores lines as it receives them. If an allocation fails, the lines are unchanged.
+/// A sink that stores the lines that it receives. If an allocation fails, the lines are unchanged.
 ///
-/// Contracts see it as the list of lines, at least one, the number of failed allocations, and the
-/// capacity in octets.
+/// Its model in contracts is the list of lines, of which there is at least one, the number of
+/// failed allocations, and the capacity in octets.
 #[derive(Drop)]
 pub struct Lines {
     // The lines joined by LF. No line has an LF.
@@ -61,7 +61,7 @@ impl Lines {
         &self.octets
     }
 
-    /// Counts a failed allocation, and returns the stop for it.
+    /// Counts a failed allocation, and returns the stop that reports it.
     fn refused(&mut self) -> Stop
         ensures taken { result.taken ≡ 0 }
         ensures lines { self.new.lines ≡ self.old.lines }
@@ -92,7 +92,7 @@ impl StorySink for Lines {
             self.new.lines ≡ collect self.old.lines (map LineOctet (take stop.taken run.now))) }
         ensures counted { OnErr result (CounterRose self.old.failures self.new.failures) }
 
-        // Octets are stored all or none.
+        // If the call fails, no octets were stored.
         ensures unchanged { OnErr result (self.new.lines ≡ self.old.lines) }
     {
         if run.is_empty() {

@@ -1,5 +1,5 @@
-//! Finds the next octet that may end a line. Sixteen octets give one mask, and each bit of it is
-//! used before the next mask is made.
+//! Finds the next octet that may end a line. Sixteen octets are tested at once, and the result is a
+//! mask with a bit for each. All bits of a mask are used before the next sixteen octets are tested.
 
 ghost use Rattle.std.specs.Prelude.{◌≡◌, ◌<◌, ◌≤◌, ◌+◌, ◌/◌, ◌^◌, nat_lt, count_ones, false, length, drop, map, slice_index, take};
 ghost use Rattle.std.specs.Int.Count.{count_trailing_zeros};
@@ -13,21 +13,22 @@ use std::simd::prelude::*;
 /// The number of octets that are tested at once.
 pub(crate) const BLOCK: usize = 16;
 
-/// The octets that a line may not have are all below this one, and so are few others.
+/// Every octet that is not allowed in a line is less than this one. Only a few allowed octets are.
 const LEAST_UNMARKED: u8 = 14;
 
-/// The sentinel bit after the bits of a mask.
+/// The sentinel bit, above the sixteen bits of a mask.
 const END: u64 = 1 << 16;
 
-/// A mask of the next octets: which of them are low, that is, below `LEAST_UNMARKED`.
+/// A mask of the next octets. It marks the octets that are less than `LEAST_UNMARKED`, which are
+/// called low.
 #[derive(Clone, Copy)]
 pub(crate) struct Marks {
-    // The lowest bit is that of the next octet. The highest bit that is set is the sentinel, after
+    // The lowest bit belongs to the next octet. The highest bit that is set is the sentinel, above
     // the bits of the octets.
     left: u64,
 }
 
-/// Returns the mask of the low octets of a block.
+/// Returns a mask of the low octets of a block.
 #[inline(always)]
 fn mask_of(block: &[u8]) -> u64
     requires { 16 ≤ length block.now }
@@ -37,7 +38,8 @@ fn mask_of(block: &[u8]) -> u64
     octets.simd_lt(u8x16::splat(LEAST_UNMARKED)).to_bitmask()
 }
 
-/// Returns the number of octets before the lowest bit that is set, and the mask from that bit on.
+/// Returns the number of octets before the lowest bit that is set, and the mask shifted to that
+/// bit.
 #[inline(always)]
 fn first_marked(left: u64) -> (usize, u64)
     requires { 0 < left }
@@ -48,8 +50,8 @@ fn first_marked(left: u64) -> (usize, u64)
     (calm, left >> calm)
 }
 
-/// Returns the position of the first low octet after the first `from` octets, by the last block,
-/// which overlaps them; or the number of octets otherwise.
+/// Returns the index of the first low octet at or after `from`, found in the last block, which may
+/// overlap earlier octets. Returns the number of octets if there is no low octet.
 #[inline(always)]
 fn next_low_octet(from: usize, octets: &[u8]) -> usize
     requires room { 16 ≤ length octets.now }
@@ -65,7 +67,8 @@ fn next_low_octet(from: usize, octets: &[u8]) -> usize
     from + calm
 }
 
-/// Returns the length of the longest prefix that lies in one line, if the first `from` octets do.
+/// Returns the length of the longest prefix that is within one line. The first `from` octets must
+/// be within one line.
 #[inline(always)]
 pub(crate) fn tail_len(from: usize, octets: &[u8]) -> usize
     requires within { from ≤ length octets.now }
@@ -87,8 +90,8 @@ pub(crate) fn tail_len(from: usize, octets: &[u8]) -> usize
     at
 }
 
-/// Returns the position of the first low octet after the first `from` octets, with the mask from it
-/// on; or the end of the last complete block.
+/// Returns the index of the first low octet at or after `from`, with the mask from that octet on.
+/// If the complete blocks have no low octet, returns the end of the last complete block.
 #[inline(always)]
 fn next_marks(from: usize, octets: &[u8]) -> (usize, u64)
     requires room { from + 16 ≤ length octets.now }
@@ -110,7 +113,7 @@ fn next_marks(from: usize, octets: &[u8]) -> (usize, u64)
 }
 
 impl Marks {
-    /// Creates a mask of no octets.
+    /// Creates a mask that covers no octets.
     #[inline(always)]
     pub(crate) fn new() -> Marks
         ensures { result ≡ record { left = 1 } }
@@ -118,7 +121,7 @@ impl Marks {
         Marks { left: 1 }
     }
 
-    /// Returns the mask after the next `used` octets.
+    /// Returns the mask without the next `used` octets.
     #[inline(always)]
     pub(crate) fn after(self, used: usize, octets: &[u8]) -> Marks
         requires marks { MaskCovers octets.now self }
@@ -134,7 +137,7 @@ impl Marks {
         Marks { left }
     }
 
-    /// Checks whether the mask has a low octet.
+    /// Checks whether the mask marks a low octet.
     #[inline(always)]
     pub(crate) fn has_low_octet(self) -> bool
         ensures { result ≡ nat_lt 1 (count_ones self.left) }
@@ -142,8 +145,8 @@ impl Marks {
         self.left.count_ones() > 1
     }
 
-    /// Returns the number of octets before the first one that is low or that the mask does not
-    /// cover. They lie in one line.
+    /// Returns the number of octets before the first one that is low or not covered by the mask.
+    /// These octets are within one line.
     #[inline(always)]
     pub(crate) fn unmarked_len(self, octets: &[u8]) -> usize
         requires { MaskCovers octets.now self }
@@ -155,7 +158,7 @@ impl Marks {
         first_marked(self.left).0
     }
 
-    /// Returns the length of the longest prefix that lies in one line, and the mask after it.
+    /// Returns the length of the longest prefix that is within one line, and the mask after it.
     #[inline(always)]
     pub(crate) fn run_len(self, octets: &[u8]) -> (usize, Marks)
         requires { MaskCovers octets.now self }

@@ -1,5 +1,5 @@
-//! Reads a chunk of a text, after pending CR or none: by the longest slices that lie in one line,
-//! and otherwise octet by octet.
+//! Consumes a chunk of a text, possibly after pending CR: the longest slices that are within one
+//! line, and otherwise octet by octet.
 
 ghost use Rattle.std.specs.Prelude.{◌≡◌, ◌<◌, ◌≤◌, false, length, drop, slice_index, take, Some, IfErr, IfOk, IsTrue, OnOk};
 ghost use Rattle.iim_dataset.specs.Format.Octets.{lf, cr};
@@ -12,11 +12,11 @@ use crate::marks::{BLOCK, Marks, tail_len};
 use crate::sink::StorySink;
 use iim_dataset::octets::{CR, LF};
 
-/// The greatest number of CR before an LF.
+/// The maximum number of CR before an LF.
 const MAX_RETURNS: u8 = 2;
 
-/// Returns the length of the longest prefix that lies in one line after `held` pending CR, and the
-/// mask after it.
+/// Returns the length of the longest prefix that is within one line, and the mask after it. The
+/// length is 0 if CR are pending.
 #[inline(always)]
 fn run_len(held: u8, marks: Marks, octets: &[u8]) -> (usize, Marks)
     requires { MaskCovers octets.now marks }
@@ -33,7 +33,7 @@ fn run_len(held: u8, marks: Marks, octets: &[u8]) -> (usize, Marks)
     marks.run_len(octets)
 }
 
-/// Checks whether CR LF comes first and no CR is pending.
+/// Checks whether CR LF is first and no CR is pending.
 #[inline(always)]
 fn has_line_end(held: u8, octets: &[u8]) -> bool
     ensures none { IsTrue result → held ≡ 0 }
@@ -44,8 +44,8 @@ fn has_line_end(held: u8, octets: &[u8]) -> bool
     held == 0 && octets.len() >= 2 && octets[0] == CR && octets[1] == LF
 }
 
-/// Consumes the CR that comes first, or CR LF at once if no CR is pending. Returns the number of CR
-/// that are pending then, and the number of octets consumed.
+/// Consumes the CR at the start, or CR LF at once if no CR is pending. Returns the number of CR
+/// that are pending afterwards, and the number of octets consumed.
 #[inline(always)]
 fn consume_return<S: StorySink>(
     held: u8,
@@ -80,8 +80,8 @@ fn consume_return<S: StorySink>(
     })
 }
 
-/// Consumes what comes first, which a line may not have or which follows pending CR. Returns the
-/// number of CR that are pending then, and the number of octets consumed.
+/// Consumes the octet at the start, which is not allowed in a line or follows pending CR. Returns
+/// the number of CR that are pending afterwards, and the number of octets consumed.
 #[inline(always)]
 fn consume_marked<S: StorySink>(
     held: u8,
@@ -123,7 +123,7 @@ fn consume_marked<S: StorySink>(
     })
 }
 
-/// Passes the first `run` octets, which lie in a line, to the sink, if there are any.
+/// Passes the first `run` octets to the sink, if there are any. They are within one line.
 #[inline(always)]
 fn take_run<S: StorySink>(held: u8, run: usize, rest: &[u8], sink: &mut S) -> Result<(), TextFault>
     requires within { run ≤ length rest.now }
@@ -146,9 +146,8 @@ fn take_run<S: StorySink>(held: u8, run: usize, rest: &[u8], sink: &mut S) -> Re
     }
 }
 
-/// Consumes a prefix of the remaining octets: the longest one that lies in one line, and what
-/// follows it. Returns the number of CR that are pending then, the number of octets consumed, and
-/// the mask after them.
+/// Consumes the longest prefix that is within one line, and the octet after it. Returns the number
+/// of CR that are pending afterwards, the number of octets consumed, and the mask after them.
 #[inline(always)]
 fn consume_prefix<S: StorySink>(
     held: u8,
@@ -180,8 +179,8 @@ fn consume_prefix<S: StorySink>(
     }
 }
 
-/// Returns the length of the line end after the first `run` octets if no CR is pending, or 0 if
-/// no line end comes there.
+/// Returns the length of the line end after the first `run` octets, or 0 if there is none. No CR is
+/// pending.
 #[inline(always)]
 fn end_len(run: usize, octets: &[u8]) -> usize
     requires { run ≤ length octets.now }
@@ -199,7 +198,7 @@ fn end_len(run: usize, octets: &[u8]) -> usize
     0
 }
 
-/// Passes the line end of `end` octets that comes first to the sink. No CR is pending.
+/// Passes the line end at the start, of `end` octets, to the sink. No CR is pending.
 #[inline(always)]
 fn consume_line_end<S: StorySink>(end: usize, rest: &[u8], sink: &mut S) -> Result<(), TextFault>
     requires { BeginsWithLineEnd rest.now end }
@@ -218,9 +217,9 @@ fn consume_line_end<S: StorySink>(end: usize, rest: &[u8], sink: &mut S) -> Resu
     }
 }
 
-/// Consumes the first line with its end if no CR is pending, and if the end comes at the first low
-/// octet or right after the octets of the mask. Returns the number of octets consumed, or 0 if the
-/// end does not come there.
+/// Consumes the first line and its line end, if that end is at the first low octet or directly
+/// after the octets of the mask. Returns the number of octets consumed, or 0 if the end is
+/// elsewhere. No CR is pending.
 #[inline(always)]
 fn consume_line<S: StorySink>(rest: &[u8], marks: Marks, sink: &mut S) -> Result<usize, TextFault>
     requires marks { MaskCovers rest.now marks }
@@ -245,8 +244,8 @@ fn consume_line<S: StorySink>(rest: &[u8], marks: Marks, sink: &mut S) -> Result
     }
 }
 
-/// Consumes lines from the start if no CR is pending, as long as the mask has a low octet. Returns
-/// the number of octets consumed, and the mask after them.
+/// Consumes lines from the start, as long as the mask marks a low octet. Returns the number of
+/// octets consumed, and the mask after them. No CR is pending.
 #[inline(always)]
 fn consume_lines<S: StorySink>(
     rest: &[u8],
@@ -278,7 +277,8 @@ fn consume_lines<S: StorySink>(
     Ok((at, here))
 }
 
-/// Consumes a prefix of the remaining octets, and after a short one the lines that the mask covers.
+/// Consumes a prefix of the remaining octets and, if that prefix is short, the lines that the mask
+/// covers.
 #[inline(always)]
 fn consume_prefixes<S: StorySink>(
     held: u8,
@@ -305,7 +305,7 @@ fn consume_prefixes<S: StorySink>(
     }
 }
 
-/// Consumes a chunk after `held` pending CR, and returns the number of CR that are pending then.
+/// Consumes a chunk after `held` pending CR. Returns the number of CR that are pending afterwards.
 pub(crate) fn consume_chunk<S: StorySink>(
     held: u8,
     piece: &[u8],

@@ -1,4 +1,4 @@
-//! The push parser of a text, for any split into slices.
+//! The push parser of a text, which accepts any split of the octets into slices.
 
 ghost use Rattle.std.specs.Prelude.{◌≡◌, ◌≤◌, [], List, ℕ, Option, is_none, Some, None, ◌↔◌, IsSome, IfSome, IfErr, OnOk, OnErr};
 ghost use Rattle.std.specs.Option.{ForSome};
@@ -11,12 +11,12 @@ use crate::piece::consume_chunk;
 use crate::sink::StorySink;
 use std::marker::Model;
 
-/// The greatest number of CR that may be pending: a third one is rejected.
+/// The maximum number of pending CR. A third one is rejected.
 const MAX_PENDING: u8 = 2;
 
-/// A push parser of a text. It stores nothing of the text but the number of CR at its end.
+/// A push parser of a text. It stores only the number of CR at the end of the octets so far.
 ///
-/// Contracts see it as that number, and as `None` after an error.
+/// Its model in contracts is that number, or `None` after an error.
 #[derive(Debug, Drop)]
 pub struct TextReader {
     held: Option<u8>,
@@ -39,15 +39,15 @@ impl TextReader {
         TextReader { held: Some(0) }
     }
 
-    /// Checks whether a call returned an error.
+    /// Returns whether a call has returned an error.
     pub fn is_failed(&self) -> bool
         ensures { result ≡ is_none self.now }
     {
         self.held.is_none()
     }
 
-    /// Returns the number of CR at the end of the octets so far, of which nothing is delivered yet:
-    /// at most 2. The reader must not have failed.
+    /// Returns the number of CR at the end of the octets so far, which is at most 2. Nothing is
+    /// delivered for them yet. The reader must not have failed.
     pub fn held(&self) -> u8
         requires { IsSome self.now }
         ensures { self.now ≡ Some result }
@@ -55,8 +55,8 @@ impl TextReader {
         self.held.unwrap()
     }
 
-    /// Creates a reader with `held` pending CR. Returns `None` if no octets reach that state: if
-    /// there are more than 2.
+    /// Creates a reader with `held` pending CR. Returns `None` if that is more than 2, since no
+    /// octets reach that state.
     pub fn at(held: u8) -> Option<TextReader>
         ensures place { IfSome result (λ reader. reader ≡ Some held) }
         ensures exactly { IsSome result ↔ ((octets : List ℕ) × TextReaderHasRead (Some held) octets) }
@@ -68,21 +68,21 @@ impl TextReader {
         Some(TextReader { held: Some(held) })
     }
 
-    /// Feeds the next octets of the text, and passes to the sink what is delivered of them, or of
-    /// those before the rejected one.
+    /// Feeds the next octets of the text, and passes to the sink what is delivered for them. On an
+    /// error, passes what is delivered for the octets before the rejected one.
     ///
-    /// **Errors:** the first octet with which the octets so far are not a viable prefix of a text,
-    /// or at which the sink stopped. The reader has then failed ([`TextReader::is_failed`]), and
-    /// accepts no further call.
+    /// **Errors:** the first octet with which the octets so far are no longer a viable prefix of a
+    /// text, or at which the sink stopped. The reader has then failed ([`TextReader::is_failed`]),
+    /// and must not be called again.
     pub fn run<S: StorySink>(&mut self, run: &[u8], sink: &mut S) -> Result<(), TextFault>
         requires { IsSome self.old }
 
-        // The octets so far, with the slice, are a viable prefix of a text, and the sink received
-        // what is delivered of the slice.
+        // The octets so far, including the slice, are a viable prefix of a text, and the sink
+        // received what is delivered for the slice.
         ensures takes_calls { OnOk result (IsSome self.new) }
         ensures taken { OnOk result (TextReaderConsumes S.goes S.failures self.old run.now self.new sink.old sink.new) }
 
-        // With the rejected octet they are not a viable prefix, or the sink stopped.
+        // With the rejected octet, the octets are no longer a viable prefix, or the sink stopped.
         ensures failed { OnErr result (self.new ≡ None) }
         ensures refused { IfErr result (λ fault.
             TextReaderRejects S.goes S.failures self.old run.now fault sink.old sink.new) }
@@ -101,15 +101,15 @@ impl TextReader {
 
     /// Ends the text.
     ///
-    /// **Errors:** `LoneReturn`, with `taken` 0, if CR are pending. The reader has then failed.
+    /// **Errors:** `LoneReturn`, with `taken` 0, if a CR is pending. The reader has then failed.
     pub fn close(&mut self) -> Result<(), TextFault>
         requires { IsSome self.old }
 
-        // The octets so far are a text.
+        // The octets so far are a complete text.
         ensures unchanged { OnOk result (self.new ≡ self.old) }
         ensures text { OnOk result ((octets : List ℕ) → TextReaderHasRead self.old octets → HasLines octets) }
 
-        // A CR is pending, so the text may not end here.
+        // A CR is pending, so the text cannot end here.
         ensures failed { OnErr result (self.new ≡ None) }
         ensures fault { IfErr result (λ fault. (fault.taken ≡ 0) × (fault.cause ≡ TextCause.LoneReturn)) }
         ensures refused { OnErr result ((octets : List ℕ) → TextReaderHasRead self.old octets

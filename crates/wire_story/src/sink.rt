@@ -1,4 +1,4 @@
-//! The sink that the text of a story goes to.
+//! The sink that a reader passes the text of a story to.
 
 ghost use Rattle.std.specs.Prelude.{◌≡◌, ◌<◌, ◌++◌, [], ◌∷◌, List, ℕ, length, map, take, IfErr, OnOk, OnErr};
 ghost use Rattle.iim_dataset.specs.Format.Octets.{CounterRose};
@@ -12,11 +12,12 @@ pub trait StorySink {
     /// Relates the values of a sink before and after it received these events, in this order.
     ghost goes: { Self → List StoryEvent → Self → Type 0 };
 
-    /// The number of calls that the sink rejected. A stored counter may saturate at the greatest
-    /// number of 64 bits.
+    /// The number of calls that the sink rejected. A counter that is stored in the sink may
+    /// saturate at the greatest number of 64 bits.
     ghost failures: { Self → ℕ };
 
-    /// Receives octets of the current line, or only those before the one that it rejects.
+    /// Receives octets of the current line. If the sink rejects an octet, it has received the
+    /// octets before it.
     fn text(&mut self, run: &[u8]) -> Result<(), Stop>
         requires { IsLine run.now }
         ensures ok { OnOk result (goes self.old (map LineOctet run.now) self.new) }
@@ -33,9 +34,11 @@ pub trait StorySink {
         ensures front { OnErr result (goes self.old [] self.new) }
         ensures counted { OnErr result (CounterRose (failures self.old) (failures self.new)) };
 
-    /// The empty list of events relates each value to itself, so an empty slice may change nothing.
+    /// Receiving no event relates each value to itself, so a call with an empty slice may change
+    /// nothing.
     ghost nothing: { (sink : Self) → goes sink [] sink };
 
-    /// Events after other events are the same as all of them joined.
+    /// Receiving some events and then others relates the same values as receiving all of them
+    /// joined.
     ghost joined: { (a b c : Self) (xs ys : List StoryEvent) → goes a xs b → goes b ys c → goes a (xs ++ ys) c };
 }

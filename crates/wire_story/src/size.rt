@@ -1,4 +1,4 @@
-//! The length of a text as it is packed.
+//! Computes the length of a packed text.
 
 ghost use Rattle.std.specs.Prelude.{◌≡◌, ◌≤◌, ◌↔◌, ◌==◌, length, count_by, take, IsSome, IfSome};
 ghost use Rattle.iim_dataset.specs.Format.Octets.{lf, greatest_size};
@@ -12,7 +12,7 @@ use std::simd::prelude::*;
 /// The number of octets that are tested at once.
 const BLOCK: usize = 16;
 
-/// Counts the LF among the first sixteen octets.
+/// Counts the LF in the first sixteen octets.
 #[inline(always)]
 fn feeds_in_block(block: &[u8]) -> usize
     requires { 16 ≤ length block.now }
@@ -22,14 +22,14 @@ fn feeds_in_block(block: &[u8]) -> usize
     octets.simd_eq(u8x16::splat(LF)).to_bitmask().count_ones() as usize
 }
 
-/// Counts the LF among the octets, one after another.
+/// Counts the LF in the octets, one after another.
 fn feeds_in_rest(octets: &[u8]) -> usize
     ensures { result ≡ count_by (λ b. b == lf) octets.now }
 {
     octets.iter().filter(|octet| **octet == LF).count()
 }
 
-/// Counts the line ends of lines that are joined by LF.
+/// Counts the line ends in lines that are joined by LF.
 fn line_ends(octets: &[u8]) -> usize
     ensures { result ≡ count_by (λ b. b == lf) octets.now }
 {
@@ -42,7 +42,7 @@ fn line_ends(octets: &[u8]) -> usize
     count + feeds_in_rest(&octets[at..])
 }
 
-/// Returns the number of octets of the lines joined by CR LF, or `None` if it exceeds the greatest
+/// Returns the length of the lines joined by CR LF, in octets, or `None` if it exceeds the greatest
 /// size of an object.
 pub fn text_len(lines: &Lines) -> Option<u64>
     ensures len { IfSome result (λ len. len ≡ length (packed_text lines.now.lines)) }

@@ -12,16 +12,17 @@ use iim_dataset::octets::{SP, TAB};
 use std::marker::Model;
 use std::simd::prelude::*;
 
-/// The number of octets of a longer slice that are tested at once.
+/// The number of octets that are tested at once in a slice of at least this length.
 const WIDE: usize = 2 * BLOCK;
 
-/// The mask of 64 octets that all pass.
+/// The mask in which the bits of all 64 octets are set.
 const ALL: u64 = u64::MAX;
 
 /// A sink that counts words. A word is a longest slice, inside one line, of octets other than SP
-/// and TAB. The counter saturates at `u64::MAX`. The sink accepts everything and stores nothing.
+/// and TAB. The counter saturates at `u64::MAX`. The sink accepts every call and stores no text.
 ///
-/// Contracts see it as the number, and whether the current line ends inside a word so far.
+/// Its model in contracts is the number of words, and whether the current line so far ends inside a
+/// word.
 #[derive(Debug, Drop)]
 pub struct WordCount {
     words: u64,
@@ -34,7 +35,7 @@ impl Model for WordCount {
     ghost view = { λ count. record { words = count.words; inside = count.inside } };
 }
 
-/// Checks whether an octet of a line belongs to a word.
+/// Checks whether an octet of a line is part of a word.
 #[inline(always)]
 fn belongs_to_word(octet: u8) -> bool
     ensures { result ≡ is_word_octet octet }
@@ -42,7 +43,7 @@ fn belongs_to_word(octet: u8) -> bool
     !(octet == SP || octet == TAB)
 }
 
-/// Returns the mask of SP and TAB in a block.
+/// Returns a mask of the SP and TAB in a block.
 #[inline(always)]
 fn block_blanks(block: &[u8]) -> u64
     requires { 16 ≤ length block.now }
@@ -52,7 +53,7 @@ fn block_blanks(block: &[u8]) -> u64
     (octets.simd_eq(u8x16::splat(SP)) | octets.simd_eq(u8x16::splat(TAB))).to_bitmask()
 }
 
-/// Returns the mask of SP and TAB in a wide block.
+/// Returns a mask of the SP and TAB in a wide block.
 #[inline(always)]
 fn wide_blanks(block: &[u8]) -> u64
     requires { 32 ≤ length block.now }
@@ -62,9 +63,10 @@ fn wide_blanks(block: &[u8]) -> u64
     (octets.simd_eq(u8x32::splat(SP)) | octets.simd_eq(u8x32::splat(TAB))).to_bitmask()
 }
 
-/// Counts the words that begin in octets of a line, by the mask of their blanks. `before` is 1 if
-/// no word is in progress before them, and otherwise 0; `after` is the same for the end of the
-/// octets. A word begins with an octet of a word after a blank, or at the beginning of a line.
+/// Counts the words that begin in octets of a line, given the mask of their blanks. A word begins
+/// at an octet that is not a blank and follows a blank or the beginning of a line. `before` is 0 if
+/// a word is in progress before the octets, and otherwise 1; `after` is 0 if a word is in progress
+/// after them, and otherwise 1.
 #[inline(always)]
 fn count_words_begun(before: u64, octets: &[u8], blanks: u64, after: u64) -> u64
     requires short { length octets.now < 64 }
@@ -74,12 +76,12 @@ fn count_words_begun(before: u64, octets: &[u8], blanks: u64, after: u64) -> u64
     ensures { result ≡ words_begun (before == 0) octets.now }
 {
     let _ = octets;
-    // A last blank adds a bit for a word that is not there; `after` subtracts it.
+    // If the last octet is a blank, its bit counts a word that is not there; `after` subtracts it.
     let begun = (ALL - blanks) & (blanks * 2 + before);
     u64::from(begun.count_ones()) - after
 }
 
-/// Counts the words that begin in octets of a line, by two blocks, which may overlap. Returns also
+/// Counts the words that begin in octets of a line, in two blocks, which may overlap. Also returns
 /// 1 if the last octet is a blank, and otherwise 0.
 #[inline(always)]
 fn count_in_two_blocks(before: u64, octets: &[u8]) -> (u64, u64)
@@ -96,8 +98,8 @@ fn count_in_two_blocks(before: u64, octets: &[u8]) -> (u64, u64)
     (count_words_begun(before, octets, blanks, after), after)
 }
 
-/// Counts the words that begin in octets of a line, by two wide blocks, which may overlap. Returns
-/// also 1 if the last octet is a blank, and otherwise 0.
+/// Counts the words that begin in octets of a line, in two wide blocks, which may overlap. Also
+/// returns 1 if the last octet is a blank, and otherwise 0.
 #[inline(always)]
 fn count_in_two_wide_blocks(before: u64, octets: &[u8]) -> (u64, u64)
     requires one { before ≤ 1 }
@@ -113,8 +115,8 @@ fn count_in_two_wide_blocks(before: u64, octets: &[u8]) -> (u64, u64)
     (count_words_begun(before, octets, blanks, after), after)
 }
 
-/// Counts the words that begin in octets of a line, by wide blocks, of which the last may overlap
-/// the one before. Returns also 1 if the last octet is a blank, and otherwise 0.
+/// Counts the words that begin in octets of a line, in wide blocks, of which the last may overlap
+/// the one before. Also returns 1 if the last octet is a blank, and otherwise 0.
 #[inline(always)]
 fn count_in_wide_blocks(before: u64, octets: &[u8]) -> (u64, u64)
     requires one { before ≤ 1 }
@@ -135,8 +137,8 @@ fn count_in_wide_blocks(before: u64, octets: &[u8]) -> (u64, u64)
     (begun + more, last)
 }
 
-/// Counts the words that begin in octets of a line, by blocks as wide as the octets allow. Returns
-/// also 1 if the last octet is a blank, and otherwise 0.
+/// Counts the words that begin in octets of a line, in blocks as wide as the number of octets
+/// allows. Also returns 1 if the last octet is a blank, and otherwise 0.
 #[inline(always)]
 fn count_in_blocks(before: u64, octets: &[u8]) -> (u64, u64)
     requires one { before ≤ 1 }
@@ -154,7 +156,7 @@ fn count_in_blocks(before: u64, octets: &[u8]) -> (u64, u64)
 }
 
 impl WordCount {
-    /// Creates a counter of no words, at the beginning of a line.
+    /// Creates a counter at the beginning of a line, with no words.
     pub fn new() -> WordCount
         ensures words { result.words ≡ 0 }
         ensures inside { result.inside ≡ false }
@@ -165,8 +167,8 @@ impl WordCount {
         }
     }
 
-    /// Creates a counter that continues from `words` words, inside a word of the current line or
-    /// not.
+    /// Creates a counter that continues from `words` words. `inside` is whether the current line so
+    /// far ends inside a word.
     pub fn resume(words: u64, inside: bool) -> WordCount
         ensures words { result.words ≡ words }
         ensures inside { result.inside ≡ inside }
@@ -174,8 +176,8 @@ impl WordCount {
         WordCount { words, inside }
     }
 
-    /// Returns the number of words so far, and whether the current line ends inside a word.
-    /// [`WordCount::resume`] continues from these.
+    /// Returns the number of words so far, and whether the current line so far ends inside a word.
+    /// [`WordCount::resume`] continues from these values.
     pub fn so_far(&self) -> (u64, bool)
         ensures words { result.0 ≡ self.now.words }
         ensures inside { result.1 ≡ self.now.inside }
@@ -201,7 +203,7 @@ impl WordCount {
         self.inside = after == 0;
     }
 
-    /// Receives octets of the current line, by blocks.
+    /// Counts octets of the current line, in blocks.
     #[inline(never)]
     fn count_blocks(&mut self, octets: &[u8])
         requires { 16 ≤ length octets.now }
@@ -211,7 +213,7 @@ impl WordCount {
         self.add(begun, after);
     }
 
-    /// Receives an octet of the current line.
+    /// Counts an octet of the current line.
     #[inline(always)]
     fn take(&mut self, octet: u8)
         ensures { CountsWords self.old (LineOctet octet ∷ []) self.new }
@@ -226,7 +228,7 @@ impl WordCount {
         }
     }
 
-    /// Receives octets of the current line, one by one.
+    /// Counts octets of the current line, one after another.
     #[inline(always)]
     fn count_each(&mut self, octets: &[u8])
         ensures { CountsWords self.old (map LineOctet octets.now) self.new }

@@ -1,4 +1,4 @@
-//! A sink that writes the lines joined by LF.
+//! A sink that writes lines joined by LF.
 
 ghost use Rattle.std.specs.Prelude.{◌≡◌, ◌<◌, [], ◌∷◌, length, map, take, IfErr, OnOk, OnErr};
 ghost use Rattle.iim_dataset.specs.Format.Octets.{lf, CounterRose};
@@ -9,7 +9,7 @@ use crate::sink::StorySink;
 use iim_dataset::octets::LF;
 use iim_dataset::{Stop, Target, put};
 
-/// A sink that writes the lines joined by LF to a target. Its counter of stops saturates at
+/// A sink that writes lines, joined by LF, to a target. Its counter of stops saturates at
 /// `u64::MAX`.
 #[derive(Drop)]
 pub struct LineWriter<W> {
@@ -28,7 +28,7 @@ impl<W: Target> LineWriter<W> {
         LineWriter { writer, stops: 0 }
     }
 
-    /// Returns the target, with what was written.
+    /// Returns the target, to which the lines were written.
     pub fn into_writer(self) -> W
         ensures { result ≡ writer_of self }
     {
@@ -36,7 +36,7 @@ impl<W: Target> LineWriter<W> {
         writer
     }
 
-    /// Writes octets, or those before the one at which it stops.
+    /// Writes octets. If a write fails, writes only the octets before the failure.
     fn write(&mut self, octets: &[u8]) -> Result<(), Stop>
         ensures ok { OnOk result (WritesOctets W.state self.old octets.now self.new) }
         ensures no_failure { OnOk result (stops_of self.new ≡ stops_of self.old) }
@@ -83,8 +83,8 @@ impl<W: Target> StorySink for LineWriter<W> {
             WritesLines W.state self.old (map LineOctet (take stop.taken run.now)) self.new) }
         ensures counted { OnErr result (CounterRose (stops_of self.old) (stops_of self.new)) }
 
-        // It stops only if the target failed in this call, or was interrupted at least a million
-        // times in it.
+        // The sink stops only if the target failed during this call, or was interrupted at least a
+        // million times in a row.
         ensures wrote { OnOk result (WroteAllOf (device_of W.state self.old) (device_of W.state self.new) run.now) }
         ensures stopped { IfErr result (λ stop.
             WroteOnlyPrefixOf (device_of W.state self.old) (device_of W.state self.new) run.now stop.taken) }
@@ -101,8 +101,8 @@ impl<W: Target> StorySink for LineWriter<W> {
         ensures front { OnErr result (WritesLines W.state self.old [] self.new) }
         ensures counted { OnErr result (CounterRose (stops_of self.old) (stops_of self.new)) }
 
-        // For the LF, it stops only if the target failed in this call, or was interrupted at least
-        // a million times in it.
+        // For the LF too, the sink stops only if the target failed during this call, or was
+        // interrupted at least a million times in a row.
         ensures wrote { OnOk result (WroteAllOf (device_of W.state self.old) (device_of W.state self.new) (lf ∷ [])) }
         ensures stopped { OnErr result (WroteOnlyPrefixOf (device_of W.state self.old) (device_of W.state self.new)
             (lf ∷ []) 0) }

@@ -1,6 +1,6 @@
 //! The smallest of the example envelopes.
 
-/// An envelope with the mandatory datasets alone, and a story of one empty line.
+/// An envelope with only the mandatory datasets, and a story of one empty line.
 pub const SMALLEST: &[u8; 114] =
     b"\x1c\x01\x00\x00\x02\x00\x04\x1c\x01\x14\x00\x02\x00\x02\x1c\x01\x16\x00\x02\x00\x01\
 \x1c\x01\x1e\x00\x03TST\x1c\x01\x28\x00\x0800000001\x1c\x01\x46\x00\x0820240301\x1c\x02\x00\x00\x02\x00\x04\

@@ -1,8 +1,8 @@
-//! The example envelopes of the format, octet by octet, and their parts: for tests, and for new
+//! The example envelopes of the format, octet by octet, and their parts, for tests and for new
 //! users of the libraries.
 //!
-//! `docs/reference/format.md` describes the smallest one octet by octet. `samples/smallest.iim` and
-//! `samples/story.iim` are the two as files.
+//! `docs/reference/format.md` describes the smallest envelope octet by octet. The files
+//! `samples/smallest.iim` and `samples/story.iim` contain the two envelopes.
 #![tactic(auto)]
 
 mod least;

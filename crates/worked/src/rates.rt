@@ -1,7 +1,7 @@
 //! The example envelope with a story of two lines, and its parts.
 
-/// An envelope with by-lines, keywords and a story of two lines: with a known size, and one subfile
-/// of at most 1024 octets.
+/// An envelope with by-lines, keywords and a story of two lines. It has a known size, and one
+/// subfile of at most 1,024 octets.
 pub const STORY: &[u8; 246] =
     b"\x1c\x01\x00\x00\x02\x00\x04\x1c\x01\x14\x00\x02\x00\x02\x1c\x01\x16\x00\x02\x00\x01\
 \x1c\x01\x1e\x00\x03TST\x1c\x01\x28\x00\x0800000002\x1c\x01\x46\x00\x0820240301\x1c\x02\x00\x00\x02\x00\x04\
@@ -11,7 +11,7 @@ pub const STORY: &[u8; 246] =
 \x1c\x07\x5a\x00\x04\x00\x00\x00\x32\x1c\x08\x0a\x00\x32\x01TST0007 4 ECO 5 rates\r\n\x02Rates stay.\r\nNo change.\x03\x04\
 \x1c\x09\x0a\x00\x04\x00\x00\x00\x32";
 
-/// The datasets of records 1 and 2 of the story's envelope: record, number and data of each.
+/// The datasets of records 1 and 2 of the envelope: record, number and data of each.
 pub const STORY_FIELDS: [(u8, u8, &[u8]); 16] = [
     (1, 0, b"\0\x04"),
     (1, 20, b"\0\x02"),
@@ -31,7 +31,7 @@ pub const STORY_FIELDS: [(u8, u8, &[u8]); 16] = [
     (2, 250, b"\0\xff"),
 ];
 
-/// The octets of these datasets: what the story's envelope has before record 7.
+/// The encoding of these datasets, which is the envelope before record 7.
 pub const STORY_FRONT: &[u8] =
     b"\x1c\x01\x00\x00\x02\x00\x04\x1c\x01\x14\x00\x02\x00\x02\x1c\x01\x16\x00\x02\x00\x01\
 \x1c\x01\x1e\x00\x03TST\x1c\x01\x28\x00\x0800000002\x1c\x01\x46\x00\x0820240301\x1c\x02\x00\x00\x02\x00\x04\
@@ -39,14 +39,14 @@ pub const STORY_FRONT: &[u8] =
 \x1c\x02\x50\x00\x07B. Lund\x1c\x02\x55\x00\x06Writer\x1c\x02\x19\x00\x05rates\x1c\x02\x19\x00\x04bank\
 \x1c\x02\x19\x00\x04euro\x1c\x02\xfa\x00\x02\x00\xff";
 
-/// The object of the story's envelope: a message with a story of two lines.
+/// The object of the envelope: a message with a story of two lines.
 pub const STORY_OBJECT: &[u8] =
     b"\x01TST0007 4 ECO 5 rates\r\n\x02Rates stay.\r\nNo change.\x03\x04";
 
-/// The dataset after the object, which confirms its size.
+/// The dataset after the object, which confirms the size of the object.
 pub const STORY_CONFIRMED: &[u8] = b"\x1c\x09\x0a\x00\x04\x00\x00\x00\x32";
 
-/// The octets of the story's envelope from record 7 on.
+/// The octets of the envelope from record 7 on.
 pub const STORY_REST: &[u8] =
     b"\x1c\x07\x0a\0\x01\x01\x1c\x07\x14\0\x04\0\0\x04\0\x1c\x07\x5a\0\x04\0\0\0\x32\
 \x1c\x08\x0a\0\x32\x01TST0007 4 ECO 5 rates\r\n\x02Rates stay.\r\nNo change.\x03\x04\x1c\x09\x0a\0\x04\0\0\0\x32";

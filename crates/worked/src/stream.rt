@@ -1,6 +1,7 @@
 //! Example envelopes, one after another.
 
-/// The story's envelope, the smallest one, and one that is as small and has the story's identity.
+/// Three envelopes: the one with a story of two lines, the smallest one, and a variant of the
+/// smallest one that has the identity of the first.
 pub const STREAM: &[u8] =
     b"\x1c\x01\x00\x00\x02\x00\x04\x1c\x01\x14\x00\x02\x00\x02\x1c\x01\x16\x00\x02\x00\x01\
 \x1c\x01\x1e\x00\x03TST\x1c\x01\x28\x00\x0800000002\x1c\x01\x46\x00\x0820240301\x1c\x02\x00\x00\x02\x00\x04\

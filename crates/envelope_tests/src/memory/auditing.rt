@@ -1,4 +1,4 @@
-//! Calls of the audit.
+//! Calls of the audit that allocate.
 
 use crate::given::LIMITS;
 use crate::outcome::{Trouble, right};
@@ -11,7 +11,7 @@ use std::io::Read;
 use wire_story::Discard;
 use worked::STREAM;
 
-/// The report of the stream, twice.
+/// The expected report on the stream, twice.
 const REPORT: &[u8] =
     b"1 TST 00000002 20240301 priority - size 50 subfiles 1 words 5/4 age - repeats - copy free\n\
 2 TST 00000001 20240301 priority - size 14 subfiles 1 words 0/0 age - repeats - copy free\n\
@@ -21,8 +21,8 @@ const REPORT: &[u8] =
 6 TST 00000002 20240301 priority - size 14 subfiles 1 words 0/0 age - repeats 1 copy free\n\
 6 envelopes, 4 repeated, 0 held\n";
 
-/// Returns the trouble for an error of an audit. After a failed allocation the reader must still
-/// be usable.
+/// Converts an error of an audit to the trouble of a test. After a failed allocation the reader
+/// must still be usable.
 fn trouble_of<R: Source>(alloc: Global, fault: AuditFault, intake: &mut Intake<R>) -> Trouble {
     if fault.cause != AuditCause::OutOfMemory {
         return Trouble::Wrong;
@@ -36,7 +36,7 @@ fn trouble_of<R: Source>(alloc: Global, fault: AuditFault, intake: &mut Intake<R
     }
 }
 
-/// Returns the report if it has six rows.
+/// Returns the report, if it has six rows.
 fn six_rows(report: Report) -> Result<Report, Trouble> {
     if report.rows().len() == 6 {
         return Ok(report);
@@ -44,7 +44,8 @@ fn six_rows(report: Report) -> Result<Report, Trouble> {
     Err(Trouble::Wrong)
 }
 
-/// Audits the stream twice. The allocation for the first row is too small for the fifth.
+/// Audits the stream twice. The memory that is allocated for the first row must grow at the fifth
+/// row.
 pub(crate) fn audited(alloc: Global) -> Result<Report, Trouble> {
     let mut intake = Intake::new(FromRead::new(STREAM.chain(STREAM)));
     match audit(alloc, &mut intake, LIMITS, Timestamp::UNIX_EPOCH) {

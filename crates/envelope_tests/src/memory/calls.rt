@@ -1,4 +1,4 @@
-//! The calls in their order, and their results.
+//! The calls that are tested, in order, and their results.
 
 use super::{auditing, lines, objects, packing, records, scripts, unpacking};
 use crate::outcome::{End, Trouble};
@@ -13,7 +13,8 @@ use wire_story::Lines;
 pub enum Call {
     Fields,
     Subfile,
-    /// Subfiles of up to this many octets, and the length of all records.
+    /// Writing an object in subfiles of up to the first number of octets. The second number is the
+    /// expected length of all records.
     Subfiles(u64, usize),
     Grow,
     Feed,
@@ -27,12 +28,13 @@ pub enum Call {
     Copy,
     Script,
     Start,
-    /// A packer with subfiles of up to this many octets, and the length of its output.
+    /// A packer with subfiles of up to the first number of octets. The second number is the
+    /// expected length of its output.
     StartSubfiles(u64, usize),
     Pack,
 }
 
-/// The calls with their names. Calls that unpack are before those that build envelopes.
+/// The calls with their names. Calls that unpack come before those that build envelopes.
 const CALLS: [(&str, Call); 19] = [
     ("Fields::new", Call::Fields),
     ("SubfileBuffer::reserve", Call::Subfile),
@@ -55,7 +57,7 @@ const CALLS: [(&str, Call); 19] = [
     ("pack", Call::Pack),
 ];
 
-/// The results of calls that later calls need.
+/// The results of calls that are needed by later calls.
 #[derive(Drop)]
 pub struct Made {
     report: Option<Report>,
@@ -64,7 +66,7 @@ pub struct Made {
 }
 
 impl Made {
-    /// Creates the value without results.
+    /// Creates the value without any result.
     pub(crate) fn new() -> Made {
         Made {
             report: None,
@@ -144,7 +146,7 @@ fn make_of(call: Call, alloc: Global, envelope: &Envelope) -> Result<(), Trouble
     }
 }
 
-/// Prints the result of a call that had this trouble and was repeated.
+/// Prints the result of a call that failed in this way and was then repeated.
 fn tell_again(
     rt: &impl Print,
     name: &str,
@@ -157,7 +159,7 @@ fn tell_again(
     }
 }
 
-/// Makes a call, repeats it if it failed, and prints the result.
+/// Makes a call, repeats the call if it failed, and prints the result.
 fn tell<R: Print + AllocGlobal>(
     rt: &R,
     made: &mut Made,
@@ -173,7 +175,7 @@ fn tell<R: Print + AllocGlobal>(
     again.map_err(|_| End::Refused)
 }
 
-/// Makes all calls, up to the first that fails twice.
+/// Makes all calls, up to the first call that fails twice.
 pub(crate) fn tell_all<R: Print + AllocGlobal>(rt: &R) -> Result<(), End> {
     let mut made = Made::new();
     for (name, call) in &CALLS {

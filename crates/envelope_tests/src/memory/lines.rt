@@ -1,4 +1,4 @@
-//! Calls of `Lines`: octets and line ends.
+//! Calls of `Lines` that allocate: octets and line ends.
 
 use crate::outcome::{Trouble, right, right_after};
 use std::alloc::Global;
@@ -8,7 +8,7 @@ use worked::FIRST_LINE;
 /// The number of times that a line and its end are passed.
 const TIMES: usize = 50;
 
-/// Returns the number of lines, and of their octets.
+/// Returns the number of lines, and the total number of their octets.
 pub(crate) fn size_of(lines: &Lines) -> (usize, usize) {
     let mut count = 0usize;
     let mut octets = 0usize;
@@ -19,8 +19,8 @@ pub(crate) fn size_of(lines: &Lines) -> (usize, usize) {
     (count, octets)
 }
 
-/// Passes the octets of a line, and repeats the call if it fails. Returns whether it failed. A
-/// failure must change nothing.
+/// Passes the octets of a line, and repeats the call if it fails. Returns whether it failed the
+/// first time. A failed call must change nothing.
 fn take_text(lines: &mut Lines) -> Result<bool, Trouble> {
     if !is_text(FIRST_LINE) {
         return Err(Trouble::Wrong);
@@ -36,7 +36,8 @@ fn take_text(lines: &mut Lines) -> Result<bool, Trouble> {
     }
 }
 
-/// Passes the end of a line, in the same way.
+/// Passes the end of a line, and repeats the call if it fails. Returns whether it failed the first
+/// time. A failed call must change nothing.
 fn take_line_end(lines: &mut Lines) -> Result<bool, Trouble> {
     let before = size_of(lines);
     let Err(stop) = lines.line_end() else {
@@ -68,7 +69,7 @@ fn end_first(lines: &mut Lines) -> Result<(), Trouble> {
     }
 }
 
-/// Grows lines repeatedly, beginning with the end of a line.
+/// Makes lines grow repeatedly, beginning with the end of an empty line.
 pub(crate) fn grown(alloc: Global) -> Result<(), Trouble> {
     end_first(&mut Lines::new(alloc))?;
     let mut lines = Lines::new(alloc);

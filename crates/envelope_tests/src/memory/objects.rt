@@ -1,4 +1,4 @@
-//! Calls of the object layer: writing subfiles.
+//! Calls of the object layer that allocate: writing subfiles.
 
 use crate::given;
 use crate::outcome::{Trouble, right};
@@ -17,14 +17,14 @@ pub(crate) fn plan(subfile: u64) -> Result<Plan, Trouble> {
     given::plan(subfile, Size::Known(50))
 }
 
-/// Writes the sample object in one subfile. After `reserve` nothing allocates.
+/// Writes the sample object in one subfile. No call after `reserve` allocates.
 pub(crate) fn one_subfile(alloc: Global) -> Result<(), Trouble> {
     let writer = written(alloc, 1024)?;
     right(writer.octets().len() == 88 && STORY.ends_with(writer.octets()))
 }
 
-/// Writes the sample object in subfiles of up to `subfile` octets. All records have `octets`
-/// octets. Each subfile reuses the buffer of the first.
+/// Writes the sample object in subfiles of up to `subfile` octets. All records together have
+/// `octets` octets. All subfiles use the same buffer.
 pub(crate) fn subfiles(alloc: Global, subfile: u64, octets: usize) -> Result<(), Trouble> {
     let writer = written(alloc, subfile)?;
     right(writer.octets().len() == octets && writer.octets().ends_with(STORY_CONFIRMED))

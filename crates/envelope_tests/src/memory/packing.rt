@@ -1,4 +1,4 @@
-//! Calls that pack envelopes.
+//! Calls that pack envelopes and allocate.
 
 use super::objects::{plan, writer};
 use crate::given::head;
@@ -11,7 +11,8 @@ use trials::TrialWriter;
 use wire_story::Lines;
 use worked::{FIRST_LINE, LAST_LINE, STORY, STORY_CONFIRMED};
 
-/// Returns the trouble for an error. After a failed allocation nothing may be written.
+/// Converts an error to the trouble of a test. If an allocation failed, nothing may have been
+/// written.
 fn trouble_of(fault: &StartFault<TrialWriter<512>>) -> Trouble {
     let is_empty = fault.written == 0 && fault.writer.octets().is_empty();
     if fault.cause == PackCause::OutOfMemory && is_empty {
@@ -21,14 +22,14 @@ fn trouble_of(fault: &StartFault<TrialWriter<512>>) -> Trouble {
     }
 }
 
-/// Packs the sample envelope call by call. After `start` nothing allocates.
+/// Packs the sample envelope call by call. No call after `start` allocates.
 pub(crate) fn call_by_call(alloc: Global, envelope: &Envelope) -> Result<(), Trouble> {
     let writer = packed(alloc, envelope, 1024)?;
     right(writer.octets() == STORY.as_slice())
 }
 
-/// Packs the sample envelope call by call in subfiles of up to `subfile` octets. The result has
-/// `octets` octets.
+/// Packs the sample envelope call by call in subfiles of up to `subfile` octets. The packed form
+/// has `octets` octets.
 pub(crate) fn in_subfiles(
     alloc: Global,
     envelope: &Envelope,

@@ -1,4 +1,4 @@
-//! Calls of the records: checking and building them.
+//! Calls of the record layer that allocate: checking and building records.
 
 ghost use Rattle.std.specs.Prelude.{◌≢◌, length, OnOk};
 ghost use Rattle.iim_fields.specs.States.Standing.{IsBetweenDatasets, IsInsideDataset};
@@ -19,7 +19,7 @@ fn give(fields: &mut Fields, head: Head, octets: &[u8])
     fields.bytes(octets);
 }
 
-/// Passes a dataset that is not of record 8.
+/// Passes a dataset of a record other than 8.
 fn pass(fields: &mut Fields, rec: u8, set: u8, octets: &[u8]) -> Result<(), FieldFault>
     requires between { IsBetweenDatasets fields.old }
     requires value { rec ≢ 8 }
@@ -42,7 +42,7 @@ fn pass(fields: &mut Fields, rec: u8, set: u8, octets: &[u8]) -> Result<(), Fiel
     }
 }
 
-/// Checks the sample fields. After `new` nothing allocates.
+/// Checks the sample fields. No call after `new` allocates.
 pub(crate) fn fields(alloc: Global) -> Result<(), Trouble> {
     let mut fields = Fields::new(alloc, LIMITS)?;
     for (rec, set, octets) in &STORY_FIELDS {
@@ -73,7 +73,7 @@ pub(crate) fn is_worked(envelope: &Envelope) -> bool {
     envelope.fields().count() == STORY_FIELDS.len()
 }
 
-/// Builds the sample envelope. After `new` nothing allocates.
+/// Builds the sample envelope. No call after `new` allocates.
 pub(crate) fn built(alloc: Global) -> Result<Envelope, Trouble> {
     let mut builder = EnvelopeBuilder::new(alloc, LIMITS)?;
     if !add_all(&mut builder) {
@@ -93,7 +93,7 @@ fn worked_of(builder: EnvelopeBuilder) -> Result<Envelope, Trouble> {
     Ok(envelope)
 }
 
-/// Copies the sample envelope. After `from` nothing allocates.
+/// Copies the sample envelope. No call after `from` allocates.
 pub(crate) fn copied(alloc: Global, envelope: &Envelope) -> Result<(), Trouble> {
     match EnvelopeBuilder::from(alloc, LIMITS, envelope) {
         Ok(builder) => match worked_of(builder) {

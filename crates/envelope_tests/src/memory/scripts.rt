@@ -1,4 +1,4 @@
-//! Calls of scripts.
+//! Calls that parse scripts and allocate.
 
 ghost use Rattle.iim_script.specs.Format.Scripts.{text_lines};
 ghost use Rattle.wire_story.specs.Format.Texts.{IsText};
@@ -39,7 +39,7 @@ fn are_worked(lines: &Lines) -> bool {
     lines.iter().eq([FIRST_LINE, LAST_LINE])
 }
 
-/// Returns the lines of a script if it specifies this envelope and the sample lines.
+/// Returns the lines of a script, if the script specifies this envelope and the sample lines.
 fn lines_of(alloc: Global, script: Script<'_>, envelope: &Envelope) -> Result<Lines, Trouble>
     requires { IsText script.text.now (text_lines script.text.now) }
 {

@@ -1,4 +1,4 @@
-//! Calls that unpack envelopes.
+//! Calls that unpack envelopes and allocate.
 
 use super::lines::size_of;
 use super::records::is_worked;
@@ -13,7 +13,7 @@ use std::alloc::Global;
 use wire_story::{Discard, Lines};
 use worked::STORY;
 
-/// Checks whether an unpacker that is done returns the sample envelope.
+/// Checks whether an unpacker has completed the sample envelope.
 fn gives_worked(unpacker: Unpacker) -> bool {
     match unpacker.into_unpacked() {
         Ok(got) => is_worked(&got.envelope),
@@ -21,7 +21,7 @@ fn gives_worked(unpacker: Unpacker) -> bool {
     }
 }
 
-/// Feeds the sample envelope. After `new` nothing allocates.
+/// Feeds the sample envelope to an unpacker. No call after `new` allocates.
 pub(crate) fn fed(alloc: Global) -> Result<(), Trouble> {
     let mut unpacker = Unpacker::new(alloc, LIMITS)?;
     if unpacker.feed(STORY, &mut Discard) != Ok(Progress::Done { used: 246 }) {
@@ -40,14 +40,14 @@ fn begins(unpacker: &mut Unpacker) -> bool {
     unpacker.feed(halves().0, &mut Discard) == Ok(Progress::More)
 }
 
-/// Checks whether an unpacker is done with the sample envelope after its last 46 octets.
+/// Checks whether an unpacker completes the sample envelope with its last 46 octets.
 fn ends(unpacker: &mut Unpacker) -> bool {
     let answer = unpacker.feed(halves().1, &mut Discard);
     answer == Ok(Progress::Done { used: 46 }) && unpacker.octets() == 246
 }
 
-/// Saves an unpacker in the middle of the sample envelope, and feeds it the rest. `save` must
-/// leave it unchanged, even if it fails.
+/// Saves an unpacker in the middle of the sample envelope, and then feeds the rest to it. `save`
+/// must leave the unpacker unchanged, even if it fails.
 fn saved_of(alloc: Global, unpacker: &mut Unpacker) -> Result<(), Trouble> {
     let has_begun = begins(unpacker);
     let size = size_of_ticket(unpacker.save(alloc));
@@ -57,7 +57,7 @@ fn saved_of(alloc: Global, unpacker: &mut Unpacker) -> Result<(), Trouble> {
     Err(Trouble::Wrong)
 }
 
-/// Saves an unpacker in the middle of the sample envelope. After `new` only `save` allocates.
+/// Saves an unpacker in the middle of the sample envelope. After `new`, only `save` allocates.
 pub(crate) fn saved(alloc: Global) -> Result<(), Trouble> {
     let mut unpacker = Unpacker::new(alloc, LIMITS)?;
     saved_of(alloc, &mut unpacker)
@@ -72,7 +72,7 @@ fn size_of_ticket(saved: Result<Vec<u8>, SaveFault>) -> Result<usize, Trouble> {
     }
 }
 
-/// Returns the ticket of an unpacker, and whether a first attempt failed.
+/// Returns the ticket of an unpacker, and whether the first attempt failed.
 fn ticket_of(alloc: Global, unpacker: &Unpacker) -> Result<(Vec<u8>, bool), Trouble> {
     match unpacker.save(alloc) {
         Ok(ticket) => Ok((ticket, false)),
@@ -84,7 +84,7 @@ fn ticket_of(alloc: Global, unpacker: &Unpacker) -> Result<(Vec<u8>, bool), Trou
     }
 }
 
-/// Returns the unpacker that is restored from a ticket, and whether a first attempt failed.
+/// Restores an unpacker from a ticket. Returns it, and whether the first attempt failed.
 fn unpacker_of(alloc: Global, ticket: &[u8]) -> Result<(Unpacker, bool), Trouble> {
     match Unpacker::restore(alloc, LIMITS, ticket, 200) {
         Ok(unpacker) => Ok((unpacker, false)),
@@ -96,7 +96,7 @@ fn unpacker_of(alloc: Global, ticket: &[u8]) -> Result<(Unpacker, bool), Trouble
     }
 }
 
-/// Checks whether invalid tickets are rejected: they are checked before anything is allocated.
+/// Checks whether invalid tickets are rejected, which happens before anything is allocated.
 fn refuses_tickets(alloc: Global, ticket: &[u8]) -> bool {
     let few = |octets, fields| Limits { octets, fields };
     let rows: [(&[u8], Limits, TicketFault); 5] = [
@@ -114,8 +114,8 @@ fn refuses_tickets(alloc: Global, ticket: &[u8]) -> bool {
     true
 }
 
-/// Restores an unpacker from the ticket of another, and feeds the rest to both. `restore` must
-/// leave the other unchanged, even if it fails.
+/// Restores an unpacker from the ticket of another, and feeds the rest of the envelope to both.
+/// `restore` must leave the other unpacker unchanged, even if it fails.
 fn restored_from(alloc: Global, saved: &mut Unpacker, ticket: &[u8]) -> Result<bool, Trouble> {
     let (mut unpacker, was_refused) = unpacker_of(alloc, ticket)?;
     if ends(saved) && ends(&mut unpacker) && gives_worked(unpacker) {
@@ -124,7 +124,8 @@ fn restored_from(alloc: Global, saved: &mut Unpacker, ticket: &[u8]) -> Result<b
     Err(Trouble::Wrong)
 }
 
-/// Saves an unpacker in the middle of the sample envelope, and restores another from its ticket.
+/// Saves an unpacker in the middle of the sample envelope, and restores another one from its
+/// ticket.
 fn restored_of(alloc: Global, saved: &mut Unpacker) -> Result<(), Trouble> {
     right(begins(saved))?;
     let (ticket, was_refused) = ticket_of(alloc, saved)?;
@@ -135,7 +136,7 @@ fn restored_of(alloc: Global, saved: &mut Unpacker) -> Result<(), Trouble> {
     right_after(true, was_refused || again)
 }
 
-/// Saves an unpacker, and restores another. After `new` only these calls allocate.
+/// Saves an unpacker, and restores another one. After `new`, only these two calls allocate.
 pub(crate) fn restored(alloc: Global) -> Result<(), Trouble> {
     let mut saved = Unpacker::new(alloc, LIMITS)?;
     restored_of(alloc, &mut saved)
@@ -149,7 +150,7 @@ fn is_given(answer: Result<Option<Unpacked>, IntakeFault>) -> bool {
     }
 }
 
-/// Reads the sample envelope from a reader. After `new` nothing allocates.
+/// Reads the sample envelope from a reader. No call after `new` allocates.
 pub(crate) fn taken_in(alloc: Global) -> Result<(), Trouble> {
     let unpacker = Unpacker::new(alloc, LIMITS)?;
     let mut intake = Intake::new(FromRead::new(STORY.as_slice()));
@@ -157,8 +158,8 @@ pub(crate) fn taken_in(alloc: Global) -> Result<(), Trouble> {
     right(is_given(answer) && intake.octets() == 246)
 }
 
-/// Checks a result against the numbers of lines and of their octets. If an allocation of the lines
-/// failed, returns the trouble.
+/// Checks a result against the expected numbers of lines and of their octets. If an allocation of
+/// the lines failed, returns that trouble.
 fn told_to_lines(answer: Result<Progress, Refusal>, size: (usize, usize)) -> Result<(), Trouble> {
     match answer {
         Ok(progress) => right(progress == Progress::Done { used: 246 } && size == (2, 21)),
@@ -169,7 +170,7 @@ fn told_to_lines(answer: Result<Progress, Refusal>, size: (usize, usize)) -> Res
     }
 }
 
-/// Feeds the sample envelope into `Lines`. Only these allocate.
+/// Feeds the sample envelope to an unpacker whose sink is `Lines`. Only the lines allocate.
 pub(crate) fn fed_into_lines(alloc: Global) -> Result<(), Trouble> {
     let mut unpacker = Unpacker::new(alloc, LIMITS)?;
     let mut lines = Lines::new(alloc);

@@ -1,4 +1,4 @@
-//! Tests a writer that fails within each call of a packer, and within `pack`.
+//! Tests a packer, and `pack`, with a writer that fails within each call.
 
 use super::expected;
 use crate::given::{head, plan};
@@ -23,7 +23,7 @@ enum Call {
     LineEnd,
     LastLine,
     Finish,
-    /// All of them, as `pack`.
+    /// All calls, made by `pack`.
     All,
 }
 
@@ -31,14 +31,15 @@ enum Call {
 #[derive(Clone, Copy, PartialEq, Eq)]
 enum End {
     Whole,
-    /// A write failed within this call. This many octets are written, and they are a prefix of the
-    /// packed form.
+    /// A write failed within this call. This number of octets was written, and they are a prefix of
+    /// the packed form.
     Within(Call, u64),
     /// Any other outcome.
     Wrong,
 }
 
-/// Returns a stopped packer as an error: the cause, the writer, and the number of octets written.
+/// Converts a packer that has stopped to an error: the cause, the writer, and the number of octets
+/// written.
 fn stopped<W: Target>(packer: Packer<W>, cause: PackCause) -> StartFault<W> {
     let written = packer.written();
     StartFault {
@@ -48,7 +49,7 @@ fn stopped<W: Target>(packer: Packer<W>, cause: PackCause) -> StartFault<W> {
     }
 }
 
-/// Passes both lines of the sample story, up to the first call that fails.
+/// Passes both lines of the sample story to a packer, up to the first call that fails.
 fn take_lines<W: Target>(packer: &mut Packer<W>) -> Result<(), (Call, PackCause)> {
     if let Err(cause) = packer.text(b"Rates stay.") {
         return Err((Call::FirstLine, cause));
@@ -62,12 +63,12 @@ fn take_lines<W: Target>(packer: &mut Packer<W>) -> Result<(), (Call, PackCause)
     }
 }
 
-/// Returns the call within which a target fails that accepted `good` octets, in subfiles of up to
+/// Returns the call within which a target fails that accepts `good` octets. The subfiles have up to
 /// 9 octets.
 ///
-/// Records 1, 2 and 7 have 182 octets, a full subfile has 14. The header has 25 octets, and so
-/// fills two subfiles. A third is full within the first line, a fourth before its end, a fifth
-/// within the last line.
+/// Records 1, 2 and 7 have 182 octets, and a full subfile has 14. The header has 25 octets, and so
+/// fills two subfiles. The third subfile becomes full within the first line, the fourth before its
+/// line end, and the fifth within the last line.
 fn call_after(good: usize) -> Call {
     if good < 182 + 2 * 14 {
         Call::Start
@@ -82,7 +83,7 @@ fn call_after(good: usize) -> Call {
     }
 }
 
-/// What is packed, how, and the expected packed form.
+/// What is packed and how, and the expected packed form.
 #[derive(Clone, Copy)]
 struct Work<'w> {
     alloc: Global,
@@ -93,7 +94,7 @@ struct Work<'w> {
     whole: &'w [u8],
 }
 
-/// Creates a target that accepts `good` octets, one a call, and then fails.
+/// Creates a target that accepts `good` octets, one in each call, and then fails.
 fn target(good: usize) -> TrialWriter<512> {
     TrialWriter::new(good as u64, DeviceTrouble::Failure)
 }
@@ -118,8 +119,8 @@ impl Work<'_> {
         }
     }
 
-    /// Packs the sample story call by call, up to the first call that fails, with a target that
-    /// accepts `good` octets.
+    /// Packs the sample story call by call, up to the first call that fails. The target accepts
+    /// `good` octets.
     fn call_by_call(self, good: usize) -> End {
         match Packer::start(self.alloc, self.story, self.head, self.plan, target(good)) {
             Ok(packer) => self.lines_and_end(packer),
@@ -127,7 +128,8 @@ impl Work<'_> {
         }
     }
 
-    /// Passes both lines to a started packer, and finishes, up to the first call that fails.
+    /// Passes both lines to a packer that was started, and finishes it, up to the first call that
+    /// fails.
     fn lines_and_end(self, mut packer: Packer<TrialWriter<512>>) -> End {
         match take_lines(&mut packer) {
             Ok(()) => self.finish(packer),
@@ -153,7 +155,8 @@ impl Work<'_> {
         }
     }
 
-    /// Packs in one call with targets that fail after each number of octets.
+    /// Packs in one call, with a target that fails, once for each number of octets that it can
+    /// accept.
     fn expect_each_failure(self) -> Result<(), Trouble> {
         let count = self.whole.len();
         for good in 0..count {
@@ -163,7 +166,8 @@ impl Work<'_> {
         right_at(count, self.at_once(count) == End::Whole)
     }
 
-    /// Packs call by call with targets that fail after each number of octets, up to 271.
+    /// Packs call by call, with a target that fails, once for each number of octets up to 271 that
+    /// it can accept.
     fn expect_each_call(self) -> Result<(), Trouble> {
         right(self.whole.len() == 271)?;
         for good in 0..271usize {
@@ -173,7 +177,7 @@ impl Work<'_> {
         right_at(271, self.call_by_call(271) == End::Whole)
     }
 
-    /// Packs in one of the two ways with targets that fail.
+    /// Packs in this way with targets that fail.
     fn expect_failures(self, way: Way) -> Result<(), Trouble> {
         match way {
             Way::CallByCall => self.expect_each_call(),
@@ -196,14 +200,14 @@ fn lines_of_story(alloc: Global) -> Result<Lines, Trouble> {
     Ok(lines)
 }
 
-/// Checks whether `Lines` accepts those of the sample story.
+/// Checks whether `Lines` accepts the lines of the sample story.
 fn takes_story(lines: &mut Lines) -> bool {
     lines.text(b"Rates stay.").is_ok()
         && lines.line_end().is_ok()
         && lines.text(b"No change.").is_ok()
 }
 
-/// Packs for a plan, in one of the two ways, with targets that fail.
+/// Packs under a plan in this way, with targets that fail.
 fn expect_failures(alloc: Global, plan: Plan, way: Way) -> Result<(), Trouble> {
     let whole = expected(alloc, plan)?;
     let work = Work {
@@ -230,7 +234,7 @@ fn pack_reports_a_failure_of_each_write(alloc: Global) -> Result<(), Trouble> {
     Ok(())
 }
 
-/// Runs the tests of a writer that fails within each call.
+/// Runs the tests of writers that fail within each call.
 pub(crate) fn tell(rt: &impl Print, told: &mut Told, alloc: Global) -> io::Result<()> {
     let calls = packer_fails_in_the_call_that_writes(alloc);
     told.trial(rt, "packer_fails_in_the_call_that_writes", calls)?;

@@ -20,7 +20,8 @@ fn begins_the_story(octets: &[u8]) -> bool {
     }
 }
 
-/// Checks whether a writer has `written` octets, and they are a prefix of the sample envelope.
+/// Checks whether a writer has accepted `written` octets, and these are a prefix of the sample
+/// envelope.
 fn holds_front<const N: usize>(writer: &TrialWriter<N>, written: u64) -> bool {
     writer.octets().len() as u64 == written && begins_the_story(writer.octets())
 }
@@ -44,7 +45,7 @@ fn end_in_start<const N: usize>(fault: &StartFault<TrialWriter<N>>) -> End {
     }
 }
 
-/// Packs the sample envelope. After a failed write, later calls are made, too.
+/// Packs the sample envelope. After a failed write, the remaining calls are still made.
 fn pack_story<const N: usize>(alloc: Global, writer: TrialWriter<N>) -> Result<End, Trouble> {
     let story = built(alloc)?;
     let plan = plan(1024, Size::Known(50))?;
@@ -64,7 +65,7 @@ fn takes_lines<const N: usize>(packer: &mut Packer<TrialWriter<N>>) -> bool {
     answers == [Ok(()); 3]
 }
 
-/// Returns the outcome with a started packer.
+/// Returns the outcome with a packer that was started.
 fn end_of<const N: usize>(mut packer: Packer<TrialWriter<N>>) -> End {
     if takes_lines(&mut packer) {
         end_of_lines(packer)
@@ -90,13 +91,13 @@ fn end_of_writer<const N: usize>(writer: &TrialWriter<N>) -> End {
     }
 }
 
-/// Checks whether a write failed, and later calls fail, too.
+/// Checks whether a write failed, and whether later calls fail too.
 fn fails_on<const N: usize>(packer: &mut Packer<TrialWriter<N>>, cause: PackCause) -> bool {
     let answers = [packer.text(b""), packer.text(b"\n"), packer.line_end()];
     cause == PackCause::Write && answers == [Err(PackCause::Failed); 3]
 }
 
-/// Returns the outcome if `finish` failed. Later calls must fail, too.
+/// Returns the outcome if `finish` failed. Later calls must fail too.
 fn end_in_finish<const N: usize>(mut packer: Packer<TrialWriter<N>>, cause: PackCause) -> End {
     let written = packer.written();
     if fails_on(&mut packer, cause) {
@@ -107,7 +108,7 @@ fn end_in_finish<const N: usize>(mut packer: Packer<TrialWriter<N>>, cause: Pack
 }
 
 /// Returns the outcome if `written` octets were written before the later calls. The last of these
-/// is another `finish`.
+/// calls is another `finish`.
 fn end_after<const N: usize>(packer: Packer<TrialWriter<N>>, written: u64) -> End {
     match packer.finish(&[b'x'; 65]) {
         Ok(_) => End::Wrong,
@@ -118,7 +119,7 @@ fn end_after<const N: usize>(packer: Packer<TrialWriter<N>>, written: u64) -> En
     }
 }
 
-/// Returns the outcome for the cause of the last call. The later calls must write nothing.
+/// Returns the outcome for the cause of the last call. The later calls must not write anything.
 fn end_of_failed<const N: usize>(
     cause: PackCause,
     counts: [u64; 2],
@@ -132,7 +133,8 @@ fn end_of_failed<const N: usize>(
     }
 }
 
-/// Returns the expected outcome if a write fails after `good` successful calls, each of one octet.
+/// Returns the expected outcome if a write fails after `good` successful calls, each of which
+/// accepts one octet.
 fn end_after_calls(good: usize) -> End {
     if good < 182 {
         End::InStart(good as u64)

@@ -1,4 +1,4 @@
-//! Tests a packer of an object of more than 4,294,967,295 octets, into a writer that only counts
+//! Tests a packer with an object of more than 4,294,967,295 octets. The target only counts the
 //! octets.
 
 ghost use Rattle.std.specs.Prelude.{None};
@@ -64,7 +64,8 @@ fn count_of(packer: Packer<Count>) -> Option<u64> {
     Some(writer.octets)
 }
 
-/// Checks that a started packer can be filled, and the number of octets of the packed form.
+/// Checks that a packer can be filled after its start, and checks the number of octets of the
+/// packed form.
 fn expect_filled(mut packer: Packer<Count>, piece: &[u8]) -> Result<(), Trouble> {
     let is_filled = is_filled(&mut packer, piece);
     let count = count_of(packer);
@@ -83,9 +84,9 @@ fn expect_great(alloc: Global, piece: &[u8]) -> Result<(), Trouble> {
     }
 }
 
-/// The header has 25 octets and the shortest trailer 2. After 65,535 chunks the text may have
-/// 65,513 more octets. Records 1 and 2 have 158 octets, record 7 has 28, since 7:90 has eight
-/// octets of data. The tag of a full subfile has 9 octets, and the last subfile has 4.
+/// The header has 25 octets and the shortest trailer has 2. After 65,535 chunks the text may have
+/// 65,513 more octets. Records 1 and 2 have 158 octets, and record 7 has 28, since 7:90 has eight
+/// octets of data. The tag of a full subfile has 9 octets, and the last subfile has 4 octets.
 fn packs_an_object_above_4_gib(alloc: Global) -> Result<(), Trouble> {
     let piece = vec![in alloc; b'a'; 65_536]?;
     expect_great(alloc, &piece)

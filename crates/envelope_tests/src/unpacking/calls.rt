@@ -12,8 +12,8 @@ use trials::TrialSink;
 use wire_story::{Lines, StorySink};
 use worked::{SMALLEST, STORY};
 
-/// The number of calls, and the first four of them: each is a number of octets of text, or 0 for
-/// the end of a line.
+/// The number of calls of a sink, and the first four of them. A call is a number of octets of text,
+/// or 0 for the end of a line.
 #[derive(Clone, Copy)]
 struct Calls {
     count: u64,
@@ -80,7 +80,7 @@ fn long_story(alloc: Global) -> Result<Vec<u8>, AllocError> {
     joined(alloc, &pieces)
 }
 
-/// Feeds that envelope to a new unpacker.
+/// Feeds the envelope with the long story to a new unpacker.
 fn fed_long(alloc: Global, calls: &mut Calls) -> Result<Result<Progress, Refusal>, AllocError> {
     let octets = long_story(alloc)?;
     let mut unpacker = Unpacker::new(alloc, LIMITS)?;
@@ -105,8 +105,8 @@ fn text_of(alloc: Global, lines: &Lines) -> Result<Vec<u8>, AllocError> {
     Ok(text)
 }
 
-/// Checks that a new unpacker stops at an octet of the sample story, and rejects all octets from
-/// then on.
+/// Checks that a new unpacker stops at this octet of the sample story, and rejects every later
+/// call.
 fn expect_stop(alloc: Global, sink: &mut TrialSink<Lines>, octet: usize) -> Result<(), Trouble> {
     let stopped = refusal(Layer::Outside, (8, 10), octet, Cause::SINK);
     let failed = refusal(Layer::Outside, (0, 0), octet, Cause::Failed);
@@ -125,8 +125,8 @@ fn fed_twice(
     Ok([first, unpacker.feed(STORY, sink)])
 }
 
-/// Returns the text that a sink consumed before it stopped, after `good` calls and `front` octets
-/// of a slice. The unpacker must stop at `octet`.
+/// Returns the text that a sink received before it stopped. It stops after `good` calls, and after
+/// `front` octets of the next slice. The unpacker must stop at `octet`.
 fn text_before(
     alloc: Global,
     (good, front): (u64, usize),
@@ -137,8 +137,8 @@ fn text_before(
     Ok(text_of(alloc, &sink.into_sink())?)
 }
 
-/// The sinks stop at the first octet of the text, within a line, at the end of a line, and before
-/// and within the next.
+/// The sinks stop at the first octet of the text, within a line, at the end of a line, at the first
+/// octet of the next line, and within that line.
 fn stops_where_the_sink_stops(alloc: Global) -> Result<(), Trouble> {
     let rows: [((u64, usize), usize, &[u8]); 5] = [
         ((0, 0), 212, b"\n"),
@@ -154,7 +154,7 @@ fn stops_where_the_sink_stops(alloc: Global) -> Result<(), Trouble> {
     Ok(())
 }
 
-/// Runs the tests of sinks.
+/// Runs the tests of the calls of sinks.
 pub(crate) fn tell(rt: &impl Print, told: &mut Told, alloc: Global) -> io::Result<()> {
     told.trial(
         rt,

@@ -1,4 +1,4 @@
-//! Tests envelopes from a reader of one octet a call, which fails.
+//! Tests intakes with a reader that returns one octet in each call and then fails.
 
 use super::refusal;
 use crate::given::LIMITS;
@@ -31,7 +31,8 @@ fn size_of(answer: Result<Option<Unpacked>, IntakeFault>) -> Result<Option<u64>,
     }
 }
 
-/// Checks that an intake returns an error at the first envelope, and the same octet from then on.
+/// Checks that an intake returns this error for the first envelope, and returns the same octet in
+/// every later error.
 fn expect_faults(
     alloc: Global,
     intake: &mut Intake<TrialReader<'_>>,
@@ -46,7 +47,8 @@ fn expect_faults(
     Ok(())
 }
 
-/// Checks that for a reader of these octets, with trouble after `good` calls.
+/// Checks the error of an intake whose reader returns these octets, and fails as `trouble` says
+/// after `good` calls.
 fn expect_fault(
     alloc: Global,
     octets: &[u8],
@@ -58,7 +60,7 @@ fn expect_fault(
     expect_faults(alloc, &mut intake, fault, good)
 }
 
-/// Reads the smallest envelope with fewer interruptions than are an error.
+/// Reads the smallest envelope with fewer consecutive interruptions than make an error.
 fn patient(
     alloc: Global,
     good: usize,
@@ -76,8 +78,8 @@ fn intake_reports_a_failure_of_each_read(alloc: Global) -> Result<(), Trouble> {
     Ok(())
 }
 
-/// Checks that a failure and a million interruptions after `good` successful calls are errors, and
-/// fewer interruptions are not.
+/// Checks that a failure and a million consecutive interruptions after `good` successful calls are
+/// errors, and that fewer interruptions are not.
 fn expect_troubles(alloc: Global, good: usize) -> Result<(), Trouble> {
     let faults = [
         (DeviceTrouble::Failure, IntakeFault::Read),

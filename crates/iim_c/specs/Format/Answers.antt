@@ -1,4 +1,4 @@
--- The answer of a call, and a buffer that octets are written into.
+-- The answer of a call, and the contents of a buffer that octets are written into.
 use Rattle.std.specs.Prelude.{ℕ, ◌≡◌, ◌≤◌, List, ◌++◌, length, take, map}
 use Rattle.iim_places.specs.{Format.Causes.cause_number, Format.Streams.sum_capped, declared.refusal.Refusal.Refusal}
 use Rattle.iim_places.specs.{declared.refusal.Layer.Layer, declared.ticket.fault.TicketFault.TicketFault}
@@ -24,8 +24,8 @@ status_answer status = record {
   ticket = 0;
 }
 
--- the answer if a buffer is too short: the number of octets of text, or of rows, and the length of
--- the ticket
+-- the answer for a buffer that is too short: the number of octets of text or the number of rows,
+-- and the length of the ticket
 abbrev pub short_answer : ℕ → ℕ → IimAnswer
 short_answer written ticket = record (status_answer status.short) { written = written; ticket = ticket }
 
@@ -49,30 +49,29 @@ refusal_answer status e = record (status_answer status) {
   octet = e.octet;
 }
 
--- the answer for a ticket that is rejected; a failed allocation has a separate status
+-- the answer for an invalid ticket; a failed allocation has its own status
 abbrev pub ticket_answer : TicketFault → IimAnswer
 ticket_answer OutOfMemory = status_answer status.no_memory
 ticket_answer fault = record (status_answer status.bad_ticket) { cause = ticket_fault_number fault }
 
--- a number of octets as it is counted: capped at the greatest number of 64 bits
+-- the length of octets as a counter of 64 bits has it, which saturates at the greatest number
 abbrev pub counted : List ℕ → ℕ
 counted octets = sum_capped 0 (length octets)
 
--- The octets fit into the buffer, and are at its front.
+-- The buffer begins with these octets, all of which fit into it.
 abbrev pub BeginsWith : List ℕ → List ℕ → Type 0
 BeginsWith out octets = (length octets ≤ length out) × (take (length octets) out ≡ octets)
 
--- This number of octets was received, and they are at the front of the buffer, if they fit.
+-- The count is the length of these octets, and the buffer begins with them if they fit.
 abbrev pub HasTaken : List ℕ → ℕ → List ℕ → Type 0
 HasTaken out count octets = (count ≡ counted octets) × (length octets ≤ length out → take (length octets) out ≡ octets)
 
--- Between the two values of a sink these octets were received, after earlier ones and in the same
--- buffer.
+-- The sink received these octets after earlier ones, and writes into the same buffer.
 pub record WritesOctets (old : TextOut) (octets : List ℕ) (new : TextOut) : Type 0 where
   pub same : new.out.ghost_name ≡ old.out.ghost_name
   pub room : length new.out.now ≡ length old.out.now
   pub taken : (before : List ℕ) → HasTaken old.out.now old.count before → HasTaken new.out.now new.count (before ++ octets)
 
--- Between the two values of a sink these events were passed to it.
+-- The sink received these events.
 abbrev pub WritesLines : TextOut → List StoryEvent → TextOut → Type 0
 WritesLines old events new = WritesOctets old (map octet_for events) new

@@ -10,20 +10,20 @@ use Rattle.iim_c.specs.Format.Statuses as status
 abbrev pub given_or : ℕ → ℕ → ℕ
 given_or given other = if given == 0 then other else given
 
--- the limits, with those of wire copy for each that is 0
+-- the limits, in which each 0 is replaced by the limit of wire copy
 abbrev pub limits_for : IimLimits → Limits
 limits_for limits = record { octets = given_or limits.octets wire_limits.octets; fields = given_or limits.fields wire_limits.fields }
 
--- the answer of a call for that of a stream
+-- converts the result of a stream to the answer of a call
 abbrev pub answer_for : Answer → IimAnswer
 answer_for (Finished used value) = record (status_answer status.done) { octet = used; used = used }
 answer_for (Refused e) = refusal_answer status.refused e
 answer_for (Truncated e) = refusal_answer status.truncated e
 
--- The answer is that of the stream; or an allocation failed.
+-- The answer has the result of the stream, or an allocation failed.
 abbrev pub ReturnsChecked : Limits → List ℕ → IimAnswer → Type 0
 ReturnsChecked limits octets told = ((answer : Answer) × Answers limits octets answer × (told ≡ answer_for answer)) ⊎ (told ≡ status_answer status.no_memory)
 
--- The octets have no other answer.
+-- No other answer is possible for these octets, unless an allocation fails.
 abbrev pub IsOnlyAnswer : Limits → List ℕ → IimAnswer → Type 0
 IsOnlyAnswer limits octets told = (answer : Answer) → Answers limits octets answer → (told ≡ answer_for answer) ⊎ (told ≡ status_answer status.no_memory)

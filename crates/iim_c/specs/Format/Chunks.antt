@@ -1,4 +1,4 @@
--- What feeding a chunk to an unpacker comes to, if the text goes to a buffer.
+-- The result of feeding a chunk to an unpacker that writes the text into a buffer.
 use Rattle.std.specs.Prelude.{◌≡◌, ℕ, List, length, ◌≢◌, map}
 use Rattle.iim_places.specs.declared.refusal.{Refusal.Refusal, Cause.TheVariants.Message}
 use Rattle.iim_unpack.specs.States.Unpacking.{Unpacking, HasRead, limits_in, Progresses, IsRefusedIn}
@@ -8,7 +8,7 @@ use Rattle.iim_c.specs.Format.Statuses as status
 use Rattle.wire_story.specs.Format.Texts.{StoryEvent, octet_for}
 use Rattle.wire_message.specs.declared.fault.MessageCause.TheVariants.{Sink}
 
--- A chunk was fed, and its text is in the buffer that remains.
+-- A chunk was fed, and its text is in the same buffer.
 pub record HasFedText (u v : Unpacking) (piece out : List ℕ) (count : ℕ) (progress : Progress) : Type 0 where
   pub more : List StoryEvent
   pub taken : HasTaken out count (map octet_for more)
@@ -21,7 +21,8 @@ pub record HasRefusedText (u : Unpacking) (piece out : List ℕ) (count : ℕ) (
   pub refuses : (p : List ℕ) (n : ℕ) → HasRead u p n → IsRefusedIn (limits_in u) p n piece more e
   pub by_octets : e.cause ≢ Message Sink
 
--- the status for progress, and the number of octets of the chunk that were consumed
+-- the status for the progress of an unpacker, and the number of octets of the chunk that were
+-- consumed
 abbrev pub progress_status : Progress → ℕ → ℕ × ℕ
 progress_status More piece = (status.more, piece)
 progress_status (Done used) piece = (status.done, used)

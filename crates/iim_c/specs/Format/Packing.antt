@@ -7,11 +7,11 @@ use Rattle.iim_c.specs.{declared.packing.IimPacking.IimPacking, Format.Checking.
 use Rattle.iim_c.specs.Format.Answers.{status_answer, IimAnswer}
 use Rattle.iim_c.specs.Format.Statuses as status
 
--- the options as the command has them: `subfile = 0` selects 1,024
+-- the options in the form of the command, where `subfile = 0` selects 1,024
 abbrev pub asked_for : IimPacking → Asked
 asked_for p = asked (given_or p.subfile default_subfile) p.unknown (if p.has_max then Some p.max else None)
 
--- The options are invalid: a known size has a maximum, or no plan can have these numbers.
+-- The options are invalid: a maximum is given for a known size, or no plan has these numbers.
 abbrev pub AreInvalidOptions : IimPacking → Type 0
 AreInvalidOptions p = ((p.has_max ≡ true) × (p.unknown ≡ false)) ⊎ (IsTrue (is_plan (asked_for p).subfile (Unknown (asked_for p).max)) → ⊥)
 
@@ -19,17 +19,17 @@ AreInvalidOptions p = ((p.has_max ≡ true) × (p.unknown ≡ false)) ⊎ (IsTru
 abbrev pub AreValidOptions : IimPacking → Type 0
 AreValidOptions p = AreInvalidOptions p → ⊥
 
--- the packed form; or an invalid line and the cause; or the options are invalid; or an allocation
--- failed
+-- the packed form; or the line that is rejected and the cause; or invalid options; or a failed
+-- allocation
 pub data PackOutcome : Type 0 where
   Packed : (form : List ℕ) → PackOutcome
   Refused : (line cause : ℕ) → PackOutcome
   BadPacking : PackOutcome
   NoMemory : PackOutcome
 
--- The octets are a script, and this is the packed form that the options select; or the command
--- rejects them with this line and this cause, which it prints with a name. If the options are
--- invalid, that is the only outcome, whatever the script is.
+-- The octets are a script, and this is the packed form under the options; or the command rejects
+-- them with this line and this cause. If the options are invalid, this is the only outcome, for
+-- every script.
 abbrev pub IsPackOutcome : IimPacking → List ℕ → PackOutcome → Type 0
 IsPackOutcome p octets (Packed form) = AreValidOptions p × ((t : ScriptContent) × IsScriptOf octets t × IsRequestedForm (asked_for p) t form)
 IsPackOutcome p octets (Refused line cause) = AreValidOptions p × ((name : List ℕ) × IsScriptRefusal (asked_for p) octets (refusal_line line cause name))
@@ -43,17 +43,17 @@ pack_answer (Refused line cause) = record (status_answer status.refused) { octet
 pack_answer BadPacking = status_answer status.bad_packing
 pack_answer NoMemory = status_answer status.no_memory
 
--- the octets that are written
+-- the octets that are written for an outcome
 abbrev pub form_of : PackOutcome → List ℕ
 form_of (Packed form) = form
 form_of _ = []
 
--- The answer has the length of the packed form, or the reason why there is no packed form.
+-- The answer has the length of the packed form, or the reason why there is none.
 abbrev pub ReturnsPackedSize : IimPacking → List ℕ → IimAnswer → Type 0
 ReturnsPackedSize p octets told = (o : PackOutcome) × IsPackOutcome p octets o × (told ≡ pack_answer o)
 
--- The packed form is at the front of the buffer, and the rest is unchanged; or it does not fit,
--- and the whole buffer is unchanged.
+-- The buffer begins with the packed form, and the rest is unchanged; or the packed form does not
+-- fit, and the whole buffer is unchanged.
 abbrev pub ReturnsPacked : IimPacking → List ℕ → List ℕ → List ℕ → IimAnswer → Type 0
 ReturnsPacked p octets old new told = (o : PackOutcome) × IsPackOutcome p octets o
     × (((length (form_of o) ≤ length old) × (new ≡ form_of o ++ drop (length (form_of o)) old) × (told ≡ pack_answer o))

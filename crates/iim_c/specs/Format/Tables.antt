@@ -1,4 +1,4 @@
--- The tables, causes, names and instants, as C sees them.
+-- The tables, causes, names and instants for C.
 use Rattle.std.specs.Prelude.{ℕ, false, Option, Some, None, ◌==◌, List, [], ◌∷◌, codes, ◌≡◌, ◌+◌, ◌<◌, ◌≤◌, ◌&&◌, ◌⊎◌, Bool, ◌++◌, length, drop, ℤ, pos, ◌+ℤ◌, ◌*ℤ◌, true}
 use Rattle.std.specs.{List.find, Option.option_map}
 use Rattle.iim_object.specs.Format.Causes.{pack_number}
@@ -65,14 +65,15 @@ pub record CauseEntry : Type 0 where
 abbrev pub told : ℕ → List ℕ → List ℕ → CauseEntry
 told number name text = record { number = number; name = name; text = text }
 
--- a cause in octets, and one in a script
+-- the entry of a cause that concerns octets of an envelope, and of one that concerns a script
 abbrev pub of_octets : Cause → List ℕ → CauseEntry
 of_octets cause text = told (cause_number cause) (cause_name cause) text
 
 abbrev pub of_script : ScriptCause → List ℕ → CauseEntry
 of_script cause text = told (script_words.script_cause_number cause) (script_words.script_cause_name cause) text
 
--- the causes in octets, in memory and readers, in packing, in audits, in scripts and in tickets
+-- the causes that concern octets of an envelope, memory and readers, packing, audits, scripts and
+-- tickets
 unfoldable pub cause_table : List CauseEntry
 cause_table =
     of_octets octets.Marker (codes "a tag doesn't begin with 1C")
@@ -121,7 +122,7 @@ cause_table =
 unfoldable pub cause_entry : ℕ → Option CauseEntry
 cause_entry number = find (λ cause. cause.number == number) cause_table
 
--- its name, and its meaning
+-- the name of the cause with this number, and its meaning
 abbrev pub name_for_cause : ℕ → Option (List ℕ)
 name_for_cause number = option_map (λ cause. cause.name) (cause_entry number)
 
@@ -213,17 +214,17 @@ abbrev pub name_or_none : Option (List ℕ) → List ℕ
 name_or_none (Some name) = name
 name_or_none None = []
 
--- The name and a NUL are at the front of the buffer, and the rest is unchanged; or they do not
--- fit, and the whole buffer is unchanged. The count is the length of the name.
+-- The buffer begins with the name and a NUL, and the rest is unchanged; or they do not fit, and the
+-- whole buffer is unchanged. The count is the length of the name.
 abbrev pub WritesName : List ℕ → List ℕ → List ℕ → ℕ → Type 0
 WritesName name old new count = (count ≡ length name)
     × (((length name < length old) × (new ≡ (name ++ 0 ∷ []) ++ drop (length name + 1) old)) ⊎ ((length old ≤ length name) × (new ≡ old)))
 
--- the nanoseconds from 1970-01-01T00:00:00Z to an instant
+-- the number of nanoseconds from 1970-01-01T00:00:00Z to an instant
 abbrev pub nanoseconds_to : IimInstant → ℤ
 nanoseconds_to instant = (instant.second *ℤ pos nanoseconds_in_second) +ℤ pos instant.nanosecond
 
--- There are fewer nanoseconds than a second has, and the instant is in the range of `jiff`.
+-- The nanoseconds are fewer than a second has, and the instant is in the range of `jiff`.
 abbrev pub IsInstant : IimInstant → Type 0
 IsInstant instant = (instant.nanosecond < nanoseconds_in_second) × IsTimestampNanos (nanoseconds_to instant)
 
@@ -231,7 +232,7 @@ IsInstant instant = (instant.nanosecond < nanoseconds_in_second) × IsTimestampN
 abbrev pub IsInstantAt : IimInstant → ℤ → Type 0
 IsInstantAt instant nanosecond = IsInstant instant × (nanosecond ≡ nanoseconds_to instant)
 
--- The instant is present, with its seconds rounded down; or it is absent, and its numbers are 0.
+-- The instant is present, and its seconds are rounded down; or it is absent, and its numbers are 0.
 abbrev pub IsOptionalInstant : Option ℤ → Bool → IimInstant → Type 0
 IsOptionalInstant (Some nanosecond) has instant = (has ≡ true) × (instant.nanosecond < nanoseconds_in_second) × (nanoseconds_to instant ≡ nanosecond)
 IsOptionalInstant None has instant = (has ≡ false) × (instant ≡ record { second = pos 0; nanosecond = 0 })

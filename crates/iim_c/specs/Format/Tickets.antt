@@ -1,5 +1,5 @@
--- What a ticket encodes: its parts and their offsets, what is in progress, and which octets may
--- come next.
+-- The contents of a ticket: its parts and their offsets, what is in progress, and the octets that
+-- are accepted next.
 use Rattle.std.specs.Prelude.{◌≡◌, ℕ, ◌+◌, ◌≤◌, ◌⊎◌, Bool, false, List, [], ◌∷◌, length, get_or, take, drop, None, is_some, ◌≢◌, ◌-◌, ◌==◌, if◌then◌else◌, ◌++◌, ◌<◌, ◌/◌, ◌%◌, ◌↔◌, replicate, ⊤, nat_le}
 use Rattle.std.specs.{Option.unwrap_or, Int.bit_at}
 use Rattle.iim_dataset.specs.Format.Datasets.{Dataset, EncodesTag, count_octets, head_of, PartialDataset, InTag, InData, ReadsAsDatasets}
@@ -28,13 +28,14 @@ pub record HasOctetsAt (ticket : List ℕ) (span : IimSpan) (octets : List ℕ) 
 abbrev pub no_span : IimSpan
 no_span = record { offset = 0; count = 0 }
 
--- The octets are not a ticket, and the answer has the reason.
+-- The octets are not a ticket, and the answer has the cause.
 abbrev pub IsNoTicket : List ℕ → IimAnswer → Type 0
 IsNoTicket ticket told = (fault : TicketFault) × IsTicketFormFault ticket fault × (told ≡ ticket_answer fault)
 
 -- ---- datasets
 
--- The dataset after the first n, and the slice of the ticket with its data.
+-- `found` has the record and the number of the dataset with the index n, and the slice of the
+-- ticket that has its data.
 pub record IsFieldAt (ticket : List ℕ) (s : Contents) (n : ℕ) (found : IimDataset) : Type 0 where
   pub field : Dataset
   pub after : List Dataset
@@ -46,16 +47,16 @@ pub record IsFieldAt (ticket : List ℕ) (s : Contents) (n : ℕ) (found : IimDa
 abbrev pub no_dataset : IimDataset
 no_dataset = record { rec = 0; set = 0; «data» = no_span }
 
--- The ticket has more than n datasets, and this is the next one; or it has no more; or it is not a
--- ticket.
+-- The ticket has more than n datasets, and `found` is the one with the index n; or it has no more
+-- than n; or the octets are not a ticket.
 abbrev pub ReturnsField : List ℕ → ℕ → IimDataset → IimAnswer → Type 0
 ReturnsField ticket n found told =
     ((s : Contents) × HasContents ticket s × IsFieldAt ticket s n found × (told ≡ status_answer status.done))
     ⊎ ((s : Contents) × HasContents ticket s × (length s.fields ≤ n) × (found ≡ no_dataset) × (told ≡ status_answer status.none))
     ⊎ (IsNoTicket ticket told × (found ≡ no_dataset))
 
--- The array begins with the first `count` datasets after the first `from`, as many as fit; its
--- other entries are unchanged.
+-- The array begins with the datasets from the index `from` on, of the first `count` datasets, as
+-- many as fit; its other entries are unchanged.
 pub record ArrayHasFields (ticket : List ℕ) (s : Contents) (from count : ℕ) (old new : List IimDataset) : Type 0 where
   pub each : (k : ℕ) → k < count → k < length old → IsFieldAt ticket s (from + k) (get_or new k no_dataset)
   pub others : drop count new ≡ drop count old
@@ -64,8 +65,8 @@ pub record ArrayHasFields (ticket : List ℕ) (s : Contents) (from count : ℕ) 
 abbrev pub fields_answer : (count room : ℕ) → IimAnswer
 fields_answer count room = record (status_answer (if nat_le count room then status.done else status.short)) { written = count }
 
--- The array has the datasets after the first `from`, and the answer counts all of those; or the
--- octets are not a ticket, and the array is unchanged.
+-- The array has the datasets from the index `from` on, and the answer has the number of all
+-- datasets; or the octets are not a ticket, and the array is unchanged.
 abbrev pub ReturnsFields : List ℕ → ℕ → List IimDataset → List IimDataset → IimAnswer → Type 0
 ReturnsFields ticket from old new told =
     ((s : Contents) × HasContents ticket s × ArrayHasFields ticket s from (length s.fields - from) old new
@@ -74,11 +75,11 @@ ReturnsFields ticket from old new told =
 
 -- ---- header and trailer
 
--- The slice has the text with this index.
+-- The slice of the ticket has the text with this index.
 abbrev pub HasTextAt : List ℕ → Contents → ℕ → IimSpan → Type 0
 HasTextAt ticket s n span = HasOctetsAt ticket span (get_or s.texts n [])
 
--- The part is this, and the slices of the message have its texts.
+-- The part is that of the contents, and the slices of the message have its texts.
 abbrev pub IsMessageOf : List ℕ → Contents → IimMessage → Type 0
 IsMessageOf ticket s m =
     (m.part ≡ s.part) × HasTextAt ticket s 0 m.source × HasTextAt ticket s 1 m.number × HasTextAt ticket s 2 m.priority
@@ -96,14 +97,14 @@ no_message = record {
   trailer = no_span;
 }
 
--- The ticket has this header and trailer; or it is not a ticket.
+-- The ticket has this header and trailer; or the octets are not a ticket.
 abbrev pub ReturnsHeader : List ℕ → IimMessage → IimAnswer → Type 0
 ReturnsHeader ticket m told =
     ((s : Contents) × HasContents ticket s × IsMessageOf ticket s m × (told ≡ status_answer status.done)) ⊎ (IsNoTicket ticket told × (m ≡ no_message))
 
 -- ---- sizes
 
--- The number with this index is this; or it was not received, and is 0.
+-- The number with this index is this one; or it was not received, and 0 is returned for it.
 abbrev pub IsNumber : Contents → ℕ → Bool → ℕ → Type 0
 IsNumber s n has number = (has ≡ is_some (get_or s.numbers n None)) × (number ≡ unwrap_or (get_or s.numbers n None) 0)
 
@@ -126,29 +127,30 @@ no_object = record {
   octets = 0;
 }
 
--- The ticket has these sizes; or it is not a ticket.
+-- The ticket has these sizes; or the octets are not a ticket.
 abbrev pub ReturnsSizes : List ℕ → IimObject → IimAnswer → Type 0
 ReturnsSizes ticket o told =
     ((s : Contents) × HasContents ticket s × IsObjectOf s o × (told ≡ status_answer status.done)) ⊎ (IsNoTicket ticket told × (o ≡ no_object))
 
 -- ---- the number of what is in progress
 
--- nothing, between datasets; or a tag, of which some octets were received
+-- the kind for a tag: nothing in progress, between datasets; or a tag of which some octets were
+-- received
 abbrev pub kind_of_tag : List ℕ → ℕ
 kind_of_tag [] = 0
 kind_of_tag (x ∷ held) = 1
 
--- the data of a dataset
+-- the kind for the data of a dataset
 abbrev pub in_data : ℕ
 in_data = 2
 
--- nothing: the envelope is complete
+-- the kind for a complete envelope
 abbrev pub ended : ℕ
 ended = 3
 
--- ---- what a ticket encodes of it
+-- ---- the part of a ticket that encodes what is in progress
 
--- the received octets of it that the ticket stores
+-- the received octets of the tag or value in progress that the ticket stores
 abbrev pub kept_of : Phase → List ℕ
 kept_of (PartialTag held) = held
 kept_of (PartialData set count left taken) = taken
@@ -171,10 +173,9 @@ no_begun = record {
   octets = no_span;
 }
 
--- What is in progress in the record `section` after `at` octets, with its stored octets in this
--- slice of the ticket. The first octet of a tag or of data is as many octets before `at` as were
--- received of it. The token of the next octet begins there, too, except in a subfile, where each
--- octet is checked as a token.
+-- What is in progress in the record `section` after `at` octets. `span` is the slice of the ticket
+-- with the octets stored of it. Its first octet is `at` minus the number of octets received of it.
+-- The next token begins at the same offset, except in a subfile, where each octet is a token.
 abbrev pub begun_by : (at section : ℕ) → Phase → IimSpan → IimBegun
 begun_by at section (PartialTag held) span =
     record no_begun {
@@ -200,7 +201,7 @@ begun_by at section (PartialData set count left taken) span =
     }
 begun_by at section AllEnded span = record no_begun { kind = ended; first = at; token = at; octets = span }
 
--- the same with the record of the last head, and with the part of the message, its counter and its
+-- the same, with the record of the last head, and with the part of the message, its counter and its
 -- flag
 abbrev pub begun_of : ℕ → Contents → IimSpan → IimBegun
 begun_of at s span = record (begun_by at s.section s.phase span) { section = s.section; part = s.part; counter = s.counter; flag = s.flag }
@@ -209,16 +210,16 @@ pub record IsProgressOf (ticket : List ℕ) (at : ℕ) (s : Contents) (found : I
   pub stand : HasOctetsAt ticket found.octets (kept_of s.phase)
   pub is : found ≡ begun_of at s found.octets
 
--- The ticket encodes this; or it is not a ticket.
+-- The ticket encodes this progress; or the octets are not a ticket.
 abbrev pub ReturnsProgress : List ℕ → ℕ → IimBegun → IimAnswer → Type 0
 ReturnsProgress ticket at found told =
     ((s : Contents) × HasContents ticket s × IsProgressOf ticket at s found × (told ≡ status_answer status.done)) ⊎ (IsNoTicket ticket told × (found ≡ no_begun))
 
--- ---- what is in progress after octets that have reached the state
+-- ---- what is in progress after octets that reach the state
 
--- How much of it was received, how much is remaining, and where it began, after `at` octets. The
--- length of a partial tag is unknown, so the number of remaining octets is 0. The token of the
--- next octet is a tag, a value or, in the object, that octet itself.
+-- The number of octets received of what is in progress, the number that remain, and the offset at
+-- which it began, after `at` octets. The length of a partial tag is unknown, so the number that
+-- remain is 0. The next token is a tag, a value or, in the object, the next octet alone.
 abbrev pub IsInProgress : ℕ → PartialDataset → IimBegun → Type 0
 IsInProgress at (InTag held) found =
     (found.rec ≡ partial_record (InTag held)) × (found.set ≡ partial_number (InTag held)) × (found.came ≡ length held) × (found.left ≡ 0)
@@ -227,12 +228,12 @@ IsInProgress at (InData h taken) found =
     (found.rec ≡ h.rec) × (found.set ≡ h.set) × (found.came ≡ length taken) × (found.left ≡ h.count - length taken)
     × (found.first ≡ at - length taken) × (found.token ≡ (if h.rec == 8 then at else at - length taken))
 
--- The last dataset is complete: it has record 9, and no other is in progress.
+-- The last dataset is complete: its record is 9, and no dataset is in progress.
 abbrev pub IsCompleteEnvelope : List Dataset → PartialDataset → Type 0
 IsCompleteEnvelope whole (InTag held) = section_after whole ≡ 9
 IsCompleteEnvelope whole (InData h taken) = ⊥
 
--- After the octets so far this is in progress, or the envelope is complete.
+-- `found` is what is in progress after the octets so far, or states that the envelope is complete.
 pub record HasProgressOf (p : List ℕ) (at : ℕ) (found : IimBegun) : Type 0 where
   pub whole : List Dataset
   pub begun : PartialDataset
@@ -241,23 +242,23 @@ pub record HasProgressOf (p : List ℕ) (at : ℕ) (found : IimBegun) : Type 0 w
 
 -- ---- the rejected token
 
--- The octets of a token. If no octet can continue a partial tag: its octets up to the rejected
--- one. For a head: its tag. For an octet of the object: that octet. For a value: its data or, if
--- that is empty, its tag.
+-- The octets of a token. If no tag can continue with an octet, they are those of the partial tag
+-- and that octet. For a head, they are its tag. For an octet of the object, they are that octet.
+-- For a value, they are its data or, if these are empty, its tag.
 abbrev pub AreOctetsOf : Token → List ℕ → Type 0
 AreOctetsOf (AtOctet (InTag held) octet) xs = xs ≡ held ++ octet ∷ []
 AreOctetsOf (AtOctet (InData h taken) octet) xs = xs ≡ octet ∷ []
 AreOctetsOf (AtHead h) xs = EncodesTag count_octets h xs
 AreOctetsOf (AtValue d) xs = ((d.octets ≢ []) × (xs ≡ d.octets)) ⊎ ((d.octets ≡ []) × EncodesTag count_octets (head_of d) xs)
 
--- Whichever octet is rejected next, by whichever layer: the octets from `token` up to it are those
--- of the rejected token.
+-- If the next octet is rejected, the octets from the offset `token` up to it are those of the
+-- rejected token.
 abbrev pub HasTokenOf : List ℕ → ℕ → IimBegun → Type 0
 HasTokenOf p at found = (limits : Limits) (next : ℕ) (fault : TokenFault) → (refused : RefusesNext limits p next fault) → at ≡ length p
     → AreOctetsOf refused.token (drop found.token (p ++ next ∷ []))
 
--- the bit of an octet in the 32 octets of a set: each has the bits of eight octets, the first of
--- them lowest
+-- the bit of an octet in the 32 octets of a set, each of which has the bits of eight octets, lowest
+-- first
 abbrev pub bit_of : List ℕ → ℕ → ℕ
 bit_of bits octet = bit_at (get_or bits (octet / 8) 0) (octet % 8)
 
@@ -265,27 +266,26 @@ bit_of bits octet = bit_at (get_or bits (octet / 8) 0) (octet % 8)
 abbrev pub no_octets : List ℕ
 no_octets = replicate 32 0
 
--- With this next octet the envelope can continue or is complete.
+-- The octet is accepted next: with it the envelope can continue or is complete.
 abbrev pub IsAccepted : Limits → List ℕ → ℕ → Type 0
 IsAccepted limits p next = IsIncomplete limits (p ++ next ∷ []) ⊎ ((value : Value) × IsEnvelopeWithin limits (p ++ next ∷ []) value)
 
--- Its bit is set if and only if it is accepted, and is not set if and only if some layer rejects
--- it.
+-- The bit is set if the octet is accepted, and is not set if some layer rejects it.
 pub record BitIsAcceptance (limits : Limits) (p : List ℕ) (next bit : ℕ) : Type 0 where
   pub taken : (bit ≡ 1) ↔ IsAccepted limits p next
   pub refused : (bit ≡ 0) ↔ ((fault : TokenFault) × RefusesOctet limits p next fault)
 
--- All octets that have reached the ticket's state are a viable prefix, and the bits are those of
--- the next octets.
+-- All octets that reach the ticket's state are a viable prefix, and the bits are those of the
+-- octets accepted next.
 abbrev pub BitsAreAccepted : Limits → List ℕ → List ℕ → Type 0
 BitsAreAccepted limits ticket bits = HoldsForTicket limits ticket 0 (λ p a. (next : ℕ) → next < 256 → BitIsAcceptance limits p next (bit_of bits next)) (λ p a. ⊥)
 
--- All octets that have reached the ticket's state are an envelope.
+-- All octets that reach the ticket's state are an envelope.
 abbrev pub TicketIsComplete : Limits → List ℕ → Type 0
 TicketIsComplete limits ticket = HoldsForTicket limits ticket 0 (λ p a. ⊥) (λ p a. ⊤)
 
--- the result: the octets that may come next; or the envelope is complete, and none may; or the
--- ticket is rejected; or an allocation failed
+-- The result: the octets that are accepted next; or the envelope is complete, and the set is empty;
+-- or the ticket is invalid; or an allocation failed.
 abbrev pub ReturnsNext : Limits → List ℕ → List ℕ → IimAnswer → Type 0
 ReturnsNext limits ticket bits told =
     (BitsAreAccepted limits ticket bits × (told ≡ status_answer status.more))
@@ -293,7 +293,7 @@ ReturnsNext limits ticket bits told =
     ⊎ ((fault : TicketFault) × (ticket ≢ []) × IsRestoreFault limits ticket fault × (bits ≡ no_octets) × (told ≡ ticket_answer fault))
     ⊎ ((bits ≡ no_octets) × (told ≡ status_answer status.no_memory))
 
--- the stored count of words: zero without a ticket
+-- the count of words in the state beside the ticket, which is zero without a ticket
 abbrev pub words_so_far : List ℕ → IimSoFar → WordsSoFar
 words_so_far [] so_far = no_words_counted
 words_so_far (x ∷ xs) so_far = record { words = so_far.words; inside = so_far.inside }

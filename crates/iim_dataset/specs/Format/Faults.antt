@@ -1,4 +1,4 @@
--- Why an octet is rejected, and how this is printed.
+-- Why an octet is rejected, and the printed form of the reason.
 use Rattle.std.specs.Prelude.{ℕ, List, ◌++◌, codes, decimal}
 use Rattle.iim_dataset.specs.declared.{fault.FaultCause.FaultCause, fault.Fault.Fault, stop.Stop.Stop}
 use Rattle.iim_dataset.specs.declared.fault.FaultCause.TheVariants.{Marker, CountForm, Stopped}
@@ -15,14 +15,14 @@ name_of_dataset_cause Marker = codes "Marker"
 name_of_dataset_cause CountForm = codes "CountForm"
 name_of_dataset_cause Stopped = codes "Sink"
 
--- The number and the name of a cause, as they are printed.
+-- The printed form of a cause: its number and its name.
 abbrev pub text_of_dataset_cause : FaultCause → List ℕ
 text_of_dataset_cause cause = decimal (number_of_dataset_cause cause) ++ (codes " " ++ name_of_dataset_cause cause)
 
--- The number of octets before the rejected one, and the cause, as they are printed.
+-- The printed form of a fault: the number of octets before the rejected one, and the cause.
 abbrev pub text_of_dataset_fault : Fault → List ℕ
 text_of_dataset_fault fault = codes "refused after " ++ (decimal fault.used ++ (codes " octets, cause " ++ text_of_dataset_cause fault.cause))
 
--- The number of octets that a sink accepted before it stopped, as it is printed.
+-- The printed form of a stop: the number of octets that the sink accepted before it.
 abbrev pub text_of_stop : Stop → List ℕ
 text_of_stop stop = codes "stopped after " ++ (decimal stop.taken ++ codes " octets")

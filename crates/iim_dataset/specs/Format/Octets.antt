@@ -1,5 +1,5 @@
--- Octets, the numbers that they encode, and their names in ISO 646; counters that rise; and
--- languages of tokens.
+-- Octets, the numbers that they encode, and their names in ISO 646; counters; and languages of
+-- tokens.
 use Rattle.std.specs.Prelude.{◌≡◌, ℕ, ◌-◌, ◌^◌, ◌<◌, List, ◌++◌, length, Bool, ◌&&◌, ◌||◌, nat_le, ◌+◌, ◌≤◌, ◌⊎◌, [], ◌∷◌}
 use Rattle.std.specs.List.{AllByRecursion}
 use Rattle.byteorder.specs.Endian.{big_number}
@@ -15,12 +15,12 @@ Octets xs = AllByRecursion IsOctet xs
 abbrev pub number : List ℕ → ℕ
 number xs = big_number (length xs) xs
 
--- xs is a proper prefix of ys: it begins ys and is shorter
+-- xs is a proper prefix of ys: ys begins with xs, and is longer
 abbrev pub IsProperPrefix : List ℕ → List ℕ → Type 0
 IsProperPrefix xs ys = (rest : List ℕ) × (0 < length rest) × (xs ++ rest ≡ ys)
 
--- the greatest size of an object in octets, and so the greatest count that a row allows (the
--- profile's)
+-- the greatest size of an object in octets, and so the greatest count that a row allows (a choice
+-- of the profile)
 abbrev pub greatest_size : ℕ
 greatest_size = 9_223_372_036_854_775_807
 
@@ -28,11 +28,11 @@ greatest_size = 9_223_372_036_854_775_807
 abbrev pub greatest_u32 : ℕ
 greatest_u32 = 4_294_967_295
 
--- the greatest number of 64 bits, at which a stored counter saturates
+-- the greatest number of 64 bits, at which counters saturate
 abbrev pub greatest_u64 : ℕ
 greatest_u64 = 2 ^ 64 - 1
 
--- b is one of low to high
+-- b is in the range from `low` to `high`
 abbrev pub within : ℕ → ℕ → ℕ → Bool
 within low high b = nat_le low b && nat_le b high
 
@@ -44,7 +44,7 @@ is_digit b = within 0x30 0x39 b
 abbrev pub is_letter : ℕ → Bool
 is_letter b = within 0x41 0x5a b || within 0x61 0x7a b
 
--- ---- Octets by their names in ISO 646, and those of a few of its other characters.
+-- ---- Octets by their names in ISO 646, and a few printable characters.
 
 -- NUL, null
 abbrev pub nul : ℕ
@@ -118,14 +118,14 @@ small_a = 0x61
 abbrev pub small_x : ℕ
 small_x = 0x78
 
--- A counter rose by one. A stored counter that is at the greatest number of 64 bits may stay.
+-- A counter increased by one. At the greatest number of 64 bits it may stay unchanged.
 abbrev pub CounterRose : ℕ → ℕ → Type 0
 CounterRose old new = (new ≡ old + 1) ⊎ ((2 ^ 64 ≤ new + 1) × (old ≤ new) × (new ≤ old + 1))
 
--- A viable prefix: some continuation of the tokens is in the language.
+-- The tokens are a viable prefix: some continuation of them is in the language.
 abbrev pub IsViablePrefix : {T : Type 0} → (List T → Type 0) → List T → Type 0
 IsViablePrefix {T} Language tokens = (rest : List T) × Language (tokens ++ rest)
 
--- The tokens are a viable prefix, and with the next one they are not.
+-- The tokens are a viable prefix, but with the next token they are not.
 abbrev pub EndsViablePrefix : {T : Type 0} → (List T → Type 0) → List T → T → Type 0
 EndsViablePrefix {T} Language tokens token = IsViablePrefix Language tokens × (IsViablePrefix Language (tokens ++ token ∷ []) → ⊥)

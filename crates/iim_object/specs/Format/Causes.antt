@@ -1,5 +1,5 @@
--- Why a token of an object is rejected, and why a packer rejects a call: the causes, and how they
--- are printed.
+-- Why a token of an object is rejected, and why a packer rejects a call: the causes, and their
+-- printed forms.
 use Rattle.std.specs.Prelude.{◌≡◌, ◌⊎◌, ℕ, ◌+◌, ◌<◌, List, [], ◌∷◌, ◌++◌, sum, Some, None, ◌==◌, Bool, false, ◌&&◌, not, nat_lt, min, if◌then◌else◌, is_some, Option, unwrap_or, codes, decimal}
 use Rattle.iim_dataset.specs.Format.Octets.{greatest_size}
 use Rattle.iim_object.specs.Format.Objects.{StatedNumber, number_at, ObjectToken, NumberRead, SubfileBegun, ObjectEnded, Confirmed, Place}
@@ -17,7 +17,7 @@ number_of_size_cause PastSize = 23
 number_of_size_cause Short = 24
 number_of_size_cause ConfirmedWrong = 25
 
--- the numbers of record 7, with that of the token
+-- the numbers of record 7, including that of the token
 abbrev pub stated_with : Place → ℕ → ℕ → List StatedNumber
 stated_with p set n = p.stated ++ record { set = set; number = n } ∷ []
 
@@ -27,13 +27,11 @@ ExceedsBound ps total = (greatest_size < total)
     ⊎ (((announced : ℕ) × (number_at 90 ps ≡ Some announced) × (announced < total))
     ⊎ ((most : ℕ) × (number_at 95 ps ≡ Some most) × (most < total)))
 
--- The condition of a cause, at a token after a place.
--- 20: mode 0 with an announced size, at the later of the two; or mode 1 without one, at a subfile.
--- 21: the announced size is above the maximum, at the later of the two.
--- 22: the subfile is longer than the largest may be.
--- 23: with the subfile the total exceeds the bound.
--- 24: at the end the total is below the announced size.
--- 25: the confirmed size is not the total.
+-- The condition of a cause, for a token after a position. 20: mode 0 with an announced size, at the
+-- later of the two numbers; or mode 1 without an announced size, at a subfile. 21: the announced
+-- size is above the maximum, at the later of the two. 22: the subfile is longer than the largest
+-- allowed one. 23: the total including the subfile exceeds the bound. 24: the object ends, and its
+-- total is below the announced size. 25: the confirmed size is not the total.
 abbrev pub HasSizeCause : SizeCause → Place → ObjectToken → Type 0
 HasSizeCause ModeClash p token =
     ((set : ℕ) × (n : ℕ) × (token ≡ NumberRead set n) × (number_at 10 (stated_with p set n) ≡ Some 0)
@@ -46,36 +44,36 @@ HasSizeCause PastSize p token = (count : ℕ) × (token ≡ SubfileBegun count) 
 HasSizeCause Short p token = (announced : ℕ) × (token ≡ ObjectEnded) × (number_at 90 p.stated ≡ Some announced) × (sum p.lengths < announced)
 HasSizeCause ConfirmedWrong p token = (n : ℕ) × (token ≡ Confirmed n) × (n ≡ sum p.lengths → ⊥)
 
--- ---- The first cause for which a token is rejected, by the numbers so far.
+-- ---- The first cause for which a token is rejected, computed from the numbers so far.
 
--- the number is given, and equals n
+-- the number is present, and equals n
 abbrev pub is_given : Option ℕ → ℕ → Bool
 is_given None n = false
 is_given (Some m) n = m == n
 
--- both are given, and the first is above the second
+-- both numbers are present, and the first is above the second
 abbrev pub is_above : Option ℕ → Option ℕ → Bool
 is_above (Some a) (Some m) = nat_lt m a
 is_above announced maximum = false
 
--- the cause against the numbers of record 7: mode 0 with an announced size; an announced size above
--- the maximum
+-- what is wrong with the numbers of record 7: mode 0 with an announced size; an announced size
+-- above the maximum
 abbrev pub number_cause : Option ℕ → Option ℕ → Option ℕ → Option SizeCause
 number_cause mode announced maximum =
     if is_given mode 0 && is_some announced then Some ModeClash
     else if is_above announced maximum then Some SizeClash
     else None
 
--- the least of the greatest size, the announced size if given, and the maximum if given
+-- the least of the greatest size, the announced size if present, and the maximum if present
 abbrev pub bound : Option ℕ → Option ℕ → ℕ
 bound announced maximum = min (unwrap_or announced greatest_size) (unwrap_or maximum greatest_size)
 
--- with `count` more octets the total is above `most`
+-- the total including `count` more octets is above `most`
 abbrev pub exceeds_bound : ℕ → ℕ → ℕ → Bool
 exceeds_bound most total count = nat_lt most (total + count)
 
--- the cause against a subfile: mode 1 without an announced size; longer than the largest; a total
--- above the bound
+-- what is wrong with a subfile: mode 1 without an announced size; the subfile is longer than the
+-- largest allowed one; the total is above the bound
 abbrev pub subfile_cause : Option ℕ → Option ℕ → Option ℕ → Option ℕ → ℕ → ℕ → Option SizeCause
 subfile_cause mode largest announced maximum total count =
     if is_given mode 1 && not (is_some announced) then Some ModeClash
@@ -83,15 +81,15 @@ subfile_cause mode largest announced maximum total count =
     else if exceeds_bound (bound announced maximum) total count then Some PastSize
     else None
 
--- the cause against the end: a total below the announced size
+-- what is wrong with the end: the total is below the announced size
 abbrev pub end_cause : Option ℕ → ℕ → Option SizeCause
 end_cause announced total = if nat_lt total (unwrap_or announced 0) then Some Short else None
 
--- the cause against the confirmed size: it is not the total
+-- what is wrong with the confirmed size: it is not the total
 abbrev pub confirmed_cause : ℕ → ℕ → Option SizeCause
 confirmed_cause total n = if n == total then None else Some ConfirmedWrong
 
--- the first cause for which a token is rejected after a place
+-- the first cause for which a token is rejected after a position
 abbrev pub cause_at : Place → ObjectToken → Option SizeCause
 cause_at p (NumberRead set n) =
     let ps = p.stated ++ record { set = set; number = n } ∷ [] in number_cause (number_at 10 ps) (number_at 90 ps) (number_at 95 ps)
@@ -107,11 +105,11 @@ name_of_size_cause PastSize = codes "PastSize"
 name_of_size_cause Short = codes "Short"
 name_of_size_cause ConfirmedWrong = codes "ConfirmedWrong"
 
--- a cause's number and name, as they are printed
+-- the printed form of a cause: its number and its name
 abbrev pub text_of_size_cause : SizeCause → List ℕ
 text_of_size_cause cause = decimal (number_of_size_cause cause) ++ (codes " " ++ name_of_size_cause cause)
 
--- the number of a fault: a stop of the sink is 60
+-- the number of a fault; a stop of the sink has the number 60
 abbrev pub number_of_object_fault : ObjectFault → ℕ
 number_of_object_fault (Size cause) = number_of_size_cause cause
 number_of_object_fault (Stopped stop) = 60
@@ -141,10 +139,10 @@ pack_name BadTrailer = codes "BadTrailer"
 pack_name Write = codes "Write"
 pack_name Failed = codes "Failed"
 
--- a cause's number and name, as they are printed
+-- the printed form of a cause: its number and its name
 abbrev pub pack_text : PackCause → List ℕ
 pack_text cause = decimal (pack_number cause) ++ (codes " " ++ pack_name cause)
 
--- A cause, and the number of octets written, as they are printed.
+-- The printed form of a cause and the number of octets written.
 abbrev pub start_text : PackCause → ℕ → List ℕ
 start_text cause written = codes "cause " ++ (pack_text cause ++ (codes ", octets written " ++ decimal written))

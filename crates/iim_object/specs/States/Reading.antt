@@ -1,5 +1,4 @@
--- The states of a reader of objects, how they change, and how a state is restored from what was
--- saved.
+-- The states of a reader of objects, their transitions, and restoring a state from saved numbers.
 use Rattle.std.specs.Prelude.{◌≡◌, ℕ, ◌<◌, ◌==◌, true, if◌then◌else◌, is_some, Option, Some, None, ◌*◌, ◌≤◌, List, [], ◌∷◌, IfSome, ◌⊎◌, Bool, ◌++◌, length, map, sum, take, slice_index, ◌+◌}
 use Rattle.iim_object.specs.Format.Objects.{max_subfiles, IsAllowedByRow, mode_number, AreStatedNumbers, number_at, sizes_at, Sizes, ObjectToken, ObjectEnded, Confirmed, ObjectLanguage, Place, NotEnded, MayFollow, HasModeAndLargest, place_after, tokens_of, ObjectEvent, ObjectOctet, ObjectEnd, StatedNumber}
 use Rattle.iim_object.specs.Format.Causes.{number_cause, subfile_cause, bound, cause_at}
@@ -10,11 +9,11 @@ pub use Rattle.iim_object.specs.declared.reading.{state.State.State, fault.SizeC
 abbrev pub state_start : State
 state_start = record { mode = None; subfile = None; announced = None; maximum = None; subfiles = 0; total = 0 }
 
--- the number, if the dataset is the wanted one
+-- the new number if `set` is `wanted`, otherwise the old one
 abbrev pub set_where : ℕ → ℕ → ℕ → Option ℕ → Option ℕ
 set_where wanted set number old = if set == wanted then Some number else old
 
--- the state with the number of a dataset of record 7
+-- the state after a number of a dataset of record 7
 abbrev pub state_with : State → ℕ → ℕ → State
 state_with s set number = record s {
   mode = set_where 10 set number s.mode;
@@ -23,28 +22,30 @@ state_with s set number = record s {
   maximum = set_where 95 set number s.maximum;
 }
 
--- A number of record 7 may come next: no subfile has come, and its row allows the number.
+-- A number of record 7 may come next: no subfile has occurred, and its row allows the number.
 abbrev pub NumberMayCome : State → ℕ → ℕ → Type 0
 NumberMayCome s set number = (s.subfiles ≡ 0) × IsAllowedByRow (record { set = set; number = number })
 
--- A subfile may come next: mode and largest subfile are given, and one more is not too many.
+-- A subfile may come next: the mode and the largest subfile are present, and the number of subfiles
+-- is below its limit.
 abbrev pub SubfileMayCome : State → Type 0
 SubfileMayCome s = (is_some s.mode ≡ true) × (is_some s.subfile ≡ true) × (s.subfiles < max_subfiles)
 
--- A number of record 7 may come next, and no number clashes with it.
+-- A number of record 7 may come next, and is consistent with the other numbers.
 abbrev pub NumberFits : State → ℕ → ℕ → Type 0
 NumberFits s set number = NumberMayCome s set number
     × (number_cause (state_with s set number).mode (state_with s set number).announced (state_with s set number).maximum ≡ None)
 
--- A subfile of `count` octets may come next, and nothing is wrong with it.
+-- A subfile of `count` octets may come next, and has nothing wrong.
 abbrev pub SubfileFits : State → ℕ → Type 0
 SubfileFits s count = SubfileMayCome s × (subfile_cause s.mode s.subfile s.announced s.maximum s.total count ≡ None)
 
--- A reader that has not failed, seen as its state, accepts a number of dataset 7:`set`.
+-- A reader that has not failed, modelled by its state, accepts a number of dataset 7:`set`.
 abbrev pub AcceptsNumber : Option State → ℕ → ℕ → Type 0
 AcceptsNumber reader set number = (s : State) → reader ≡ Some s → NumberFits s set number
 
--- A reader that has not failed, seen as its state, accepts the head of a subfile of `count` octets.
+-- A reader that has not failed, modelled by its state, accepts the head of a subfile of `count`
+-- octets.
 abbrev pub AcceptsSubfile : Option State → ℕ → Type 0
 AcceptsSubfile reader count = (s : State) → reader ≡ Some s → SubfileFits s count
 
@@ -52,8 +53,8 @@ AcceptsSubfile reader count = (s : State) → reader ≡ Some s → SubfileFits 
 abbrev pub state_numbers : State → List (Option ℕ)
 state_numbers s = s.mode ∷ s.subfile ∷ s.announced ∷ s.maximum ∷ []
 
--- The rows allow the numbers of record 7. A size that is not known is not announced, and the
--- announced size is at most the maximum.
+-- The rows allow the numbers of record 7. An unknown size is not announced, and the announced size
+-- is at most the maximum.
 pub record HasNumbers (s : State) : Type 0 where
   pub mode : IfSome s.mode (λ n. n ≤ 1)
   pub largest : IfSome s.subfile (λ n. (1 ≤ n) × (n ≤ greatest_size))
@@ -62,8 +63,9 @@ pub record HasNumbers (s : State) : Type 0 where
   pub not_known : s.mode ≡ Some 0 → s.announced ≡ None
   pub sizes : (a m : ℕ) → s.announced ≡ Some a → s.maximum ≡ Some m → a ≤ m
 
--- There are subfiles, not too many. Mode and largest subfile are given, and the size is announced
--- exactly if it is known. The total is no more than these subfiles hold, and within the bound.
+-- There are subfiles, no more than are allowed. The mode and the largest subfile are present, and
+-- the size is announced if and only if it is known. The total is at most what these subfiles can
+-- contain, and within the bound.
 pub record HasSubfiles (s : State) : Type 0 where
   pub subfile : ℕ
   pub mode : s.mode ≡ Some (mode_number (is_some s.announced))
@@ -72,15 +74,15 @@ pub record HasSubfiles (s : State) : Type 0 where
   pub held : s.total ≤ s.subfiles * subfile
   pub total : s.total ≤ bound s.announced s.maximum
 
--- Tokens reach the state: numbers of record 7, and then subfiles.
+-- Tokens reach the state: numbers of record 7, possibly followed by subfiles.
 pub record IsState (s : State) : Type 0 where
   pub numbers : HasNumbers s
   pub no_subfile : s.subfiles ≡ 0 → s.total ≡ 0
   pub some_subfiles : 0 < s.subfiles → HasSubfiles s
 
--- ---- The state of a reader at a place, and why it rejects a token.
+-- ---- The state of a reader at a position, and why it rejects a token.
 
--- The state has the numbers of the place, the number of subfiles and the total of their octets.
+-- The state has the numbers of the position, its number of subfiles and the total of their octets.
 pub record IsStateAt (s : State) (p : Place) : Type 0 where
   pub mode : s.mode ≡ number_at 10 p.stated
   pub largest : s.subfile ≡ number_at 20 p.stated
@@ -89,8 +91,8 @@ pub record IsStateAt (s : State) (p : Place) : Type 0 where
   pub subfiles : s.subfiles ≡ length p.lengths
   pub total : s.total ≡ sum p.lengths
 
--- The reader, seen as its state, is in the state after the tokens of the place, which the record
--- layer accepts: they are a viable prefix.
+-- The reader, modelled by its state, has consumed the tokens of the position. The record layer
+-- accepts these tokens, and they are a viable prefix.
 pub record ObjectReaderStandsAt (reader : Option State) (p : Place) : Type 0 where
   pub state : State
   pub is_state : reader ≡ Some state
@@ -100,43 +102,44 @@ pub record ObjectReaderStandsAt (reader : Option State) (p : Place) : Type 0 whe
   pub duties : 0 < length p.lengths → HasModeAndLargest p.stated
   pub alive : IsViablePrefix ObjectLanguage (tokens_of p)
 
--- A token that the record layer accepts takes the reader from each place to the place after it.
+-- A token that the record layer accepts moves the reader from each position to the position after
+-- it.
 abbrev pub TokenAdvancesObject : Option State → ObjectToken → Option State → Type 0
 TokenAdvancesObject old token new = (p : Place) → ObjectReaderStandsAt old p → MayFollow p token → ObjectReaderStandsAt new (place_after p token)
 
--- At each place of the reader where the record layer accepts the token, the tokens with it are no
--- longer a viable prefix, and this is the first cause.
+-- At each position of the reader at which the record layer accepts the token, the tokens including
+-- it are no longer a viable prefix, and this is the first cause.
 abbrev pub RejectsObjectToken : Option State → ObjectToken → SizeCause → Type 0
 RejectsObjectToken old token cause = (p : Place) → ObjectReaderStandsAt old p → MayFollow p token
     → EndsViablePrefix ObjectLanguage (tokens_of p) token × (cause_at p token ≡ Some cause)
 
--- At each place of the reader, the tokens with the token are a viable prefix.
+-- At each position of the reader, the tokens including this one are a viable prefix.
 abbrev pub IsViableWithToken : Option State → ObjectToken → Type 0
 IsViableWithToken old token = (p : Place) → ObjectReaderStandsAt old p → MayFollow p token → IsViablePrefix ObjectLanguage (tokens_of p ++ token ∷ [])
 
--- At each place of the reader, the end of the object may come, and then this number of 9:10.
+-- At each position of the reader, the object may end, with this number of 9:10.
 pub record ObjectMayEndAs (old : Option State) (number : ℕ) (new : Option State) : Type 0 where
   pub ended : Option State
   pub at_end : TokenAdvancesObject old ObjectEnded ended
   pub at_number : TokenAdvancesObject ended (Confirmed number) new
 
--- With the end the tokens are no longer a viable prefix; or with the end they are, and with the
--- number they are not.
+-- The tokens followed by the end are not a viable prefix; or they are, but followed by the end and
+-- the number they are not.
 abbrev pub RejectsObjectEnd : Option State → ℕ → Type 0
 RejectsObjectEnd old number = ((cause : SizeCause) × RejectsObjectToken old ObjectEnded cause)
     ⊎ ((ended : Option State) × TokenAdvancesObject old ObjectEnded ended × ((cause : SizeCause) × RejectsObjectToken ended (Confirmed number) cause))
 
--- A value is rejected for its cause; no sink is called.
+-- A value is rejected for its cause, and no sink is called.
 abbrev pub RejectsObjectValue : Option State → ObjectToken → ObjectFault → Type 0
 RejectsObjectValue old token (Size cause) = RejectsObjectToken old token cause
 RejectsObjectValue old token (Stopped stop) = ⊥
 
--- what the sink receives at a head: the end of the object at record 9
+-- the events that the sink receives at a head: the end of the object in record 9, otherwise none
 abbrev pub events_at : ℕ → List ObjectEvent
 events_at rec = if rec == 9 then ObjectEnd ∷ [] else []
 
 -- A head is rejected for its cause, and the sink receives nothing; or the sink rejected the end of
--- the object, and the `taken` of its stop is 0.
+-- the object, with a stop whose `taken` is 0.
 abbrev pub RejectsObjectHead : {S : Type 0} → (S → List ObjectEvent → S → Type 0) → (S → List ObjectEvent → ObjectEvent → S → Type 0) → Option State → ObjectToken → S → S → ObjectFault → Type 0
 RejectsObjectHead goes stops old token sink now (Size cause) = RejectsObjectToken old token cause × goes sink [] now
 RejectsObjectHead goes stops old token sink now (Stopped stop) = (token ≡ ObjectEnded) × (stop.taken ≡ 0) × IsViableWithToken old token × stops sink [] ObjectEnd now
@@ -147,17 +150,17 @@ RejectsObjectOctet stops run sink now (Size cause) = ⊥
 RejectsObjectOctet stops run sink now (Stopped stop) =
     (stop.taken < length run) × stops sink (map ObjectOctet (take stop.taken run)) (ObjectOctet (slice_index run stop.taken)) now
 
--- The sizes are those of the place.
+-- The sizes are those of the position.
 abbrev pub IsSizes : Place → Sizes → Type 0
 IsSizes p s = (known : Bool) × (subfile : ℕ) × (number_at 10 p.stated ≡ Some (mode_number known)) × (number_at 20 p.stated ≡ Some subfile)
     × (s ≡ sizes_at known subfile p.stated p.lengths)
 
--- the numbers of 7:10, 7:20, 7:90 and 7:95, each if it is stated
+-- the numbers of 7:10, 7:20, 7:90 and 7:95, of which some may be missing
 abbrev pub stated_numbers : List StatedNumber → List (Option ℕ)
 stated_numbers ps = number_at 10 ps ∷ number_at 20 ps ∷ number_at 90 ps ∷ number_at 95 ps ∷ []
 
--- Of the last subfile, which counts `count` octets, `left` octets remain, at least one. All others
--- were received.
+-- The last subfile has a count of `count` octets, of which `left` remain, one or more. All octets
+-- of the other subfiles were received.
 pub record LastIsPartial (lengths : List ℕ) (taken count left : ℕ) : Type 0 where
   pub finished : List ℕ
   pub lengths_are : lengths ≡ finished ++ count ∷ []
@@ -165,13 +168,13 @@ pub record LastIsPartial (lengths : List ℕ) (taken count left : ℕ) : Type 0 
   pub fits : left ≤ count
   pub octets : sum lengths ≡ taken + left
 
--- Of the subfiles `taken` octets were received: all of them, or all but those that remain of the
--- one in progress.
+-- `taken` octets of the subfiles were received: all of them, or all but those that remain of the
+-- subfile in progress.
 abbrev pub TakenOctetsAre : List ℕ → ℕ → Option (ℕ × ℕ) → Type 0
 TakenOctetsAre lengths taken None = sum lengths ≡ taken
 TakenOctetsAre lengths taken (Some begun) = LastIsPartial lengths taken begun.0 begun.1
 
--- The place has these numbers of record 7, `heads` heads of subfiles, and `taken` octets that were
+-- The position has these numbers of record 7, `heads` heads of subfiles, and `taken` octets
 -- received. The object has not ended.
 pub record PlaceHasNumbers (numbers : List (Option ℕ)) (taken : ℕ) (begun : Option (ℕ × ℕ)) (heads : ℕ) (p : Place) : Type 0 where
   pub numbers_are : numbers ≡ stated_numbers p.stated
@@ -179,7 +182,8 @@ pub record PlaceHasNumbers (numbers : List (Option ℕ)) (taken : ℕ) (begun : 
   pub subfiles : heads ≡ length p.lengths
   pub not_ended : p.ending ≡ NotEnded
 
--- Tokens that the record layer and the limits accept reach the place, and are a viable prefix.
+-- The position is reached by tokens that the record layer and the limits accept and that are a
+-- viable prefix.
 pub record IsPossible (p : Place) : Type 0 where
   pub stated : AreStatedNumbers p.stated
   pub subfiles : p.lengths ≡ [] → p.ending ≡ NotEnded

@@ -9,12 +9,12 @@ use std::error::Error;
 use std::fmt;
 use std::fmt::{Display, Formatter};
 
-/// What is wrong with the sizes of an object, each with its number. If several causes hold, the one
-/// with the lowest number is reported.
+/// What is wrong with the sizes of an object. Each cause has a number. If several causes hold, the
+/// one with the lowest number is reported.
 #[derive(Clone, Copy, Debug, PartialEq, Eq)]
 pub enum SizeCause {
-    /// The size is not known, and 7:90 announces one; or it is known, and at the first subfile none
-    /// has been announced.
+    /// The mode states that the size is unknown, but 7:90 announces a size; or the mode states that
+    /// the size is known, but no size has been announced before the first subfile.
     ModeClash = 20,
     /// The announced size, 7:90, is above the maximum, 7:95.
     SizeClash = 21,
@@ -67,18 +67,18 @@ impl Error for SizeCause {}
 /// Why a reader of objects rejected a token.
 #[derive(Clone, Copy, Debug, PartialEq, Eq)]
 pub enum ObjectFault {
-    /// The sizes are wrong.
+    /// The sizes are inconsistent.
     Size {
         /// What is wrong with them.
         cause: SizeCause,
     },
-    /// The sink stopped, after the octets of the slice that it accepted; or, if it accepted none,
-    /// perhaps at the end of the object.
+    /// The sink stopped. The stop has the number of octets of the slice that the sink accepted. If
+    /// this is 0, the sink may have stopped at the end of the object.
     Stopped(Stop),
 }
 
 impl ObjectFault {
-    /// Returns the number, as it is printed. A stop of the sink is 60.
+    /// Returns the number of the cause, as it is printed. A stop of the sink has the number 60.
     pub fn number(self) -> u8
         ensures { result ≡ number_of_object_fault self }
     {
@@ -88,7 +88,7 @@ impl ObjectFault {
         }
     }
 
-    /// Returns the name, as it is printed. A stop of the sink is `Sink`.
+    /// Returns the name of the cause, as it is printed. A stop of the sink has the name `Sink`.
     pub fn name(self) -> &'static str
         ensures { result.now ≡ name_of_object_fault self }
     {

@@ -19,17 +19,18 @@ use crate::size::Sizes;
 use iim_tables::records::POST_OBJECT;
 use std::marker::Model;
 
-/// A reader of an object: the numbers of record 7, the heads of its subfiles, its octets, its end,
-/// and the size that record 9 confirms. It stores a few numbers, and no octet.
+/// A reader of an object. It accepts the numbers of record 7, the heads of subfiles, the octets of
+/// the object, its end, and the size that record 9 confirms. It stores a few numbers, and no octets
+/// of the object.
 ///
-/// Its contracts hold for tokens that the record layer and the limits accept. From each state that
-/// the reader may be in, a token reaches the next state; or with it the tokens are no longer a
-/// viable prefix, and the fault is the first cause. The lemma `tokens_extend_the_place` relates these states
-/// to datasets. Contracts see the reader as the numbers that it stores, and as `None` after an
-/// error. Some tokens reach each state that it may have (`object_states_are_reached`).
+/// Its contracts hold for tokens that the record layer and the limits accept. In each state, a
+/// token either reaches the next state, or makes the tokens no longer a viable prefix; then the
+/// fault is the first cause. The lemma `tokens_extend_the_place` relates these states to datasets.
+/// The model of the reader in contracts is the numbers that it stores, or `None` after an error.
+/// Every state that it can have is reached by some tokens (`object_states_are_reached`).
 #[derive(Debug, Drop)]
 pub struct ObjectReader {
-    /// The state; `None` after an error.
+    /// The state, or `None` after an error.
     state: Option<State>,
 }
 
@@ -52,9 +53,9 @@ impl ObjectReader {
     }
 
     /// Creates a reader in the state after these numbers of 7:10, 7:20, 7:90 and 7:95, then `heads`
-    /// heads of subfiles, and `taken` octets of the object. `begun` is the count of the subfile in
+    /// heads of subfiles, and `taken` octets of the object. `begun` has the count of the subfile in
     /// progress, and the number of its octets that remain. The object has not ended. Returns `None`
-    /// exactly if no tokens reach that state.
+    /// if and only if no tokens reach that state.
     pub fn at(
         numbers: [Option<u64>; 4],
         taken: u64,
@@ -71,14 +72,15 @@ impl ObjectReader {
         Some(ObjectReader { state })
     }
 
-    /// Checks whether a call returned an error.
+    /// Returns whether a call has returned an error.
     pub fn is_failed(&self) -> bool
         ensures { result ≡ is_none self.now }
     {
         self.state.is_none()
     }
 
-    /// Takes the state out. The reader has failed until a state is stored again.
+    /// Takes the state out of the reader. The reader counts as failed until a state is stored
+    /// again.
     fn take_state(&mut self) -> State
         requires { IsSome self.old }
         ensures seen { self.old ≡ Some result }
@@ -88,7 +90,7 @@ impl ObjectReader {
         self.state.take().unwrap()
     }
 
-    /// Accepts the number of a complete value: of dataset 7:`set`, or of 9:10, the confirmed size.
+    /// Accepts the number of a complete value of dataset 7:`set`, or of 9:10, the confirmed size.
     /// The reader must not have failed.
     ///
     /// **Errors:** the cause for which the tokens are no longer a viable prefix. The reader has
@@ -111,7 +113,7 @@ impl ObjectReader {
         Ok(())
     }
 
-    /// Checks whether a number of dataset 7:`set` may come next, and the tokens with it are a
+    /// Checks whether a number of dataset 7:`set` may come next, so that the tokens are still a
     /// viable prefix. The reader must not have failed.
     #[inline(always)]
     pub fn accepts_number(&self, set: u8, number: u64) -> bool
@@ -126,7 +128,7 @@ impl ObjectReader {
         }
     }
 
-    /// Accepts a number of dataset 7:`set` for which `accepts_number` returns true.
+    /// Accepts a number of dataset 7:`set`. `accepts_number` must have returned `true` for it.
     #[inline(always)]
     pub fn put_number(&mut self, set: u8, number: u64)
         requires takes_calls { IsSome self.old }
@@ -140,8 +142,9 @@ impl ObjectReader {
         }
     }
 
-    /// Checks whether the head of a subfile of `count` octets may come next, is not one too many,
-    /// and the tokens with it are a viable prefix. The reader must not have failed.
+    /// Checks whether the head of a subfile of `count` octets may come next, so that the tokens are
+    /// still a viable prefix and the number of subfiles is within its limit. The reader must not
+    /// have failed.
     #[inline(always)]
     pub fn accepts_subfile(&self, count: u64) -> bool
         requires { IsSome self.now }
@@ -156,7 +159,8 @@ impl ObjectReader {
         }
     }
 
-    /// Accepts the head of a subfile of `count` octets for which `accepts_subfile` returns true.
+    /// Accepts the head of a subfile of `count` octets. `accepts_subfile` must have returned `true`
+    /// for it.
     #[inline(always)]
     pub fn put_subfile(&mut self, count: u64)
         requires takes_calls { IsSome self.old }
@@ -170,9 +174,8 @@ impl ObjectReader {
         }
     }
 
-    /// Checks whether the object may end with this number of 9:10, the confirmed size: whether the
-    /// tokens with both are a viable prefix. Both leave the state of the reader as it is. The
-    /// reader must not have failed.
+    /// Checks whether the object may end here with this number of 9:10, the confirmed size. The
+    /// reader is unchanged. It must not have failed.
     #[inline(always)]
     pub fn may_end(&self, number: u64) -> bool
         requires { IsSome self.now }
@@ -185,12 +188,13 @@ impl ObjectReader {
         }
     }
 
-    /// Accepts a complete head: of a subfile, 8:10, with `count` octets; or of 9:10, which ends the
-    /// object and notifies the sink. The number `_set` is not needed, since records 8 and 9 have
-    /// one dataset each. The reader must not have failed, and the sink must accept calls.
+    /// Accepts a complete head: that of a subfile, 8:10, with `count` octets, or that of 9:10,
+    /// which ends the object and notifies the sink. The number `_set` is not needed, since records
+    /// 8 and 9 have one dataset each. The reader must not have failed, and the sink must accept
+    /// calls.
     ///
-    /// **Errors:** the cause for which the tokens are no longer a viable prefix, or the sink
-    /// stopped. The reader has then failed.
+    /// **Errors:** the cause for which the tokens are no longer a viable prefix, or the stop of the
+    /// sink. The reader has then failed.
     #[inline(always)]
     pub fn head<S: ObjectSink>(
         &mut self,
@@ -245,11 +249,11 @@ impl ObjectReader {
         Ok(())
     }
 
-    /// Passes octets of the object to the sink: those after the heads of subfiles, in any split.
-    /// The reader must not have failed, and the sink must accept calls, which it does afterwards
-    /// too.
+    /// Passes octets of the object to the sink: those after the heads of subfiles, split in any
+    /// way. The reader must not have failed. The sink must accept calls, and still does so
+    /// afterwards.
     ///
-    /// **Errors:** the sink stopped. The reader has then failed.
+    /// **Errors:** the stop of the sink. The reader has then failed.
     #[inline(always)]
     pub fn run<S: ObjectSink>(&mut self, run: &[u8], sink: &mut S) -> Result<(), ObjectFault>
         requires takes_calls { IsSome self.old }
@@ -286,8 +290,8 @@ impl ObjectReader {
         self.state.unwrap().subfiles
     }
 
-    /// Returns the numbers of 7:10, 7:20, 7:90 and 7:95, each if it was received. The reader must
-    /// not have failed.
+    /// Returns the numbers of 7:10, 7:20, 7:90 and 7:95. A number is `None` if it was not received.
+    /// The reader must not have failed.
     pub fn numbers(&self) -> [Option<u64>; 4]
         requires { IsSome self.now }
         ensures place { (p : Place) → ObjectReaderStandsAt self.now p → result ≡ stated_numbers p.stated }
@@ -296,8 +300,8 @@ impl ObjectReader {
         self.state.unwrap().numbers()
     }
 
-    /// Returns the sizes that records 7 to 9 state, once 9:10 has confirmed the size. The reader
-    /// must not have failed.
+    /// Returns the sizes that records 7 to 9 state. 9:10 must have confirmed the size, and the
+    /// reader must not have failed.
     pub fn sizes(&self) -> Sizes
         requires { IsSome self.now }
         ensures place { (p : Place) (n : ℕ) → ObjectReaderStandsAt self.now p → p.ending ≡ ConfirmedAs n

@@ -1,4 +1,4 @@
-//! What records 7 to 9 have stated of an object so far.
+//! What records 7 to 9 have stated about an object so far.
 
 ghost use Rattle.std.specs.Prelude.{◌≡◌, ◌↔◌, ◌+◌, ◌^◌, ◌<◌, ◌≤◌, IsTrue, IfSome, is_some};
 ghost use Rattle.iim_dataset.specs.Format.Octets.{greatest_u64};
@@ -17,7 +17,7 @@ const UNKNOWN: u64 = 0;
 /// The size mode of an object whose size is known at the start.
 pub(crate) const KNOWN: u64 = 1;
 
-/// The numbers of record 7, the number of subfiles, and the total of their counts.
+/// The numbers of record 7, the number of subfiles, and the total of the counts of the subfiles.
 #[derive(Clone, Copy, Debug, PartialEq, Eq)]
 pub(crate) struct State {
     /// 7:10 Size Mode.
@@ -30,11 +30,11 @@ pub(crate) struct State {
     pub maximum: Option<u64>,
     /// The number of subfiles so far.
     pub subfiles: u64,
-    /// The total of their counts, in octets.
+    /// The total of the counts of these subfiles, in octets.
     pub total: u64,
 }
 
-/// Checks whether a number is given and equals `wanted`.
+/// Checks whether a number is present and equals `wanted`.
 #[inline(always)]
 pub(crate) fn is_given(number: Option<u64>, wanted: u64) -> bool
     ensures { result ≡ is_given number wanted }
@@ -45,7 +45,7 @@ pub(crate) fn is_given(number: Option<u64>, wanted: u64) -> bool
     }
 }
 
-/// Checks whether a number, if it is given, is within these bounds.
+/// Checks whether a number is missing or within these bounds.
 fn is_within(number: Option<u64>, least: u64, most: u64) -> bool
     ensures { IsTrue result ↔ IfSome number (λ n. (least ≤ n) × (n ≤ most)) }
 {
@@ -65,7 +65,8 @@ fn is_above(announced: Option<u64>, maximum: Option<u64>) -> bool
     }
 }
 
-/// Returns the greatest number of octets that the object may have.
+/// Returns the greatest number of octets that the object may have, given its announced size and its
+/// maximum.
 #[inline(always)]
 fn bound(announced: Option<u64>, maximum: Option<u64>) -> u64
     ensures { result ≡ bound announced maximum }
@@ -111,7 +112,7 @@ impl State {
         [self.mode, self.subfile, self.announced, self.maximum]
     }
 
-    /// Checks whether the numbers of record 7 may occur together.
+    /// Checks whether these numbers of record 7 may occur together.
     fn has_numbers(&self) -> bool
         ensures { IsTrue result ↔ HasNumbers self.now }
     {
@@ -122,8 +123,8 @@ impl State {
             && self.number_cause().is_none()
     }
 
-    /// Checks whether the mode is given, and the size is announced exactly if the mode states that
-    /// it is known.
+    /// Checks whether the mode is present, and 7:90 is present if and only if the mode states that
+    /// the size is known.
     fn is_announced_by_mode(&self) -> bool
         ensures { result ≡ is_given self.now.mode (mode_number (is_some self.now.announced)) }
     {
@@ -133,7 +134,7 @@ impl State {
         }
     }
 
-    /// Checks whether `subfiles` subfiles may have come, and have `total` octets together.
+    /// Checks whether the object may have this number of subfiles with this total of octets.
     fn has_subfiles(&self) -> bool
         requires { HasNumbers self.now }
         ensures { IsTrue result ↔ HasSubfiles self.now }
@@ -207,8 +208,8 @@ impl State {
         new
     }
 
-    /// Checks whether a number of record 7 may come next: no subfile has come, and its row allows
-    /// the number.
+    /// Checks whether a number of record 7 may come next: no subfile has occurred yet, and the row
+    /// of its dataset allows the number.
     #[inline(always)]
     pub(crate) fn number_may_follow(&self, set: u8, number: u64) -> bool
         ensures { IsTrue result ↔ NumberMayCome self.now set number }
@@ -222,8 +223,8 @@ impl State {
         self.subfiles == 0 && in_row
     }
 
-    /// Checks whether a subfile may come next: mode and largest subfile are given, and one more is
-    /// not too many.
+    /// Checks whether a subfile may come next: the mode and the size of the largest subfile are
+    /// present, and the number of subfiles is below its limit.
     #[inline(always)]
     pub(crate) fn subfile_may_follow(&self) -> bool
         ensures { IsTrue result ↔ SubfileMayCome self.now }
@@ -231,7 +232,7 @@ impl State {
         self.mode.is_some() && self.subfile.is_some() && self.subfiles < MAX_SUBFILES
     }
 
-    /// Returns what is wrong with the numbers of record 7.
+    /// Returns what is wrong with the numbers of record 7, or `None`.
     #[inline(always)]
     pub(crate) fn number_cause(&self) -> Option<SizeCause>
         ensures { result ≡ number_cause self.now.mode self.now.announced self.now.maximum }
@@ -245,7 +246,7 @@ impl State {
         None
     }
 
-    /// Checks whether the object has more octets than it may, with `count` more.
+    /// Checks whether the object exceeds its bound if `count` more octets are added.
     #[inline(always)]
     fn exceeds_bound(&self, count: u64) -> bool
         ensures { result ≡ exceeds_bound (bound self.now.announced self.now.maximum) self.now.total count }
@@ -257,7 +258,7 @@ impl State {
         }
     }
 
-    /// Returns what is wrong with a subfile of `count` octets.
+    /// Returns what is wrong with a subfile of `count` octets, or `None`.
     #[inline(always)]
     pub(crate) fn subfile_cause(&self, count: u64) -> Option<SizeCause>
         ensures { result ≡ subfile_cause self.now.mode self.now.subfile self.now.announced self.now.maximum
@@ -275,7 +276,7 @@ impl State {
         None
     }
 
-    /// Returns what is wrong with the end of the object.
+    /// Returns what is wrong if the object ends here, or `None`.
     #[inline(always)]
     pub(crate) fn end_cause(&self) -> Option<SizeCause>
         ensures { result ≡ end_cause self.now.announced self.now.total }
@@ -286,7 +287,7 @@ impl State {
         None
     }
 
-    /// Returns what is wrong with the confirmed size.
+    /// Returns what is wrong with the confirmed size, or `None`.
     #[inline(always)]
     pub(crate) fn confirmed_cause(&self, number: u64) -> Option<SizeCause>
         ensures { result ≡ confirmed_cause self.now.total number }
@@ -297,7 +298,7 @@ impl State {
         Some(SizeCause::ConfirmedWrong)
     }
 
-    /// Checks whether a number of record 7 may come next, and no number clashes with it.
+    /// Checks whether a number of record 7 may come next, and is consistent with the other numbers.
     #[inline(always)]
     pub(crate) fn accepts_number(&self, set: u8, number: u64) -> bool
         requires { HasNumbers self.now }
@@ -316,7 +317,7 @@ impl State {
         }
     }
 
-    /// Checks whether a subfile of `count` octets may come next, and nothing is wrong with it.
+    /// Checks whether a subfile of `count` octets may come next, and has nothing wrong.
     #[inline(always)]
     pub(crate) fn accepts_subfile(&self, count: u64) -> bool
         ensures { IsTrue result ↔ SubfileFits self.now count }

@@ -1,4 +1,4 @@
-//! The state after each token.
+//! Computes the state after each token.
 
 ghost use Rattle.std.specs.Prelude.{Some, IfOk, IfErr, OnOk};
 ghost use Rattle.iim_object.specs.Format.Objects.{NumberRead, SubfileBegun, ObjectEnded, Confirmed};
@@ -7,7 +7,8 @@ ghost use Rattle.iim_object.specs.States.Reading.{TokenAdvancesObject, IsViableW
 use crate::reading::fault::SizeCause;
 use crate::reading::state::State;
 
-/// Returns the state after a number of record 7. If none may come next, it is the same state.
+/// Returns the state after a number of record 7. If no such number may come next, returns the same
+/// state.
 #[inline(always)]
 pub(crate) fn accept_number(state: State, set: u8, number: u64) -> Result<State, SizeCause>
     requires { IsState state }
@@ -25,8 +26,8 @@ pub(crate) fn accept_number(state: State, set: u8, number: u64) -> Result<State,
     }
 }
 
-/// Returns the state after the head of a subfile of `count` octets. If none may come next, it is
-/// the same state.
+/// Returns the state after the head of a subfile of `count` octets. If no subfile may come next,
+/// returns the same state.
 #[inline(always)]
 pub(crate) fn accept_subfile(state: State, count: u64) -> Result<State, SizeCause>
     requires { IsState state }
@@ -43,7 +44,7 @@ pub(crate) fn accept_subfile(state: State, count: u64) -> Result<State, SizeCaus
     }
 }
 
-/// Returns the state after the end of the object.
+/// Returns the state after the end of the object, or what is wrong with that end.
 pub(crate) fn accept_object_end(state: State) -> Result<State, SizeCause>
     requires { IsState state }
     ensures is_state { IfOk result IsState }
@@ -57,7 +58,7 @@ pub(crate) fn accept_object_end(state: State) -> Result<State, SizeCause>
     }
 }
 
-/// Returns the state after the confirmed size.
+/// Returns the state after the confirmed size, or what is wrong with that size.
 #[inline(always)]
 pub(crate) fn accept_confirmed_size(state: State, number: u64) -> Result<State, SizeCause>
     requires { IsState state }

@@ -8,7 +8,7 @@ use iim_dataset::internals::ReservedOctets;
 use std::alloc::{AllocError, Global};
 use std::marker::Model;
 
-/// A buffer for the octets of one subfile of a plan. Contracts see it as the plan.
+/// A buffer for the octets of one subfile of a plan. Its model in contracts is the plan.
 #[derive(Drop)]
 pub struct SubfileBuffer {
     pub(crate) plan: Plan,
@@ -29,8 +29,8 @@ impl Model for SubfileBuffer {
 }
 
 impl SubfileBuffer {
-    /// Allocates a buffer with capacity for a subfile or for the bound of the plan, whichever is
-    /// less, in octets.
+    /// Allocates a buffer with capacity for a full subfile, or for the bound of the plan if that is
+    /// less.
     ///
     /// **Errors:** the allocation fails.
     pub fn reserve(alloc: Global, plan: Plan) -> Result<SubfileBuffer, AllocError>
@@ -41,7 +41,8 @@ impl SubfileBuffer {
         Ok(SubfileBuffer { plan, octets })
     }
 
-    /// Returns the capacity in octets: a subfile or the bound of the plan, whichever is less.
+    /// Returns the capacity in octets: that of a full subfile, or the bound of the plan if that is
+    /// less.
     pub fn room(&self) -> usize
         ensures { result ≡ plan_capacity self.now }
     {

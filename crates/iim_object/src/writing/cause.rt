@@ -7,21 +7,22 @@ use std::error::Error;
 use std::fmt;
 use std::fmt::{Debug, Display, Formatter};
 
-/// Why a packer rejects a call, each with its number.
+/// Why a packer rejects a call. Each cause has a number.
 #[derive(Clone, Copy, Debug, PartialEq, Eq)]
 pub enum PackCause {
     /// The allocation failed.
     OutOfMemory = 70,
-    /// The object so far, these octets and the shortest possible ending exceed the bound of the
-    /// plan.
+    /// The object so far, together with these octets and the shortest possible ending, would exceed
+    /// the bound of the plan.
     PastAnnounced = 80,
-    /// The object would be below the known size.
+    /// The object would be shorter than the known size.
     ShortOfAnnounced = 81,
-    /// An octet that a line may not have.
+    /// An octet is not allowed in a line.
     BadTextOctet = 82,
-    /// Octets that are not a valid trailer.
+    /// The octets are not a valid trailer.
     BadTrailer = 83,
-    /// The writer failed, accepted nothing, or was interrupted a million times in a row.
+    /// The writer failed, a write accepted no octet, or the writer was interrupted a million times
+    /// in a row.
     Write = 84,
     /// An earlier call returned `Write`.
     Failed = 85,
@@ -64,12 +65,13 @@ impl Display for PackCause {
 
 impl Error for PackCause {}
 
-/// The writing of an object or envelope did not start. The error returns the writer.
+/// An error at the start of an object or envelope. It has the writer, so that the caller gets the
+/// writer back.
 #[derive(Debug, Drop)]
 pub struct StartFault<W> {
-    /// Why it did not start.
+    /// Why the writing did not start.
     pub cause: PackCause,
-    /// The writer, in its present state.
+    /// The writer, in its current state.
     pub writer: W,
     /// The number of octets that were written.
     pub written: u64,

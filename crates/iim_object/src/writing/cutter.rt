@@ -1,4 +1,4 @@
-//! Divides an object into subfiles as octets arrive.
+//! Divides an object into subfiles as its octets are received.
 
 ghost use Rattle.std.specs.Prelude.{◌≡◌, ◌+◌, ◌-◌, ◌^◌, ◌<◌, ◌≤◌, [], ◌++◌, length, take, true, false, IfOk, IfErr, OnOk, OnErr, IfSome, IfNone, Err};
 ghost use Rattle.iim_dataset.specs.Format.Datasets.{canonical_dataset};
@@ -16,7 +16,7 @@ use iim_dataset::device_laws::writes_join;
 use iim_dataset::internals::ReservedOctets;
 use iim_tables::records::{CONFIRMED_SIZE, OBJECT, POST_OBJECT, SUBFILE};
 
-/// The octets of an object that are not yet written, and the number of those that are.
+/// The octets of an object that are not written yet, and the number of those that are written.
 #[derive(Drop)]
 pub(crate) struct Cutter<W> {
     /// How the object is divided.
@@ -32,7 +32,7 @@ pub(crate) struct Cutter<W> {
 }
 
 impl<W: Target> Cutter<W> {
-    /// Returns the number of octets of the object that were received.
+    /// Returns the number of octets of the object so far, written or buffered.
     pub(crate) fn total(&self) -> u64
         requires { CutterHasCapacity self.now }
         ensures { result ≡ total_of (writing_of self.now) }
@@ -73,7 +73,7 @@ impl<W: Target> Cutter<W> {
         }
     }
 
-    /// Buffers octets from the start of the slice, as many as the subfile has capacity for, and
+    /// Buffers octets from the start of the slice, as many as fit into the current subfile, and
     /// returns their number.
     fn fill(&mut self, rest: &[u8]) -> usize
         requires room { CutterHasCapacity self.old }
@@ -90,7 +90,7 @@ impl<W: Target> Cutter<W> {
         taken
     }
 
-    /// Consumes octets from the start of the slice, at least one, and returns their number.
+    /// Consumes one or more octets from the start of the slice, and returns their number.
     fn consume_prefix(&mut self, rest: &[u8]) -> Result<usize, PackCause>
         requires { CutterMayAccept self.old rest.now }
         ensures room { CutterHasCapacity self.new }
@@ -111,7 +111,7 @@ impl<W: Target> Cutter<W> {
         Ok(self.fill(rest))
     }
 
-    /// Returns why `octets` more octets are rejected.
+    /// Returns why `octets` more octets are rejected, or `None`.
     pub(crate) fn write_cause(&self, octets: usize) -> Option<PackCause>
         requires room { CutterHasCapacity self.now }
         requires small { octets < 2 ^ 63 }
@@ -126,7 +126,7 @@ impl<W: Target> Cutter<W> {
         None
     }
 
-    /// Returns why the object may not end.
+    /// Returns why the object may not end, or `None`.
     pub(crate) fn finish_cause(&self) -> Option<PackCause>
         requires { CutterHasCapacity self.now }
         ensures { result ≡ finish_cause (writing_of self.now) }

@@ -1,4 +1,4 @@
-//! A target that counts the octets written, and datasets written to it.
+//! A target that counts the octets written to it, and writing datasets to this target.
 
 ghost use Rattle.std.specs.Prelude.{◌≡◌, ◌+◌, ◌^◌, ◌<◌, ◌≤◌, length, IfErr, OnOk, OnErr};
 ghost use Rattle.iim_dataset.specs.Format.Datasets.{canonical_dataset, canonical_stream, count_octets, tag_octets};
@@ -60,7 +60,7 @@ impl<W: Target> Output<W> {
         self.put_dataset(rec, set, octets.as_slice())
     }
 
-    /// Writes 7:90 for a known size, 7:95 for a maximum, and nothing otherwise.
+    /// Writes 7:90 if the size is known, 7:95 if there is a maximum, and nothing otherwise.
     fn put_size_number(&mut self, size: Size) -> Result<(), PackCause>
         requires fits { limit_of size ≤ greatest_size }
         requires room { self.old.written + tag_octets + count_octets < 2 ^ 64 }

@@ -16,13 +16,13 @@ use iim_dataset::Target;
 use iim_dataset::device_laws::writes_join;
 use std::marker::Model;
 
-/// Writes an object by a plan: record 7, subfiles and record 9. It stores nothing but its buffer,
-/// which holds at most a subfile or the bound of the plan, whichever is less. No call allocates:
-/// [`SubfileBuffer::reserve`] has allocated the buffer.
+/// Writes an object according to a plan: record 7, subfiles and record 9. It stores only its
+/// buffer, whose length is a full subfile or the bound of the plan, whichever is less. No call
+/// allocates: [`SubfileBuffer::reserve`] has allocated the buffer.
 ///
-/// Its contracts hold for every object so far. Contracts see it as its plan, the buffered octets,
-/// its capacity, the number of octets of the object that were written, the number of all octets
-/// that were written, whether a write failed, and its target.
+/// Its contracts hold for every object so far. Its model in contracts is its plan, the buffered
+/// octets, its capacity, the number of octets of the object that were written, the number of all
+/// octets that were written, whether a write failed, and its target.
 #[derive(Drop)]
 pub struct SubfileWriter<W> {
     cutter: Cutter<W>,
@@ -40,10 +40,10 @@ impl<W> Model for SubfileWriter<W> {
 }
 
 impl<W: Target> SubfileWriter<W> {
-    /// Writes record 7 of the buffer's plan. The object is empty so far.
+    /// Writes record 7 of the buffer's plan. The object is then empty.
     ///
-    /// **Errors:** the target failed. The fault returns the target, and the number of octets of
-    /// record 7 that were written.
+    /// **Errors:** the target failed. The error has the target, and the number of octets of record
+    /// 7 that were written.
     pub fn start(buffer: SubfileBuffer, writer: W) -> Result<SubfileWriter<W>, StartFault<W>>
         ensures plan { IfOk result (λ w. w.plan ≡ buffer) }
         ensures room { IfOk result (λ w. w.room ≡ plan_capacity buffer) }
@@ -81,13 +81,14 @@ impl<W: Target> SubfileWriter<W> {
         }
     }
 
-    /// Writes octets of the object: it buffers them, and writes each subfile that is full.
+    /// Writes octets of the object: buffers them, and writes each full subfile.
     ///
-    /// **Errors:** `Failed` after a failed write, or `PastAnnounced` if the object would exceed the
-    /// bound of the plan; then nothing changes. `Write` if a write fails; what was written is then
-    /// a prefix of what the plan may write of an object that begins with these octets.
+    /// **Errors:** `Failed` after a failed write. `PastAnnounced` if the object would exceed the
+    /// bound of the plan; nothing has changed then. `Write` if a write fails; what was written is
+    /// then a prefix of an encoding that the plan allows for some object that begins with these
+    /// octets.
     pub fn write(&mut self, octets: &[u8]) -> Result<(), PackCause>
-        // An error is returned exactly if its condition holds, and then nothing changes.
+        // Each error is returned if and only if its condition holds, and nothing has changed then.
         ensures causes { (cause : PackCauseValue) → RejectsOctets self.old (length octets.now) cause
             → (result ≡ Err cause) × (self.new ≡ self.old) }
         ensures only { IfErr result (λ cause. (cause ≡ causes.Write)
@@ -102,7 +103,7 @@ impl<W: Target> SubfileWriter<W> {
         ensures broke { IfNone (write_cause self.old (length octets.now))
             (OnErr result (WriterFails W.state (IsWrittenOfMore self.old.plan octets.now) self.old self.new)) }
 
-        // It does not allocate.
+        // The call does not allocate.
         ensures room { self.new.room ≡ self.old.room }
     {
         self.cutter.write(octets)
@@ -110,11 +111,11 @@ impl<W: Target> SubfileWriter<W> {
 
     /// Writes the last subfile and record 9, and returns the target.
     ///
-    /// **Errors:** `Failed` after a failed write, or `ShortOfAnnounced` if the object is below a
-    /// known size; the error returns the writer unchanged. `Write` if a write fails; what was
-    /// written is then a prefix of what the plan writes of the object.
+    /// **Errors:** `Failed` after a failed write. `ShortOfAnnounced` if the object is shorter than
+    /// a known size; the error has the unchanged writer. `Write` if a write fails; what was written
+    /// is then a prefix of the encoding of the object under the plan.
     pub fn finish(self) -> Result<W, (SubfileWriter<W>, PackCause)>
-        // An error is returned exactly if its condition holds, and then nothing changes.
+        // Each error is returned if and only if its condition holds, and nothing has changed then.
         ensures causes { (cause : PackCauseValue) → RejectsEnd self cause → result ≡ Err (self, cause) }
         ensures only { IfErr result (λ refused. (refused.1 ≡ causes.Write) ⊎ RejectsEnd self refused.1) }
         ensures refused { IfSome (finish_cause self) (λ cause. result ≡ Err (self, cause)) }
@@ -125,7 +126,7 @@ impl<W: Target> SubfileWriter<W> {
         ensures broke { IfNone (finish_cause self)
             (IfErr result (λ refused. WriterFails W.state (IsWrittenOf self.plan) self refused.0)) }
 
-        // It does not allocate.
+        // The call does not allocate.
         ensures room { IfErr result (λ refused. refused.0.room ≡ self.room) }
     {
         let mut cutter = self.cutter;
@@ -135,8 +136,8 @@ impl<W: Target> SubfileWriter<W> {
         }
     }
 
-    /// Returns the number of octets of the object that were received, which is at most the bound of
-    /// the plan. At most a subfile or the bound, whichever is less, is buffered.
+    /// Returns the number of octets of the object so far, which is at most the bound of the plan.
+    /// The last of them may still be buffered, at most a full subfile or the bound.
     pub fn total(&self) -> u64
         ensures total { result ≡ total_of self.now }
         ensures fits { result ≤ plan_bound self.now.plan }
@@ -167,7 +168,7 @@ impl<W: Target> SubfileWriter<W> {
         self.cutter.output.written
     }
 
-    /// Returns the target, in its present state.
+    /// Returns the target, in its current state.
     pub fn into_writer(self) -> W
         ensures { result ≡ self.writer }
     {

@@ -2,7 +2,7 @@
 use Rattle.std.specs.Prelude.{◌≡◌, ⊤, List, ℕ, Option, Some, None}
 use Rattle.iim_dataset.specs.States.Devices.{Device}
 
--- The octets of a reader or writer, if they are known, are these.
+-- The octets of a reader or writer are known, and are these.
 abbrev pub HasOctets : Option (List ℕ) → List ℕ → Type 0
 HasOctets None octets = ⊤
 HasOctets (Some known) octets = known ≡ octets

@@ -8,7 +8,8 @@ use Rattle.iim_object.specs.declared.{plan.Plan.Plan, writing.cause.PackCause.Pa
 use Rattle.wire_story.specs.Format.Texts.{IsLine}
 use Rattle.wire_message.specs.Format.Messages.{IsTrailer}
 
--- The cause is one of the order, its condition holds, and no condition of a cause before it holds.
+-- The cause is in the list `order`, its condition holds, and the condition of no cause before it
+-- holds.
 pub record IsFirstIn (Says : PackCause → Type 0) (order : List PackCause) (cause : PackCause) : Type 0 where
   pub before : List PackCause
   pub after : List PackCause
@@ -16,14 +17,14 @@ pub record IsFirstIn (Says : PackCause → Type 0) (order : List PackCause) (cau
   pub none_before : AllByRecursion (λ other. Says other → ⊥) before
   pub holds : Says cause
 
--- the first cause of the order whose condition holds, or none
+-- the first cause in the list `order` whose condition holds, or none
 abbrev pub IsFirstInOrder : (PackCause → Type 0) → List PackCause → Option PackCause → Type 0
 IsFirstInOrder Says order (Some cause) = IsFirstIn Says order cause
 IsFirstInOrder Says order None = AllByRecursion (λ cause. Says cause → ⊥) order
 
--- The conditions of the causes. They depend on whether a write failed before the call, the octets
--- of a line and the trailer passed to it, if any, the plan, and the least size in octets that the
--- object will have.
+-- The condition of each cause. It depends on whether a write failed before the call, on the octets
+-- of a line and the trailer that are passed in the call, if any, on the plan, and on the least
+-- length in octets that the object will have.
 abbrev pub CauseHolds : Bool → List ℕ → List ℕ → Plan → ℕ → PackCause → Type 0
 CauseHolds failed line trailer plan size Failed = IsTrue failed
 CauseHolds failed line trailer plan size BadTextOctet = IsLine line → ⊥

@@ -1,5 +1,5 @@
--- The states of a packer: how it starts, what it has consumed and written, and a complete envelope
--- in one call.
+-- The states of a packer: how it starts, what it has consumed and written, and packing a complete
+-- envelope in one call.
 use Rattle.std.specs.Prelude.{◌≡◌, ℕ, ◌+◌, ◌&&◌, not, nat_le, Bool, false, if◌then◌else◌, IsTrue, List, ◌++◌, length, Option, Some, None, ◌⊎◌, []}
 use Rattle.std.specs.{List.list_all, Io.KnownBytes.Appends}
 use Rattle.iim_dataset.specs.States.Devices.{Device, WroteAllOf, FailedOrInterrupted, WithinInterruptionLimit}
@@ -15,22 +15,22 @@ use Rattle.wire_message.specs.Format.Messages.{is_trailer_octet, max_trailer, He
 use Rattle.iim_pack.specs.Format.Packed.{Packed}
 use Rattle.iim_object.specs.declared.writing.cause.PackCause.TheVariants as causes
 
--- The view of a packer: the length of records 1 and 2, and the writer of its object.
+-- The model of a packer: the length of records 1 and 2, and the writer of its object.
 pub record Packing (W : Type 0) : Type 0 where
   pub before : ℕ
   pub object : Writing W
 
--- the size in octets of the least ending: ETX and EOT
+-- the length of the shortest ending in octets: ETX and EOT
 abbrev pub least_ending : ℕ
 least_ending = 2
 
--- how many octets were written
+-- the number of octets written
 abbrev pub written_of : {W : Type 0} → Packing W → ℕ
 written_of k = k.before + k.object.written
 
 -- The packer has consumed these fields, this header and the text of these events, and has written
--- `out`: the fields, record 7 and full subfiles. Their data and the buffered octets are the
--- canonical object from SOH to the end of the text.
+-- `out`: the fields, record 7 and full subfiles. The data of these and the buffered octets form the
+-- canonical object from SOH to the end of the text so far.
 pub record HasPacked {W : Type 0} (k : Packing W) (fields : List Dataset) (head : Header) (events : List StoryEvent) (plan : Plan) (out : List ℕ) : Type 0 where
   pub envelope : IsEnvelope fields
   pub header : IsHeader head
@@ -41,8 +41,8 @@ pub record HasPacked {W : Type 0} (k : Packing W) (fields : List Dataset) (head 
   pub stands : object.HasWritten k.object (packed_head head ++ packed_events events) object_out
   pub out_is : out ≡ canonical_stream fields ++ object_out
 
--- The packer has consumed the text of these events, in every state before: more octets were
--- written. There were at most a million interruptions per octet.
+-- The packer has consumed the text of these events, after any it had consumed before, and has
+-- written more octets. At most a million interruptions occurred for each octet.
 pub record Lengthens {W : Type 0} (state : W → Device) (old new : Packing W) (events : List StoryEvent) : Type 0 where
   pub more : List ℕ
   pub wrote : WroteAllOf (state old.object.writer) (state new.object.writer) more
@@ -62,9 +62,9 @@ pub record FormWith (fields : List Dataset) (head : Header) (plan : Plan) (event
   pub rest : List StoryEvent
   pub begins : events_of_lines lines ≡ events ++ rest
 
--- A write failed: more octets were written and counted, and later calls are rejected. There were at
--- most a million interruptions per octet, and a million more. In every state before, what was
--- written is a prefix of every form that satisfies `Form`.
+-- A write failed: the octets written before the failure were counted, and later calls are rejected.
+-- At most a million interruptions occurred for each octet, plus a million. Whatever the packer had
+-- consumed, what it has written is a prefix of every form that satisfies `Form`.
 pub record BreaksOff {W : Type 0} (state : W → Device) (Form : List Dataset → Header → List StoryEvent → Plan → List ℕ → Type 0) (old new : Packing W) : Type 0 where
   pub more : List ℕ
   pub appends : Appends (state old.object.writer).octets (state new.object.writer).octets more
@@ -79,8 +79,8 @@ pub record BreaksOff {W : Type 0} (state : W → Device) (Form : List Dataset �
 abbrev pub ContinuesWith : List StoryEvent → List Dataset → Header → List StoryEvent → Plan → List ℕ → Type 0
 ContinuesWith events fields head before plan whole = FormWith fields head plan (before ++ events) whole
 
--- The complete form was written. There were at most a million interruptions per octet written by
--- this call.
+-- The complete form was written. At most a million interruptions occurred for each octet that this
+-- call wrote.
 pub record Finishes {W : Type 0} (state : W → Device) (old : Packing W) (trailer : List ℕ) (writer : W) : Type 0 where
   pub more : List ℕ
   pub wrote : WroteAllOf (state old.object.writer) (state writer) more
@@ -109,8 +109,8 @@ line_end_cause k =
 abbrev pub is_trailer : List ℕ → Bool
 is_trailer trailer = list_all is_trailer_octet trailer && nat_le (length trailer) max_trailer
 
--- the first cause against an object of `size` octets with this trailer: an invalid trailer, an
--- object that exceeds the bound, or one below a known size
+-- the first cause that rejects an object of `size` octets with this trailer: an invalid trailer, an
+-- object that exceeds the bound, or one that is shorter than a known size
 abbrev pub ending_cause : Plan → ℕ → List ℕ → Option PackCause
 ending_cause plan size trailer =
     if not (is_trailer trailer) then Some causes.BadTrailer
@@ -128,21 +128,21 @@ pack_cause head lines trailer plan = ending_cause plan (length (canonical head l
 
 -- The packer has consumed these fields, this header and the text of these events, and has not
 -- failed. Since its writer was in the state `first`, exactly `out` was written: the fields, record
--- 7 of the plan and full subfiles. Their data and the buffered octets are the canonical object from
--- SOH to the end of the text.
+-- 7 of the plan and full subfiles. The data of these and the buffered octets form the canonical
+-- object from SOH to the end of the text so far.
 pub record HasPackedSoFar {W : Type 0} (state : W → Device) (first : Device) (k : Packing W) (fields : List Dataset) (head : Header) (events : List StoryEvent) (plan : Plan) : Type 0 where
   pub out : List ℕ
   pub wrote : WroteAllOf first (state k.object.writer) out
   pub counted : written_of k ≡ length out
   pub stands : HasPacked k fields head events plan out
 
--- Whatever the packer had consumed, it has consumed these events too.
+-- Whatever the packer had consumed before, it has consumed these events too.
 abbrev pub KeepsPacking : {W : Type 0} → (W → Device) → Packing W → Packing W → List StoryEvent → Type 0
 KeepsPacking state old new events = (first : Device) (fields : List Dataset) (head : Header) (before : List StoryEvent) (plan : Plan)
     → HasPackedSoFar state first old fields head before plan → HasPackedSoFar state first new fields head (before ++ events) plan
 
--- Whatever the packer had consumed, exactly the packed form of its lines with this trailer was
--- written.
+-- Whatever the packer had consumed before, exactly the packed form of its lines with this trailer
+-- was written.
 abbrev pub WritesPackedForm : {W : Type 0} → (W → Device) → Packing W → List ℕ → W → Type 0
 WritesPackedForm state old trailer writer = (first : Device) (fields : List Dataset) (head : Header) (events : List StoryEvent) (plan : Plan)
     → HasPackedSoFar state first old fields head events plan
@@ -154,8 +154,8 @@ pub record RejectsStart {W : Type 0} (cause : PackCause) (writer : W) (fault : S
   pub writer_is : fault.writer ≡ writer
   pub nothing : fault.written ≡ 0
 
--- A write failed: the octets written before are counted, and are a prefix of every such form. There
--- were at most a million interruptions per octet, and a million more.
+-- A write failed: the octets written before the failure are counted, and are a prefix of every such
+-- form. At most a million interruptions occurred for each octet, plus a million.
 pub record StartBreaksOff {W : Type 0} (state : W → Device) (Form : List ℕ → Type 0) (writer : W) (fault : StartFault W) : Type 0 where
   pub cause_is : fault.cause ≡ causes.Write
   pub out : List ℕ
@@ -165,8 +165,8 @@ pub record StartBreaksOff {W : Type 0} (state : W → Device) (Form : List ℕ �
   pub counted : fault.written ≡ length out
   pub begins : (whole : List ℕ) → Form whole → IsPrefix out whole
 
--- The packer has an empty text, and what was written was written in this call. There were at most a
--- million interruptions per octet.
+-- The packer has an empty text so far, and everything that was written was written in this call. At
+-- most a million interruptions occurred for each octet.
 pub record StartsPacking {W : Type 0} (state : W → Device) (writer : W) (fields : List Dataset) (head : Header) (plan : Plan) (k : Packing W) : Type 0 where
   pub begun : HasPackedSoFar state (state writer) k fields head [] plan
   pub retry_limit : WithinInterruptionLimit (length begun.out) (state writer) (state k.object.writer)
@@ -177,7 +177,7 @@ pub record StartsPacking {W : Type 0} (state : W → Device) (writer : W) (field
 abbrev pub IsStartFault : {W : Type 0} → (W → Device) → (List ℕ → Type 0) → W → StartFault W → Type 0
 IsStartFault state Form writer fault = RejectsStart causes.OutOfMemory writer fault ⊎ StartBreaksOff state Form writer fault
 
--- The packed form was written. There were at most a million interruptions per octet.
+-- The packed form was written. At most a million interruptions occurred for each octet.
 pub record Packs {W : Type 0} (state : W → Device) (writer : W) (fields : List Dataset) (head : Header) (lines : List (List ℕ)) (trailer : List ℕ) (plan : Plan) (last : W) : Type 0 where
   pub out : List ℕ
   pub wrote : WroteAllOf (state writer) (state last) out

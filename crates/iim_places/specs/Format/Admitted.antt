@@ -1,5 +1,5 @@
--- Valid input: octets that are an envelope with a message and a story in it, the value that they
--- have, and envelopes as far as datasets and sizes are concerned.
+-- Valid input: octets that are an envelope, with a message and a story in it, and their value; and
+-- octets that are an envelope as far as datasets and sizes are concerned.
 use Rattle.std.specs.Prelude.{◌≡◌, ℕ, List, ◌≤◌, length}
 use Rattle.iim_dataset.specs.Format.Datasets.{Dataset, EncodesStream, count_octets, of_record}
 use Rattle.iim_fields.specs.{Format.Records.AreSections, Format.Records.IsWithin, declared.limits.Limits.Limits}
@@ -40,7 +40,8 @@ pub record AreWithinLimits (limits : Limits) (ds : List Dataset) : Type 0 where
   pub subfiles : length (of_record 8 ds) ≤ max_subfiles
 
 -- The octets encode the datasets of an envelope: records 1, 2, 7, 8 and 9, each valid. The sizes of
--- its object agree, and it is within the limits. Nothing is required of the message in the object.
+-- the object agree, and the envelope is within the limits. Nothing is required of the message in
+-- the object.
 pub record IsFramedEnvelope (limits : Limits) (octets : List ℕ) : Type 0 where
   pub datasets : List Dataset
   pub spelled : EncodesStream count_octets datasets octets

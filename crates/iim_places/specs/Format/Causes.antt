@@ -24,7 +24,7 @@ use Rattle.iim_places.specs.declared.refusal.Layer.TheVariants as layers
 use Rattle.iim_places.specs.declared.refusal.Cause.TheVariants as causes
 use Rattle.iim_object.specs.declared.reading.fault.SizeCause.TheVariants as sizes
 
--- the layer that rejects for a cause of the records: the limits, or the record layer
+-- the layer that rejects a token for a cause of the records: the limits, or the record layer
 abbrev pub layer_of : FieldCause → Layer
 layer_of fields.HeaderFull = layers.Limits
 layer_of fields.TooManyFields = layers.Limits
@@ -34,11 +34,11 @@ layer_of other = layers.Record
 abbrev pub fault_of_record : FieldFault → TokenFault
 fault_of_record f = record { layer = layer_of f.cause; rec = f.rec; set = f.set; cause = causes.Field f.cause }
 
--- the error of the object layer for a cause, on the dataset of the head
+-- the error of the object layer for a cause, which names the dataset of the head
 abbrev pub size_fault_on : Head → SizeCause → TokenFault
 size_fault_on h cause = record { layer = layers.Object; rec = h.rec; set = h.set; cause = causes.Size cause }
 
--- the error for the head of one subfile too many
+-- the error for the head of a subfile over the limit
 abbrev pub count_fault_on : Head → TokenFault
 count_fault_on h = record { layer = layers.Limits; rec = h.rec; set = h.set; cause = causes.TooManySubfiles }
 
@@ -46,14 +46,14 @@ count_fault_on h = record { layer = layers.Limits; rec = h.rec; set = h.set; cau
 abbrev pub refusal_at : ℕ → TokenFault → Refusal
 refusal_at octet fault = record { layer = fault.layer; rec = fault.rec; set = fault.set; octet = octet; cause = fault.cause }
 
--- the layer that rejects for a cause of the message
+-- the layer that rejects a token for a cause of the message
 abbrev pub layer_of_message : MessageCause → Layer
 layer_of_message messages.LoneReturn = layers.Story
 layer_of_message messages.ControlOctet = layers.Story
 layer_of_message messages.Sink = layers.Outside
 layer_of_message other = layers.Message
 
--- the error of the message, the story or the sink for a cause, on the dataset of the head
+-- the error of the message, the story or the sink for a cause, which names the dataset of the head
 abbrev pub message_fault_on : Head → MessageCause → TokenFault
 message_fault_on h cause = record { layer = layer_of_message cause; rec = h.rec; set = h.set; cause = causes.Message cause }
 
@@ -69,21 +69,21 @@ abbrev pub partial_number : PartialDataset → ℕ
 partial_number (InTag held) = get_or held 2 0
 partial_number (InData h taken) = h.set
 
--- The first octet of a tag must be the marker. After it only the count can be invalid.
+-- The first octet of a tag must be the marker. Otherwise only the count of a tag can be invalid.
 abbrev pub tag_cause : List ℕ → Cause
 tag_cause [] = causes.Marker
 tag_cause (x ∷ xs) = causes.CountForm
 
 -- ---- tokens
 
--- What the layers examine after complete datasets: an octet, of the tag or the data of a partial
--- dataset; a complete head; or a complete value.
+-- A token, which the layers examine after complete datasets: an octet of the tag or of the data of
+-- a partial dataset; a complete head; or a complete value.
 pub data Token : Type 0 where
   AtOctet : PartialDataset → ℕ → Token
   AtHead : Head → Token
   AtValue : Dataset → Token
 
--- a condition on octets of tags, after the octets of the partial tag
+-- a condition on octets of tags, given the earlier octets of the partial tag
 abbrev pub OfTag : (List ℕ → ℕ → Type 0) → Token → Type 0
 OfTag P (AtOctet (InTag held) octet) = P held octet
 OfTag P _ = ⊥
@@ -98,24 +98,24 @@ abbrev pub OfValue : (Dataset → Type 0) → Token → Type 0
 OfValue P (AtValue d) = P d
 OfValue P _ = ⊥
 
--- a condition on octets of the object, after the octets before them: the data of subfiles
+-- a condition on octets of the object, given the earlier ones: the data of subfiles
 abbrev pub OfOctet : (List ℕ → ℕ → Type 0) → List Dataset → Token → Type 0
 OfOctet P ds (AtOctet (InData h taken) octet) = (h.rec ≡ 8) × P (object_of ds ++ taken) octet
 OfOctet P ds _ = ⊥
 
 -- ---- the conditions
 
--- 1: the first octet of a tag is not the marker, 1C hex.
+-- 1: the first octet of a tag is not the marker, 1C hexadecimal.
 abbrev pub IsWrongMarker : List ℕ → ℕ → Type 0
 IsWrongMarker held octet = (held ≡ []) × (octet ≢ tag_marker)
 
--- 2: the fourth octet is above 80 hex; or it is 80 hex, and the fifth is not one of 1 to 8.
+-- 2: the fourth octet is above 80 hexadecimal; or it is 80, and the fifth is not from 1 to 8.
 abbrev pub IsInvalidCountForm : List ℕ → ℕ → Type 0
 IsInvalidCountForm held octet = ((length held ≡ 3) × (extended < octet))
     ⊎ ((length held ≡ 4) × (get_or held 3 0 ≡ extended) × ((octet ≡ 0) ⊎ (count_octets < octet)))
 
--- the numbers of record 7 so far: the mode by 10, the largest subfile by 20, the announced size by
--- 90, the maximum by 95
+-- the numbers of record 7 so far: the mode is that of 7:10, the largest subfile 7:20, the announced
+-- size 7:90, and the maximum 7:95
 abbrev pub stated : ℕ → List Dataset → Option ℕ
 stated set ds = number_at set (numbers_of (of_record 7 ds))
 
@@ -138,13 +138,13 @@ HasSizeClash ds d = (d.rec ≡ 7) × IsSomeAnd (stated 90 (ds ++ d ∷ [])) (λ 
 abbrev pub IsSubfileTooLong : List Dataset → Head → Type 0
 IsSubfileTooLong ds h = (h.rec ≡ 8) × IsSomeAnd (stated 20 ds) (λ largest. largest < h.count)
 
--- 23: with the subfile the object exceeds the greatest size of any object, the announced size, or
--- the maximum.
+-- 23: the object including the subfile exceeds the greatest size of any object, the announced size,
+-- or the maximum.
 abbrev pub IsPastSize : List Dataset → Head → Type 0
 IsPastSize ds h = (h.rec ≡ 8) × ((greatest_size < total ds + h.count)
     ⊎ (IsSomeAnd (stated 90 ds) (λ announced. announced < total ds + h.count) ⊎ IsSomeAnd (stated 95 ds) (λ most. most < total ds + h.count)))
 
--- 24: at the head of 9:10 the object is shorter than announced.
+-- 24: at the head of 9:10, the object is shorter than announced.
 abbrev pub IsObjectShort : List Dataset → Head → Type 0
 IsObjectShort ds h = (h.rec ≡ 9) × IsSomeAnd (stated 90 ds) (λ announced. total ds < announced)
 
@@ -152,11 +152,11 @@ IsObjectShort ds h = (h.rec ≡ 9) × IsSomeAnd (stated 90 ds) (λ announced. to
 abbrev pub HasWrongConfirmedSize : List Dataset → Dataset → Type 0
 HasWrongConfirmedSize ds d = (d.rec ≡ 9) × (number d.octets ≢ total ds)
 
--- 30: no message can continue with the octet.
+-- 30: the octet cannot be part of any message here.
 abbrev pub IsBadOctet : List ℕ → ℕ → Type 0
 IsBadOctet before octet = IsViableMessage (before ++ octet ∷ []) → ⊥
 
--- 32: the object ends, with the head of 9:10, and no message ends there.
+-- 32: the object ends, at the head of 9:10, but no message can end there.
 abbrev pub IsUnfinishedMessage : List Dataset → Head → Type 0
 IsUnfinishedMessage ds h = (h.rec ≡ 9) × (IsViablePrefix MessageLanguage (with_end (object_of ds)) → ⊥)
 
@@ -164,7 +164,8 @@ IsUnfinishedMessage ds h = (h.rec ≡ 9) × (IsViablePrefix MessageLanguage (wit
 abbrev pub IsInText : List ℕ → Type 0
 IsInText before = IsTrue (list_any (λ b. b == stx) before) × (list_any (λ b. b == etx) (after_stx before) ≡ false)
 
--- 40: a CR is pending, and the next octet, one of the text or ETX, is neither LF nor the second CR.
+-- 40: a CR is pending, and the next octet, an octet of the text or ETX, is neither LF nor a second
+-- CR.
 abbrev pub HasLoneReturn : List ℕ → ℕ → Type 0
 HasLoneReturn before octet = IsInText before × ((held : ℕ) × EndsInReturns (text_so_far before) held × (0 < held) × (octet ≢ lf) × (octet ≡ cr → held ≡ max_returns))
 
@@ -172,23 +173,24 @@ HasLoneReturn before octet = IsInText before × ((held : ℕ) × EndsInReturns (
 abbrev pub IsControlOctet : List ℕ → ℕ → Type 0
 IsControlOctet before octet = IsInText before × ((octet ≡ soh) ⊎ ((octet ≡ stx) ⊎ (octet ≡ eot)))
 
--- 52: the head of a subfile follows as many others as are allowed.
+-- 52: the number of subfiles exceeds its limit, at the head of a subfile.
 abbrev pub IsOneSubfileTooMany : List Dataset → Head → Type 0
 IsOneSubfileTooMany ds h = (h.rec ≡ 8) × (max_subfiles ≤ length (of_record 8 ds))
 
--- 60: the octet is passed to the sink: it is part of the text, and no CR.
+-- 60: the octet is passed to the sink: it belongs to the text, and is not CR.
 abbrev pub IsPassedToSink : List ℕ → ℕ → Type 0
 IsPassedToSink before octet = (text_so_far (before ++ octet ∷ []) ≡ text_so_far before ++ octet ∷ []) × (octet ≢ cr)
 
 -- ---- the causes
 
--- A cause's number, its layer, and its condition at a token after complete datasets, under limits.
+-- A cause: its number, its layer, and its condition for a token after complete datasets, under
+-- limits.
 pub record Rule : Type 1 where
   pub number : ℕ
   pub layer : Layer
   pub holds : Limits → List Dataset → Token → Type 0
 
--- A cause that no token has gets the condition that is always false.
+-- A cause that concerns no token has the condition that is always false.
 abbrev pub rule_of : Cause → Rule
 rule_of Marker = record { number = 1; layer = layers.Dataset; holds = λ limits ds. OfTag IsWrongMarker }
 rule_of CountForm = record { number = 2; layer = layers.Dataset; holds = λ limits ds. OfTag IsInvalidCountForm }
@@ -218,15 +220,15 @@ rule_of Failed = record { number = 61; layer = layers.Outside; holds = λ limits
 
 -- ---- what is reported for a token
 
--- The error names the layer of its cause. The condition of the cause holds, and no cause of this
--- layer with a lower number has its condition fulfilled.
+-- The error names the layer of its cause. The condition of the cause holds, and no condition of a
+-- cause of this layer with a lower number.
 pub record ReportsLowestCause (limits : Limits) (ds : List Dataset) (token : Token) (fault : TokenFault) : Type 0 where
   pub layer : (rule_of fault.cause).layer ≡ fault.layer
   pub holds : (rule_of fault.cause).holds limits ds token
   pub lowest : (other : Cause) → (rule_of other).layer ≡ fault.layer → (rule_of other).number < (rule_of fault.cause).number
       → (rule_of other).holds limits ds token → ⊥
 
--- the partial dataset in which the token occurs
+-- the partial dataset that the token belongs to
 abbrev pub begun_in : Token → PartialDataset
 begun_in (AtOctet begun octet) = begun
 begun_in (AtHead h) = InData h []
@@ -250,7 +252,7 @@ layer_name layers.Outside = codes "outside"
 abbrev pub cause_number : Cause → ℕ
 cause_number cause = (rule_of cause).number
 
--- A cause of a layer has the name that the layer gives it.
+-- The name of a cause, which is that in its layer.
 abbrev pub cause_name : Cause → List ℕ
 cause_name Marker = codes "Marker"
 cause_name CountForm = codes "CountForm"
@@ -263,20 +265,20 @@ cause_name Failed = codes "Failed"
 
 -- ---- printed forms
 
--- the number and the name of a cause
+-- the printed form of a cause: its number and its name
 abbrev pub cause_text : Cause → List ℕ
 cause_text cause = decimal (cause_number cause) ++ (codes " " ++ cause_name cause)
 
--- a refusal: the octet, the layer, the dataset and the cause
+-- the printed form of a refusal: the octet, the layer, the dataset and the cause
 abbrev pub refusal_text : Refusal → List ℕ
 refusal_text e =
     codes "refused at octet " ++ (decimal e.octet ++ (codes " by layer " ++ (layer_name e.layer ++ (codes " on "
     ++ (dataset_name e.rec e.set ++ (codes ", cause " ++ cause_text e.cause))))))
 
--- ---- The heads and values with which the layers can continue after datasets, and the first error
--- of one.
+-- ---- The heads and values that the layers accept after datasets, and the first error of a head or
+-- value.
 
--- the position in the object after datasets and a head: one subfile more, or the end
+-- the position in the object after datasets and a head: after one more subfile, or at the end
 abbrev pub place_at : List Dataset → Head → Place
 place_at ds h =
     if h.rec == 8 then record (place_after_datasets ds) { lengths = lengths_of (of_record 8 ds) ++ h.count ∷ [] }
@@ -310,7 +312,7 @@ abbrev pub CanContinueIn : Limits → List Dataset → PartialDataset → Type 0
 CanContinueIn limits whole (InTag held) = CanContinue limits whole
 CanContinueIn limits whole (InData h taken) = CanContinueAt limits whole h
 
--- The layer cannot continue after the head, and the layers examined before it can. The order is:
+-- The layer cannot continue after the head, but the layers examined before it can. The order is:
 -- record layer, limits, object layer.
 abbrev pub RejectsHead : Layer → Limits → List Dataset → Head → Type 0
 RejectsHead layers.Record limits ds h = AreViableSectionsWithHead ds h → ⊥
@@ -318,7 +320,7 @@ RejectsHead layers.Limits limits ds h = AreViableSectionsWithHead ds h × (HeadF
 RejectsHead layers.Object limits ds h = AreViableSectionsWithHead ds h × HeadFits limits ds h × (ObjectIsViable (place_at ds h) → ⊥)
 RejectsHead other limits ds h = ⊥
 
--- The layer cannot continue after the value, and the layers examined before it can.
+-- The layer cannot continue after the value, but the layers examined before it can.
 abbrev pub RejectsValue : Layer → List Dataset → Dataset → Type 0
 RejectsValue layers.Record ds d = AreViableSections (ds ++ d ∷ []) → ⊥
 RejectsValue layers.Object ds d = AreViableSections (ds ++ d ∷ []) × (ObjectIsViable (place_after_datasets (ds ++ d ∷ [])) → ⊥)
@@ -326,27 +328,29 @@ RejectsValue other ds d = ⊥
 
 -- ---- first errors
 
--- the limits' error at the head of a subfile: there are as many subfiles as are allowed
+-- the error of the limits at the head of a subfile: there already are as many subfiles as are
+-- allowed
 abbrev pub subfile_fault : List Dataset → Head → Option TokenFault
 subfile_fault ds h = if (h.rec == 8) && not (nat_lt (length (of_record 8 ds)) max_subfiles) then Some (count_fault_on h) else None
 
--- the object layer's error at the head of a subfile or of 9:10
+-- the error of the object layer at the head of a subfile or of 9:10
 abbrev pub object_fault : List Dataset → Head → Option TokenFault
 object_fault ds h =
     if (h.rec == 8) || (h.rec == 9) then option_map (size_fault_on h) (cause_at (place_after_datasets ds) (head_token h.rec h.count))
     else None
 
--- the first error of a head: of the record layer, of the limits, of the object layer
+-- the first error of a head: that of the record layer, otherwise that of the limits, otherwise that
+-- of the object layer
 abbrev pub fault_at_head : Limits → List Dataset → Head → Option TokenFault
 fault_at_head limits ds h = option_or (option_map fault_of_record (first_fault limits ds h)) (option_or (subfile_fault ds h) (object_fault ds h))
 
--- the object layer's error at a number of record 7 or 9
+-- the error of the object layer at a number of record 7 or 9
 abbrev pub number_fault : List Dataset → Dataset → Option TokenFault
 number_fault ds d =
     if has_number_value d.rec then option_map (size_fault_on (head_of d)) (cause_at (place_at ds (head_of d)) (value_token d.rec d.set (number d.octets)))
     else None
 
--- the first error of a value: of the record layer, of the object layer
+-- the first error of a value: that of the record layer, otherwise that of the object layer
 abbrev pub fault_at_value : List Dataset → Dataset → Option TokenFault
 fault_at_value ds d = option_or (option_map fault_of_record (value_fault d)) (number_fault ds d)
 

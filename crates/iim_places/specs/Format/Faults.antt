@@ -5,7 +5,7 @@ use Rattle.iim_places.specs.Format.Causes.{layer_name, cause_text, TokenFault}
 use Rattle.iim_places.specs.declared.ticket.fault.TicketFault.{TicketFault}
 use Rattle.iim_places.specs.declared.ticket.fault.TicketFault.TheVariants.{TicketForm, TicketVersion, HeaderFull, Impossible, OutOfMemory, TooManyFields}
 
--- an error of a token: the layer, the dataset and the cause
+-- the printed form of an error of a token: the layer, the dataset and the cause
 abbrev pub token_text : TokenFault → List ℕ
 token_text fault =
     codes "refused by layer " ++ (layer_name fault.layer ++ (codes " on "

@@ -1,7 +1,7 @@
--- Incomplete input (every layer sees a *viable prefix*: some continuation is valid), the text in
--- it, and the refusal of the next octet. By the correct-prefix property of parsers, an error is
--- detected at the first token with which the input is no longer a viable prefix; names with `Rejects`
--- or `dead` mean that token.
+-- Incomplete input, the text in it, and the refusal of the next octet. In incomplete input the
+-- tokens of every layer are a *viable prefix*: some continuation is valid. By the correct-prefix
+-- property of parsers, an error is detected at the first token with which the input is no longer a
+-- viable prefix. Names with `Rejects` or `dead` refer to that token.
 use Rattle.std.specs.Prelude.{◌≡◌, ◌≢◌, ℕ, ◌==◌, ◌⊎◌, if◌then◌else◌, List, [], ◌∷◌, ◌++◌, length, map}
 use Rattle.iim_dataset.specs.{Format.Octets.IsOctet, declared.head.Head.Head}
 use Rattle.iim_dataset.specs.Format.Datasets.{Dataset, EncodesTag, head_of, count_octets, PartialDataset, InTag, InData, ReadsAsDatasets, CompletesTheData, BeginsNoTag}
@@ -41,7 +41,7 @@ pub record AllCanContinue (limits : Limits) (ds : List Dataset) (begun : Partial
   pub message : languages.IsViablePrefix MessageLanguage (message_tokens ds begun)
   pub story : HasViableStory (object_so_far ds begun)
 
--- The head is that of 9:10, no message ends there, and all layers that are examined before the
+-- The head is that of 9:10, but no message can end there. All layers that are examined before the
 -- message can continue.
 pub record IsBadEndAt (limits : Limits) (ds : List Dataset) (h : Head) (fault : TokenFault) : Type 0 where
   pub last : h.rec ≡ 9
@@ -51,11 +51,11 @@ pub record IsBadEndAt (limits : Limits) (ds : List Dataset) (h : Head) (fault : 
 
 -- ---- the text in the input
 
--- The text in the octets: what follows STX and precedes ETX in the data of the subfiles so far.
+-- The text in the octets: the data of the subfiles so far that are after STX and before ETX.
 abbrev pub IsTextOf : List ℕ → List ℕ → Type 0
 IsTextOf octets text = (whole : List Dataset) × (begun : PartialDataset) × ReadsAsDatasets count_octets octets whole begun × (text ≡ text_so_far (object_so_far whole begun))
 
--- After `p`, exactly the events `more` are delivered for these octets.
+-- After the octets `p`, exactly the events `more` are delivered for these octets.
 abbrev pub Delivers : List ℕ → List ℕ → List story.StoryEvent → Type 0
 Delivers p octets more = (text : List ℕ) → IsTextOf p text → (added : List ℕ) × IsTextOf (p ++ octets) (text ++ added) × (more ≡ story.delivered added)
 
@@ -68,7 +68,7 @@ pub record IsIncomplete (limits : Limits) (octets : List ℕ) : Type 0 where
   pub leads_on : AllCanContinue limits whole begun
   pub unfinished : AreSections whole → ⊥
 
--- The next octet makes the tag invalid.
+-- With the next octet the tag is invalid.
 pub record IsBadTagAt (limits : Limits) (octets : List ℕ) (next : ℕ) (fault : TokenFault) : Type 0 where
   pub whole : List Dataset
   pub held : List ℕ
@@ -78,7 +78,7 @@ pub record IsBadTagAt (limits : Limits) (octets : List ℕ) (next : ℕ) (fault 
   pub dead : BeginsNoTag count_octets (held ++ next ∷ [])
   pub is_fault : fault ≡ record { layer = layers.Dataset; rec = partial_record (InTag held); set = partial_number (InTag held); cause = tag_cause held }
 
--- The next octet completes a head, and that is rejected.
+-- The next octet completes a head, and the head is rejected.
 pub record IsBadHeadAt (limits : Limits) (octets : List ℕ) (next : ℕ) (fault : TokenFault) : Type 0 where
   pub whole : List Dataset
   pub held : List ℕ
@@ -89,7 +89,7 @@ pub record IsBadHeadAt (limits : Limits) (octets : List ℕ) (next : ℕ) (fault
   pub tag : EncodesTag count_octets head (held ++ next ∷ [])
   pub refuses : IsFaultOfHead limits whole head fault ⊎ IsBadEndAt limits whole head fault
 
--- The next octet is one of the object, and message, story or sink reject it.
+-- The next octet belongs to the object, and message, story or sink reject it.
 pub record IsBadOctetAt (limits : Limits) (octets : List ℕ) (next : ℕ) (fault : TokenFault) : Type 0 where
   pub whole : List Dataset
   pub head : Head
@@ -102,7 +102,7 @@ pub record IsBadOctetAt (limits : Limits) (octets : List ℕ) (next : ℕ) (faul
   pub has_cause : wire.HasMessageCause cause (object_of whole ++ taken) next
   pub is_fault : fault ≡ message_fault_on head cause
 
--- The next octet completes a value other than a subfile, and that is rejected.
+-- The next octet completes a value other than a subfile, and the value is rejected.
 pub record IsBadValueAt (limits : Limits) (octets : List ℕ) (next : ℕ) (fault : TokenFault) : Type 0 where
   pub whole : List Dataset
   pub head : Head
@@ -113,17 +113,16 @@ pub record IsBadValueAt (limits : Limits) (octets : List ℕ) (next : ℕ) (faul
   pub unfinished : AreSections whole → ⊥
   pub refuses : IsFaultOfValue whole (data_of head given) fault
 
--- The next octet is rejected by one of these four tests. (For proofs; the definition is
--- `RefusesNext`.)
+-- One of these four tests rejects the next octet. (For proofs; the definition is `RefusesNext`.)
 abbrev pub RefusesByTests : Limits → List ℕ → ℕ → TokenFault → Type 0
 RefusesByTests limits octets next fault =
     IsBadTagAt limits octets next fault ⊎ (IsBadHeadAt limits octets next fault ⊎ (IsBadOctetAt limits octets next fault ⊎ IsBadValueAt limits octets next fault))
 
 -- ---- the refusal of the next octet
 
--- The next octet completes the token. A token is the octet itself; a head, completed by the last
--- octet of its tag; or a value other than a subfile, completed by its last octet. An empty value is
--- completed by its head, if all layers can continue after that.
+-- The next octet completes the token. A token is the octet itself; a head, which the last octet of
+-- its tag completes; or a value other than a subfile, which its last octet completes. An empty
+-- value is completed together with its head, if all layers can continue after the head.
 abbrev pub CompletesToken : Limits → List Dataset → PartialDataset → ℕ → Token → Type 0
 CompletesToken limits ds begun next (AtOctet b octet) = (b ≡ begun) × (octet ≡ next)
 CompletesToken limits ds (InTag held) next (AtHead h) = EncodesTag count_octets h (held ++ next ∷ [])
@@ -132,7 +131,7 @@ CompletesToken limits ds (InTag held) next (AtValue d) =
 CompletesToken limits ds (InData h taken) next (AtValue d) = (d.rec ≢ 8) × (d ≡ data_of h (taken ++ next ∷ [])) × (length d.octets ≡ h.count)
 CompletesToken limits ds (InData h taken) next (AtHead g) = ⊥
 
--- The layer cannot continue after the token, and the layers examined before it can.
+-- The layer cannot continue after the token, but the layers examined before it can.
 abbrev pub Rejects : Layer → Limits → List Dataset → Token → Type 0
 Rejects layers.Dataset limits ds (AtOctet (InTag held) octet) = BeginsNoTag count_octets (held ++ octet ∷ [])
 Rejects layers.Record limits ds (AtHead h) = AreViableSectionsWithHead ds h → ⊥
@@ -147,9 +146,9 @@ Rejects layers.Outside limits ds (AtOctet (InData h taken) octet) = IsViableMess
 Rejects layer limits ds token = ⊥
 
 -- Every layer can continue after the octets, within the limits, and they are not an envelope. The
--- next octet completes a token after which the layer of the error cannot continue, and the layers
+-- next octet completes a token after which the layer of the error cannot continue, but the layers
 -- examined before it can. The error has the cause of this layer with the lowest number, and names
--- the dataset that it concerns.
+-- the dataset that the token belongs to.
 pub record RefusesNext (limits : Limits) (octets : List ℕ) (next : ℕ) (fault : TokenFault) : Type 0 where
   pub before : IsIncomplete limits octets
   pub is_octet : IsOctet next
@@ -159,11 +158,12 @@ pub record RefusesNext (limits : Limits) (octets : List ℕ) (next : ℕ) (fault
   pub tells : ReportsLowestCause limits before.whole token fault
   pub names : Names fault.cause before.whole token fault.rec fault.set
 
--- the refusal of input that ends after `octet` octets, in the partial dataset with these numbers
+-- the refusal of input that ends after `octet` octets, inside the dataset with this record and
+-- number
 abbrev pub truncation_refusal : ℕ → ℕ × ℕ → Refusal
 truncation_refusal octet names = record { layer = layers.Dataset; rec = names.0; set = names.1; octet = octet; cause = Truncated }
 
--- The refusal reports that the octets are truncated, at octet `a` and in their partial dataset.
+-- The refusal reports that the octets are truncated, at octet `a` and inside their partial dataset.
 pub record IsTruncatedAt (p : List ℕ) (a : ℕ) (e : Refusal) : Type 0 where
   pub whole : List Dataset
   pub begun : PartialDataset

@@ -1,4 +1,4 @@
--- The result of a whole stream, and the envelopes that an input begins with.
+-- The result of a whole stream, and the envelopes at the start of an input.
 use Rattle.std.specs.Prelude.{◌≡◌, ◌≢◌, ℕ, ◌<◌, ◌≤◌, List, length, take, slice_index, ◌+◌, min, true, false, [], ◌∷◌, Bool, ◌⊎◌, ◌++◌, map}
 use Rattle.std.specs.List.{AllByRecursion}
 use Rattle.iim_places.specs.Format.{Admitted.Value, Admitted.Admits, Admitted.AreWithinLimits, Causes.refusal_at}
@@ -30,16 +30,16 @@ pub record IsFinished (limits : Limits) (stream : List ℕ) (used : ℕ) (value 
   pub fits : used ≤ length stream
   pub envelope : IsEnvelopeWithin limits (take used stream) value
 
--- Every layer can continue after the octets before the reported one, and that one is rejected: the
--- reported layer cannot continue after it, or the sink stopped.
+-- Every layer can continue after the octets before the reported one. With that octet the reported
+-- layer cannot continue, or the sink stopped.
 pub record IsRefused (limits : Limits) (stream : List ℕ) (e : Refusal) : Type 0 where
   pub fits : e.octet < length stream
   pub fault : TokenFault
   pub refusal : e ≡ refusal_at e.octet fault
   pub refuses : RefusesNext limits (take e.octet stream) (slice_index stream e.octet) fault
 
--- The whole stream is incomplete: every layer can continue after it, and no envelope ends within
--- it.
+-- The whole stream is incomplete: every layer can continue after it, and it contains no complete
+-- envelope.
 pub record IsTruncated (limits : Limits) (stream : List ℕ) (e : Refusal) : Type 0 where
   pub is_open : IsIncomplete limits stream
   pub refusal : IsTruncatedAt stream (length stream) e
@@ -59,9 +59,9 @@ abbrev pub is_non_empty : List ℕ → Bool
 is_non_empty [] = false
 is_non_empty (x ∷ xs) = true
 
--- ---- The envelopes that an input begins with, and what follows them.
+-- ---- The envelopes at the start of an input, and what follows them.
 
--- the maximum number of listed envelopes
+-- the maximum number of envelopes that are listed
 abbrev pub max_envelopes : ℕ
 max_envelopes = 1000000
 
@@ -70,7 +70,7 @@ pub record Listed : Type 0 where
   pub octets : List ℕ
   pub value : Value
 
--- Its octets are an envelope with its value, within the limits.
+-- The octets are an envelope with this value, within the limits.
 abbrev pub IsListed : Limits → Listed → Type 0
 IsListed limits e = IsEnvelopeWithin limits e.octets e.value
 
@@ -91,8 +91,8 @@ pub record SplitsInto (limits : Limits) (input : List ℕ) (envelopes : List Lis
   pub few : length envelopes ≤ max_envelopes
 
 -- Every layer can continue after the first `k` octets, and they are not an envelope. The next octet
--- completes the first token after which a layer cannot continue. (Counts of octets saturate at the
--- greatest number of 64 bits.)
+-- completes the first token after which some layer cannot continue. (Counts of octets saturate at
+-- the greatest number of 64 bits.)
 pub record RejectsNextAfter (limits : Limits) (rest : List ℕ) (k : ℕ) (e : Refusal) : Type 0 where
   pub within : k < length rest
   pub fault : TokenFault
@@ -109,7 +109,7 @@ pub record EndsTruncated (limits : Limits) (rest : List ℕ) (e : Refusal) : Typ
 abbrev pub IsRefusedAfter : Limits → List ℕ → ℕ → Refusal → Type 0
 IsRefusedAfter limits rest k e = (EndsTruncated limits rest e × (k ≡ length rest)) ⊎ RejectsNextAfter limits rest k e
 
--- What follows the envelopes: nothing, rejected octets, or one envelope too many.
+-- What follows the envelopes: the end of the input, rejected octets, or an envelope over the limit.
 pub data InputEnding : Type 0 where
   Whole : InputEnding
   RefusedBy : Refusal → InputEnding
@@ -121,7 +121,7 @@ HasEnd limits count rest Whole = rest ≡ []
 HasEnd limits count rest (RefusedBy refusal) = (k : ℕ) × IsRefusedAfter limits rest k refusal
 HasEnd limits count rest TooMany = (count ≡ max_envelopes) × (e : Listed) × IsListed limits e × (more : List ℕ) × (rest ≡ e.octets ++ more)
 
--- The listing of an input: the envelopes that it begins with, and what follows them.
+-- The listing of an input: the envelopes at its start, and what follows them.
 pub record IsListing (limits : Limits) (input : List ℕ) (envelopes : List Listed) (ending : InputEnding) : Type 0 where
   pub rest : List ℕ
   pub divides : SplitsInto limits input envelopes rest

@@ -1,4 +1,5 @@
--- The form of a ticket and of its parts, whether or not any position has it.
+-- The form of a ticket and of its parts. A ticket of this form need not encode a position that any
+-- input reaches.
 use Rattle.std.specs.Prelude.{◌≡◌, ℕ, ◌^◌, ◌<◌, List, length, Option, Some, None, ⊤, ◌-◌, ◌≤◌, ◌==◌, if◌then◌else◌, [], ◌∷◌, ◌++◌, ◌⊎◌, ◌+◌, codes}
 use Rattle.std.specs.List.{AllByRecursion, flat_map}
 use Rattle.iim_dataset.specs.Format.Datasets.{Dataset}
@@ -23,12 +24,12 @@ IsOptionalIn version (Some n) = FitsWidth version n
 abbrev pub IsShortText : List ℕ → Type 0
 IsShortText xs = length xs < 256
 
--- Datasets whose count, like the length of each, fits into four octets.
+-- The number of datasets fits into four octets, and so does the length of each.
 pub record AreTicketFields (ds : List Dataset) : Type 0 where
   pub each : AllByRecursion FitsInField ds
   pub few : length ds < 2 ^ 32
 
--- The numbers of 7:10, 7:20, 7:90 and 7:95, each absent or of the version's width.
+-- The numbers of 7:10, 7:20, 7:90 and 7:95, each absent or with the width of the version.
 pub record AreTicketNumbers (version : ℕ) (numbers : List (Option ℕ)) : Type 0 where
   pub each : AllByRecursion (IsOptionalIn version) numbers
   pub four : length numbers ≡ 4
@@ -38,15 +39,15 @@ pub record AreTicketTexts (texts : List (List ℕ)) : Type 0 where
   pub each : AllByRecursion IsShortText texts
   pub seven : length texts ≡ 7
 
--- The view of an iterator over the datasets of a ticket: the remaining datasets.
+-- The model of an iterator over the datasets of a ticket: the remaining datasets.
 abbrev pub remaining_datasets : List Dataset → List Dataset
 remaining_datasets ds = ds
 
--- ---- The form of a ticket, whether or not any position has it.
+-- ---- The form of a ticket.
 
--- The parts: the version; the section; the partial dataset; the datasets; the numbers of record 7;
--- the octets of the object and the heads of 8:10 received; and the part, the counter, the flag and
--- the texts of the message.
+-- The parts: the version; the section; what is in progress; the datasets; the numbers of record 7;
+-- the number of octets of the object and of heads of 8:10 received; and the part, the counter, the
+-- flag and the texts of the message.
 pub record Contents : Type 0 where
   pub version : ℕ
   pub section : ℕ
@@ -64,7 +65,7 @@ pub record Contents : Type 0 where
 abbrev pub contents_octets : Contents → List ℕ
 contents_octets s = layout s.version s.section s.phase s.fields s.numbers s.taken s.heads ((s.part ∷ s.counter ∷ s.flag ∷ []) ++ flat_map text_octets s.texts)
 
--- how many octets of partial data are stored
+-- the number of octets of data in progress that are stored
 abbrev pub came : (section count left : ℕ) → ℕ
 came section count left = if section == 8 then 0 else count - left
 
@@ -72,8 +73,8 @@ came section count left = if section == 8 then 0 else count - left
 abbrev pub IsTicketVersion : ℕ → Type 0
 IsTicketVersion version = (version ≡ first_version.number) ⊎ (version ≡ second_version.number)
 
--- A partial tag has fewer octets than five plus the width of a number. Of partial data at most the
--- count remains, and the octets received are stored unless they are a subfile's.
+-- A partial tag has fewer octets than five plus the width of a number. The data in progress that
+-- remain are at most the count, and the octets received are stored, except those of a subfile.
 abbrev pub IsTicketPhase : ℕ → ℕ → Phase → Type 0
 IsTicketPhase version section (PartialTag held) = length held < 5 + width version
 IsTicketPhase version section (PartialData set count left taken) = FitsWidth version count × (left ≤ count) × (length taken ≡ came section count left)
@@ -94,15 +95,15 @@ pub record HasContents (ticket : List ℕ) (s : Contents) : Type 0 where
   pub form : HasForm s
   pub spelled : ticket ≡ contents_octets s
 
--- The octets begin with a ticket's name, followed by the number of no known version.
+-- The octets begin with a ticket's name, followed by an unknown version.
 pub record HasOtherVersion (ticket : List ℕ) : Type 0 where
   pub version : ℕ
   pub rest : List ℕ
   pub named : ticket ≡ codes "IIMT" ++ version ∷ rest
   pub other : IsTicketVersion version → ⊥
 
--- TicketVersion is reported if and only if a ticket's name is followed by another version.
--- TicketForm is reported for all other octets that cannot be split.
+-- TicketVersion is reported if and only if a ticket's name is followed by an unknown version.
+-- TicketForm is reported for all other octets that are not a ticket.
 abbrev pub IsTicketFormFault : List ℕ → TicketFault → Type 0
 IsTicketFormFault ticket TicketVersion = HasOtherVersion ticket
 IsTicketFormFault ticket TicketForm = (HasOtherVersion ticket → ⊥) × ((s : Contents) → HasContents ticket s → ⊥)

@@ -11,17 +11,17 @@ use Rattle.iim_places.specs.Format.Open.{object_so_far, section}
 
 -- ---- positions
 
--- The partial dataset: a tag with its octets so far (empty between datasets); or data, with the
--- dataset's number, the count, the number of remaining octets, and the octets received (not stored
--- for a subfile); or none, after the last dataset.
+-- What is in progress: a tag, with its octets so far (none of them between datasets); or data, with
+-- the dataset's number, the count, the number of octets that remain, and the octets received (not
+-- stored for a subfile); or nothing, after the last dataset.
 pub data Phase : Type 0 where
   PartialTag : List ℕ → Phase
   PartialData : (set count left : ℕ) → List ℕ → Phase
   AllEnded : Phase
 
--- The position of an unpacker: the record of the last head; the partial dataset; the datasets of
--- records 1 and 2; the numbers of 7:10, 7:20, 7:90 and 7:95; how many octets of the object and how
--- many heads of 8:10 were received; and the position in the message.
+-- The position of an unpacker: the record of the last head; what is in progress; the datasets of
+-- records 1 and 2; the numbers of 7:10, 7:20, 7:90 and 7:95; the number of octets of the object and
+-- of heads of 8:10 that were received; and the position in the message.
 pub record Place : Type 0 where
   pub section : ℕ
   pub phase : Phase
@@ -35,13 +35,12 @@ abbrev pub phase_of : List Dataset → PartialDataset → Phase
 phase_of ds (InTag held) = if section_after ds == 9 then AllEnded else PartialTag held
 phase_of ds (InData h taken) = PartialData h.set h.count (h.count - length taken) (if h.rec == 8 then [] else taken)
 
--- the number of heads of 8:10, that of a partial subfile included
+-- the number of heads of 8:10, including that of a subfile in progress
 abbrev pub heads_of : List Dataset → PartialDataset → ℕ
 heads_of ds (InTag held) = length (of_record 8 ds)
 heads_of ds (InData h taken) = length (of_record 8 ds) + (if h.rec == 8 then 1 else 0)
 
--- the position after complete datasets and a partial one, whose object reaches this position in the
--- message
+-- the position after complete datasets and a partial one; `message` is the position in the message
 abbrev pub place_of : List Dataset → PartialDataset → MessagePlace → Place
 place_of whole begun message = record {
   section = section whole begun;
@@ -65,8 +64,8 @@ pub record ReachesPlace (octets : List ℕ) (place : Place) : Type 0 where
 
 -- ---- the encoding of a position
 
--- A version of tickets: its number, and the width in octets of a count, a size or a number of
--- octets of the object.
+-- A version of tickets: its number, and the width in octets of counts, of sizes and of the number
+-- of octets of the object.
 pub record TicketVersion : Type 0 where
   pub number : ℕ
   pub width : ℕ
@@ -126,7 +125,7 @@ part_number part.Text = 9
 part_number part.Trailer = 10
 part_number part.AfterEnd = 11
 
--- the texts of the header so far, in its order, and the trailer so far
+-- the texts of the header so far, in the order of the header, and the trailer so far
 abbrev pub texts_octets : MessagePlace → List ℕ
 texts_octets m =
     text_octets m.source.items ++ text_octets m.number.items ++ text_octets m.priority.items ++ text_octets m.category.items
@@ -135,25 +134,26 @@ texts_octets m =
 abbrev pub message_octets : MessagePlace → List ℕ
 message_octets m = (part_number m.part ∷ m.counter ∷ m.flag ∷ []) ++ texts_octets m
 
--- what each ticket begins with: the name and the version
+-- the start of each ticket: the name and the version
 abbrev pub ticket_header : ℕ → List ℕ
 ticket_header version = codes "IIMT" ++ version ∷ []
 
--- the order of what follows: the section, the partial dataset, the datasets, the numbers of record
--- 7, the octets and heads of the object, and the encoding of the position in the message
+-- the order of the other parts: the section, what is in progress, the datasets, the numbers of
+-- record 7, the numbers of octets and heads of the object, and the encoding of the position in the
+-- message
 abbrev pub layout : ℕ → ℕ → Phase → List Dataset → List (Option ℕ) → ℕ → ℕ → List ℕ → List ℕ
 layout version section phase fields numbers taken heads message =
     ticket_header version ++ (section ∷ []) ++ phase_octets version phase ++ fields_octets fields ++ flat_map (number_octets version) numbers
     ++ wide version taken ++ four heads ++ message
 
--- the ticket of the position, in a version
+-- the ticket of the position, in the version
 abbrev pub ticket_in_version : ℕ → Place → List ℕ
 ticket_in_version version p = layout version p.section p.phase p.fields p.numbers p.taken p.heads (message_octets p.message)
 
 abbrev pub ticket_of : Place → List ℕ
 ticket_of p = ticket_in_version present_version p
 
--- The ticket is that of the position that the octets reach.
+-- The ticket encodes the position that the octets reach.
 pub record IsTicketOf (octets ticket : List ℕ) : Type 0 where
   pub place : Place
   pub is_place : ReachesPlace octets place

@@ -1,5 +1,5 @@
--- Positions that an envelope can have: by datasets that reach them, by each layer, and by smaller
--- sizes.
+-- Positions that an envelope can have: defined by datasets that reach them, by each layer, and
+-- under smaller size limits.
 use Rattle.std.specs.Prelude.{◌≡◌, ℕ, ◌+◌, ◌⊎◌, ◌≤◌, true, ⊤, Option, None, Some, if◌then◌else◌, List, length, zero, suc, Bool, [], ◌∷◌, ◌++◌, take, drop, ◌↔◌, ◌-◌, ◌==◌, false}
 use Rattle.std.specs.{List.AllByRecursion, Option.unwrap_or}
 use Rattle.iim_fields.specs.Format.Causes.{is_kept, joined, section_after}
@@ -28,13 +28,14 @@ widest = record { octets = greatest_u32; fields = greatest_u32 }
 abbrev pub AreViable : Limits → List ℕ → Type 0
 AreViable limits octets = IsIncomplete limits octets ⊎ ((value : Value) × IsEnvelopeWithin limits octets value)
 
--- Some octets reach the position, and are incomplete or an envelope under the widest limits.
+-- The position is reached by some octets that are incomplete or an envelope under the widest
+-- limits.
 pub record Possible (place : Place) : Type 0 where
   pub octets : List ℕ
   pub leads : ReachesPlace octets place
   pub comes : AreViable widest octets
 
--- ---- The sizes when version 1 was current: counts of at most four octets, and objects of at most
+-- ---- The size limits of version 1: counts of at most four octets, and objects of at most
 -- 4,294,967,295 octets.
 
 abbrev pub first_count_octets : ℕ
@@ -47,15 +48,15 @@ abbrev pub IsSmall : Option ℕ → Type 0
 IsSmall None = ⊤
 IsSmall (Some n) = n ≤ first_greatest_size
 
--- The partial dataset was possible then: a tag; a value of record 7 or 9, whose row had such a
--- count; or a subfile, with which the object was no larger. The rows of records 1 and 2 have not
--- changed.
+-- The item in progress is possible in version 1. It is a tag; or a value of record 7 or 9 whose
+-- count was valid; or a subfile with which the object is within the limit of version 1; or a value
+-- of record 1 or 2, whose rows have not changed.
 abbrev pub IsSmallPhase : (section taken : ℕ) → Phase → Type 0
 IsSmallPhase section taken (PartialTag held) = BeginsTag first_count_octets held
 IsSmallPhase section taken (PartialData set count left given) = (has_number_value section ≡ true → count ≤ first_count_octets) × (section ≡ 8 → (count ≤ first_greatest_size) × (taken + left ≤ first_greatest_size))
 IsSmallPhase section taken AllEnded = ⊤
 
--- The position is within the sizes of that time.
+-- The position is within the size limits of version 1.
 pub record IsSmallPlace (place : Place) : Type 0 where
   pub numbers : AllByRecursion IsSmall place.numbers
   pub taken : place.taken ≤ first_greatest_size
@@ -63,20 +64,21 @@ pub record IsSmallPlace (place : Place) : Type 0 where
 
 -- ---- limits
 
--- the octets that a partial dataset of records 1 and 2 counts towards the limit: all of its count
+-- the number of octets that a dataset in progress of record 1 or 2 contributes to the limit: its
+-- whole count
 abbrev pub partial_count : ℕ → Phase → ℕ
 partial_count section (PartialTag held) = 0
 partial_count section (PartialData set count left taken) = if is_kept section then count else 0
 partial_count section AllEnded = 0
 
--- the entries that a partial dataset of records 1 and 2 counts towards the limit: one
+-- the number of entries that a dataset in progress of record 1 or 2 contributes to the limit: one
 abbrev pub partial_fields : ℕ → Phase → ℕ
 partial_fields section (PartialTag held) = 0
 partial_fields section (PartialData set count left taken) = if is_kept section then 1 else 0
 partial_fields section AllEnded = 0
 
--- The heads of records 1 and 2 in the position, that of a partial dataset included, are within the
--- limits.
+-- The heads of records 1 and 2 in the position, including that of a dataset in progress, are within
+-- the limits.
 abbrev pub AreHeadsWithin : Limits → Place → Type 0
 AreHeadsWithin limits p = IsWithin limits (length (joined p.fields) + partial_count p.section p.phase) (length p.fields + partial_fields p.section p.phase)
 
@@ -94,7 +96,7 @@ number_list n = n.mode ∷ n.largest ∷ n.announced ∷ n.maximum ∷ []
 abbrev pub mode_dataset : ℕ → Dataset
 mode_dataset n = record { rec = 7; set = 10; octets = n ∷ [] }
 
--- one dataset if there is a number, otherwise none
+-- the dataset of a number, or nothing if there is no number
 abbrev pub dataset_if : (ℕ → Dataset) → Option ℕ → List Dataset
 dataset_if made None = []
 dataset_if made (Some n) = made n ∷ []
@@ -104,7 +106,8 @@ abbrev pub witness_numbers : Numbers → List Dataset
 witness_numbers n =
     dataset_if mode_dataset n.mode ++ (dataset_if (number_dataset 7 20) n.largest ++ (dataset_if (number_dataset 7 90) n.announced ++ dataset_if (number_dataset 7 95) n.maximum))
 
--- the octets split into `count` parts of at most `size` octets, each filled before the next
+-- the octets, split into `count` parts of at most `size` octets, each of which is full before the
+-- next begins
 abbrev pub filled : (size count : ℕ) → List ℕ → List (List ℕ)
 filled size zero xs = []
 filled size (suc count) xs = take size xs ∷ filled size count (drop size xs)
@@ -113,19 +116,19 @@ filled size (suc count) xs = take size xs ∷ filled size count (drop size xs)
 abbrev pub witness_end : Bool → List ℕ → List Dataset
 witness_end ended object = if ended then confirmed_datasets object else []
 
--- Witness datasets for a position: records 1 and 2, the numbers of record 7, `heads` subfiles of
--- the object, each filled before the next, and 9:10 if the object has ended.
+-- Datasets that reach a position: records 1 and 2, the numbers of record 7, `heads` subfiles of the
+-- object, each full before the next begins, and 9:10 if the object has ended.
 abbrev pub plain : List Dataset → Numbers → ℕ → List ℕ → Bool → List Dataset
 plain fields numbers heads object ended = fields ++ (witness_numbers numbers ++ (subfile_datasets (filled (unwrap_or numbers.largest 0) heads object) ++ witness_end ended object))
 
 -- ---- the dataset layer
 
--- the head of partial data
+-- the head of the data in progress
 abbrev pub head_of_numbers : (section set count : ℕ) → Head
 head_of_numbers section set count = record { rec = section; set = set; count = count }
 
--- Some octets reach the partial dataset: the octets of a tag; or the data of a head, of which the
--- octets received are stored, unless they are a subfile's.
+-- What is in progress is reached by some octets: those of a tag; or the data of a head, of which
+-- the octets received are stored, unless they belong to a subfile.
 abbrev pub TagsReachPhase : ℕ → Phase → Type 0
 TagsReachPhase section (PartialTag held) = BeginsTag count_octets held
 TagsReachPhase section (PartialData set count left taken) =
@@ -134,7 +137,7 @@ TagsReachPhase section AllEnded = ⊤
 
 -- ---- the record layer
 
--- one if a subfile is partial, otherwise 0
+-- one if a subfile is in progress, otherwise 0
 abbrev pub partial_subfiles : ℕ → Phase → ℕ
 partial_subfiles section (PartialTag held) = 0
 partial_subfiles section (PartialData set count left taken) = if section == 8 then 1 else 0
@@ -153,12 +156,12 @@ phase_has_ended AllEnded = true
 
 -- Complete datasets that determine the state of the record layer: the fields, the numbers of record
 -- 7 in order, one empty subfile if any is complete, and 9:10 if the last dataset has ended. The
--- data of subfiles and the sizes do not matter to this layer.
+-- data of subfiles and the sizes do not concern this layer.
 abbrev pub record_datasets : Place → Numbers → List Dataset
 record_datasets p numbers = plain p.fields numbers (zero_or_one (p.heads - partial_subfiles p.section p.phase)) [] (phase_has_ended p.phase)
 
--- The layer can continue after the complete datasets and the partial one, and the section is the
--- record of the last head.
+-- The layer can continue after the complete datasets and the one in progress, and the section is
+-- the record of the last head.
 abbrev pub RecordsAreViable : ℕ → Phase → List Dataset → Type 0
 RecordsAreViable section (PartialTag held) ds = (section_after ds ≡ section) × AreViableSections ds
 RecordsAreViable section (PartialData set count left taken) ds = AreViableSectionsWithHead ds (head_of_numbers section set count)
@@ -166,27 +169,27 @@ RecordsAreViable section AllEnded ds = (section ≡ 9) × AreViableSections ds
 
 -- ---- the object layer
 
--- the count of a partial subfile, and how many of its octets remain
+-- the count of a subfile in progress, and the number of its octets that remain
 abbrev pub partial_subfile_of : ℕ → Phase → Option (ℕ × ℕ)
 partial_subfile_of section (PartialTag held) = None
 partial_subfile_of section (PartialData set count left taken) = if section == 8 then Some (count, left) else None
 partial_subfile_of section AllEnded = None
 
--- the position in the object after the last token: its end with the head of 9:10, and its size with
--- that value
+-- the position in the object after the last token: at its end after the head of 9:10, and after its
+-- confirmed size after that value
 abbrev pub object_after : ℕ → Phase → ℕ → objects.Place → objects.Place
 object_after section (PartialTag held) total p = p
 object_after section (PartialData set count left taken) total p = if section == 9 then objects.place_after p ObjectEnded else p
 object_after section AllEnded total p = objects.place_after (objects.place_after p ObjectEnded) (Confirmed total)
 
--- Some tokens give the object these numbers, octets and heads, and the layer can continue after
--- them.
+-- Some tokens lead to these numbers, octets and heads of the object, and the layer can continue
+-- after them.
 abbrev pub ObjectReachesPlace : Place → Type 0
 ObjectReachesPlace place = (p : objects.Place) × PlaceHasNumbers place.numbers place.taken (partial_subfile_of place.section place.phase) place.heads p
     × IsPossible (object_after place.section place.phase place.taken p)
 
--- Some octets, `place.taken` of them, reach the position in the message. If the object has ended,
--- so has the message.
+-- The position in the message is reached by some octets, `place.taken` of them. If the object has
+-- ended, the message has ended too.
 abbrev pub MessageReachesPlace : Place → Type 0
 MessageReachesPlace place = (octets : List ℕ) × (text : List ℕ) × ReachesSavedState octets text place.message × (length octets ≡ place.taken)
     × (place.section ≡ 9 → place.message.part ≡ AfterEnd)
@@ -209,26 +212,26 @@ pub record LayersReach (place : Place) : Type 0 where
 abbrev pub PlacesArePossibleByLayers : Type 0
 PlacesArePossibleByLayers = (place : Place) → Possible place ↔ LayersReach place
 
--- ---- Positions that were possible by smaller sizes: an extended count and a size have at most
--- `octets` octets, and an object at most `greatest`. The languages of the layers are the present
--- ones, without anything larger.
+-- ---- Positions that are possible under smaller size limits: an extended count and a size have at
+-- most `octets` octets, and an object has at most `greatest`. Under these limits the languages of
+-- the layers contain nothing larger.
 
 pub record Scale : Type 0 where
   pub octets : ℕ
   pub greatest : ℕ
 
--- the sizes when version 1 was current
+-- the size limits of version 1
 abbrev pub first_scale : Scale
 first_scale = record { octets = first_count_octets; greatest = first_greatest_size }
 
 -- ---- the record layer
 
--- the additional conditions of the rows of 7:20, 7:90, 7:95, 8:10 and 9:10 by the scale
+-- the additional conditions of the rows of 7:20, 7:90, 7:95, 8:10 and 9:10 under the size limits
 pub record FitsRow (s : Scale) (d : Dataset) : Type 0 where
   pub size : has_number_value d.rec ≡ true → (length d.octets ≤ s.octets) × (number d.octets ≤ s.greatest)
   pub subfile : d.rec ≡ 8 → length d.octets ≤ s.greatest
 
--- the datasets of an envelope, each within its row by the scale
+-- the datasets of an envelope, each of them within its row under the size limits
 abbrev pub SectionsIn : Scale → List Dataset → Type 0
 SectionsIn s ds = AreSections ds × AllByRecursion (FitsRow s) ds
 
@@ -246,8 +249,8 @@ abbrev pub PartialFits : Limits → List Dataset → PartialDataset → Type 0
 PartialFits limits ds (InTag held) = Unit {0}
 PartialFits limits ds (InData h taken) = HeadFits limits ds h
 
--- Every layer can continue after the octets by the scale, within the limits, and they are not an
--- envelope.
+-- Every layer can continue after the octets, under the size limits and within the limits, and they
+-- are not an envelope.
 pub record IsIncompleteAtScale (s : Scale) (limits : Limits) (octets : List ℕ) : Type 0 where
   pub whole : List Dataset
   pub begun : PartialDataset
@@ -260,7 +263,7 @@ pub record IsIncompleteAtScale (s : Scale) (limits : Limits) (octets : List ℕ)
   pub story : HasViableStory (object_so_far whole begun)
   pub unfinished : SectionsIn s whole → ⊥
 
--- The octets are an envelope by the scale, within the limits.
+-- The octets are an envelope under the size limits, within the limits.
 pub record IsEnvelopeAtScale (s : Scale) (limits : Limits) (octets : List ℕ) : Type 0 where
   pub value : Value
   pub admits : Admits octets value
@@ -269,13 +272,14 @@ pub record IsEnvelopeAtScale (s : Scale) (limits : Limits) (octets : List ℕ) :
   pub total : length (object_of admits.datasets) ≤ s.greatest
   pub within : AreWithinLimits limits admits.datasets
 
--- Some octets reach the position, and are incomplete or an envelope by the scale under the widest
--- limits.
+-- The position is reached by some octets that are incomplete or an envelope under the size limits
+-- and the widest limits.
 pub record IsPossibleAtScale (s : Scale) (place : Place) : Type 0 where
   pub octets : List ℕ
   pub leads : ReachesPlace octets place
   pub comes : IsIncompleteAtScale s widest octets ⊎ IsEnvelopeAtScale s widest octets
 
--- The position is possible in tickets of the version: in version 1 by the first scale.
+-- The position is possible in tickets of the version. In version 1 this means: under the size
+-- limits of version 1.
 abbrev pub IsPossibleInVersion : ℕ → Place → Type 0
 IsPossibleInVersion version place = Possible place × (version ≡ first_version.number → IsPossibleAtScale first_scale place)

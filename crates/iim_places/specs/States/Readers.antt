@@ -28,7 +28,7 @@ has_received_octet section AllEnded = true
 
 -- ---- the readers at a position
 
--- The reader of records has consumed the complete datasets and the partial data after them.
+-- The reader of records has consumed the complete datasets and then the data in progress.
 abbrev pub RecordsReaderIsAt : FieldsPlace → ℕ → Phase → List Dataset → Type 0
 RecordsReaderIsAt fields section (PartialTag held) ds = HasReadDatasets fields ds
 RecordsReaderIsAt fields section (PartialData set count left given) ds = IsReadingDataset fields ds (head_of_numbers section set count) given
@@ -59,7 +59,7 @@ abbrev pub FieldsReaderIsAt : Contents → FieldsPlace → Type 0
 FieldsReaderIsAt s records = (place : Place) → contents_of s.version place ≡ s → (l : LayersReach place)
     → RecordsReaderIsAt records place.section place.phase (record_datasets place l.numbers)
 
--- No position with these parts can be reached in each layer by the sizes of the version.
+-- No position with these parts can be reached in each layer under the size limits of the version.
 abbrev pub IsUnreachableInVersion : Contents → Type 0
 IsUnreachableInVersion s = (place : Place) → contents_of s.version place ≡ s → LayersReach place → (s.version ≡ 1 → IsSmallPlace place) → ⊥
 
@@ -78,8 +78,8 @@ pub record ReadersAreAt (s : Contents) (r : Readers) : Type 0 where
   pub fields_are : r.fields ≡ counted_fields place
   pub partial_is : r.begun ≡ has_received_octet place.section place.phase
 
--- The readers are at the position of the parts, and each layer can reach it by the sizes of the
--- version.
+-- The readers are at the position of the parts, and each layer can reach it under the size limits
+-- of the version.
 pub record ReadersAreAtIn (s : Contents) (r : Readers) : Type 0 where
   pub at : ReadersAreAt s r
   pub small : s.version ≡ 1 → IsSmallPlace at.place

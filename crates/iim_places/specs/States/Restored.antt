@@ -8,15 +8,15 @@ use Rattle.iim_places.specs.declared.ticket.split.TicketPhase.TheVariants.{Tag, 
 use Rattle.iim_places.specs.declared.ticket.{fault.TicketFault.TicketFault, split.TicketParts.TicketParts}
 use Rattle.iim_places.specs.declared.ticket.{split.TicketPhase.TicketPhase}
 
--- The octets are the ticket of this position, in a version in which it is possible.
+-- The octets are the ticket of this position, in a version in which the position is possible.
 pub record EncodesPlace (ticket : List ℕ) (place : Place) : Type 0 where
   pub version : ℕ
   pub is_version : IsTicketVersion version
   pub possible : IsPossibleInVersion version place
   pub spelled : ticket ≡ ticket_in_version version place
 
--- The sum of the counts in the heads of records 1 and 2 in the position, that of a partial dataset
--- included; and the number of these heads.
+-- The sum of the counts in the heads of records 1 and 2 in the position, including that of a
+-- dataset in progress, and the number of these heads.
 abbrev pub counted_octets : Place → ℕ
 counted_octets p = length (joined p.fields) + partial_count p.section p.phase
 
@@ -29,10 +29,10 @@ IsLimitFault limits octets fields HeaderFull = limits.octets < octets
 IsLimitFault limits octets fields TooManyFields = (octets ≤ limits.octets) × (limits.fields < fields)
 IsLimitFault limits octets fields _ = ⊥
 
--- Why no unpacker is restored from the octets. They do not have the form of a ticket, or have
--- another version. Or they have the form, and are the ticket of no possible position. Or the heads
--- of records 1 and 2 of that position exceed the limit on octets, or otherwise the limit on
--- datasets. Or only the allocation of memory fails.
+-- Why no unpacker is restored from the octets. They do not have the form of a ticket, or have an
+-- unknown version. Or they have the form of a ticket, but encode no possible position. Or the heads
+-- of records 1 and 2 at that position exceed the limit on octets, or otherwise the limit on
+-- datasets. Or the allocation of memory fails.
 abbrev pub IsRestoreFault : Limits → List ℕ → TicketFault → Type 0
 IsRestoreFault limits ticket TicketForm = IsTicketFormFault ticket TicketForm
 IsRestoreFault limits ticket TicketVersion = IsTicketFormFault ticket TicketVersion

@@ -14,11 +14,11 @@ pub enum TicketFault {
     /// The ticket has a version that is not supported (101).
     #[error("the ticket is of another version")]
     TicketVersion,
-    /// The octets have the form of a ticket, but no valid or incomplete envelope reaches its
-    /// position (102).
+    /// The octets have the form of a ticket, but no valid or incomplete envelope reaches the
+    /// encoded position (102).
     #[error("the ticket tells a place where no envelope can be")]
     Impossible,
-    /// The datasets of records 1 and 2, a partial one included, have more octets than the limits
+    /// The datasets of records 1 and 2, including one in progress, have more octets than the limits
     /// allow (50).
     #[error("the ticket's datasets have more octets than the limits allow")]
     HeaderFull,

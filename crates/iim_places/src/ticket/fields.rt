@@ -10,8 +10,8 @@ use crate::ticket::front::take_field;
 use std::marker::Model;
 
 /// An iterator over the datasets of records 1 and 2 that are stored in a ticket, in order. Each
-/// item is the record, the number and the data of a dataset. Contracts view it as the list of the
-/// remaining datasets.
+/// item is the record, the number and the data of a dataset. Its model in contracts is the list of
+/// the remaining datasets.
 #[derive(Drop)]
 pub struct TicketFields<'a> {
     /// The encoding of the remaining datasets.
@@ -38,7 +38,7 @@ pub(crate) fn iterate(octets: &[u8]) -> TicketFields<'_>
 }
 
 impl<'a> TicketFields<'a> {
-    /// Returns another iterator over the remaining datasets.
+    /// Returns a copy of the iterator.
     pub fn again(&self) -> TicketFields<'a>
         ensures { result ≡ self.now }
     {

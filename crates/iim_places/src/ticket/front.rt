@@ -1,4 +1,4 @@
-//! Functions that parse one item at the start of a slice: a number, a text, a dataset.
+//! Parses one item at the start of a slice: a number, a text or a dataset.
 
 ghost use Rattle.std.specs.Prelude.{◌≡◌, ◌^◌, ◌<◌, ◌++◌, ◌∷◌, [], length, IfSome, IfNone};
 ghost use Rattle.iim_places.specs.Format.Tickets.{four, wide, field_octets, number_octets, text_octets};
@@ -21,7 +21,7 @@ pub(crate) fn take_front(octets: &[u8], count: u64) -> Option<(&[u8], &[u8])>
     Some(octets.split_at(count as usize))
 }
 
-/// Splits off the first octet. Returns `None` if there is none.
+/// Splits off the first octet. Returns `None` if the slice is empty.
 pub(crate) fn take_octet(octets: &[u8]) -> Option<(u8, &[u8])>
     ensures parts { IfSome result (λ r. octets.now ≡ r.0 ∷ r.1.now) }
     ensures none { IfNone result (octets.now ≡ []) }
@@ -30,7 +30,7 @@ pub(crate) fn take_octet(octets: &[u8]) -> Option<(u8, &[u8])>
     Some((*octet, rest))
 }
 
-/// Returns the number that four octets encode, high octet first.
+/// Decodes a number of four octets, high octet first.
 fn number_of(octets: &[u8]) -> u64
     requires { length octets.now ≡ 4 }
     ensures is { four result ≡ octets.now }
@@ -40,7 +40,7 @@ fn number_of(octets: &[u8]) -> u64
     u64::from(number)
 }
 
-/// Parses a number of four octets, high octet first. Returns it and the rest.
+/// Parses a number of four octets, high octet first. Returns the number and the rest.
 pub(crate) fn take_number(octets: &[u8]) -> Option<(u64, &[u8])>
     ensures parts { IfSome result (λ r. octets.now ≡ four r.0 ++ r.1.now) }
     ensures fits { IfSome result (λ r. r.0 < 2 ^ 32) }
@@ -50,7 +50,7 @@ pub(crate) fn take_number(octets: &[u8]) -> Option<(u64, &[u8])>
     Some((number_of(number), rest))
 }
 
-/// Returns the number that eight octets encode, high octet first.
+/// Decodes a number of eight octets, high octet first.
 fn eight_octet_number(octets: &[u8]) -> u64
     requires { length octets.now ≡ 8 }
     ensures is { to_be_bytes w64 result ≡ octets.now }
@@ -60,7 +60,7 @@ fn eight_octet_number(octets: &[u8]) -> u64
     ])
 }
 
-/// Parses a number of eight octets, high octet first. Returns it and the rest.
+/// Parses a number of eight octets, high octet first. Returns the number and the rest.
 fn take_eight(octets: &[u8]) -> Option<(u64, &[u8])>
     ensures parts { IfSome result (λ r. octets.now ≡ to_be_bytes w64 r.0 ++ r.1.now) }
     ensures none { IfNone result (length octets.now < 8) }
@@ -69,7 +69,8 @@ fn take_eight(octets: &[u8]) -> Option<(u64, &[u8])>
     Some((eight_octet_number(number), rest))
 }
 
-/// Parses a number of the version's width, high octet first. Returns it and the rest.
+/// Parses a number of four octets in version 1, and of eight in version 2, high octet first.
+/// Returns the number and the rest.
 pub(crate) fn take_wide(version: u8, octets: &[u8]) -> Option<(u64, &[u8])>
     ensures parts { IfSome result (λ r. octets.now ≡ wide version r.0 ++ r.1.now) }
     ensures fits { IfSome result (λ r. FitsWidth version r.0) }
@@ -81,7 +82,7 @@ pub(crate) fn take_wide(version: u8, octets: &[u8]) -> Option<(u64, &[u8])>
     take_eight(octets)
 }
 
-/// Parses a text after its length in one octet. Returns it and the rest.
+/// Parses a text, which follows its length in one octet. Returns the text and the rest.
 pub(crate) fn take_text(octets: &[u8]) -> Option<(&[u8], &[u8])>
     ensures parts { IfSome result (λ r. octets.now ≡ text_octets r.0.now ++ r.1.now) }
     ensures fits { IfSome result (λ r. IsShortText r.0.now) }
@@ -91,7 +92,8 @@ pub(crate) fn take_text(octets: &[u8]) -> Option<(&[u8], &[u8])>
     take_front(rest, u64::from(length))
 }
 
-/// Parses an optional number: a mark, 0 or 1, then after 1 the number. Returns it and the rest.
+/// Parses an optional number: an octet 0 for a missing number, or an octet 1 and the number.
+/// Returns the number and the rest.
 pub(crate) fn take_option(version: u8, octets: &[u8]) -> Option<(Option<u64>, &[u8])>
     ensures parts { IfSome result (λ r. octets.now ≡ number_octets version r.0 ++ r.1.now) }
     ensures fits { IfSome result (λ r. IsOptionalIn version r.0) }
@@ -108,7 +110,8 @@ pub(crate) fn take_option(version: u8, octets: &[u8]) -> Option<(Option<u64>, &[
     }
 }
 
-/// Parses a dataset: its record, number, length in four octets, and data. Returns it and the rest.
+/// Parses a dataset: its record, its number, its length in four octets, and its data. Returns the
+/// dataset and the rest.
 pub(crate) fn take_field(octets: &[u8]) -> Option<((u8, u8, &[u8]), &[u8])>
     ensures parts { IfSome result (λ r. octets.now ≡ field_octets (dataset r.0.0 r.0.1 r.0.2.now) ++ r.1.now) }
     ensures fits { IfSome result (λ r. length r.0.2.now < 2 ^ 32) }

@@ -1,4 +1,4 @@
-//! The object reader at the position of a ticket.
+//! Restores the object reader at the position of a ticket.
 
 ghost use Rattle.std.specs.Prelude.{◌≡◌, Some, None, IsSome, IfSome, IfNone};
 ghost use Rattle.iim_object.specs.Format.Objects.{ObjectEnded, Confirmed, Place, MayFollow, place_after};
@@ -39,8 +39,8 @@ impl ObjectSink for NullObjectSink {
     }
 }
 
-/// Returns the count of a partial subfile and how many of its octets remain, or `None` if no
-/// subfile is partial.
+/// Returns the count of the subfile in progress and the number of its octets that remain, or `None`
+/// if no subfile is in progress.
 fn partial_subfile(section: u8, phase: &TicketPhase<'_>) -> Option<(u64, u64)>
     ensures { result ≡ partial_subfile_of section (phase_of_ticket phase.now) }
 {
@@ -67,7 +67,7 @@ fn ended(object: ObjectReader) -> Option<ObjectReader>
     }
 }
 
-/// Returns the reader after the confirmed size, or `None` if the object layer rejects it.
+/// Returns the reader after the confirmed size, or `None` if the object layer rejects that size.
 fn confirmed(object: ObjectReader, size: u64) -> Option<ObjectReader>
     requires { IsSome object }
     ensures calls { IfSome result IsSome }
@@ -85,7 +85,7 @@ fn confirmed(object: ObjectReader, size: u64) -> Option<ObjectReader>
 }
 
 /// Returns the reader of an object that has ended, after these numbers of record 7, `taken` octets
-/// and `heads` heads. Returns `None` if no input reaches that state.
+/// and `heads` heads of subfiles. Returns `None` if no input reaches that state.
 fn ended_at(numbers: [Option<u64>; 4], taken: u64, heads: u64) -> Option<ObjectReader>
     ensures calls { IfSome result IsSome }
     ensures leads { IfSome result (λ r. (p : Place) × PlaceHasNumbers numbers taken None heads p
@@ -105,7 +105,7 @@ fn ended_at(numbers: [Option<u64>; 4], taken: u64, heads: u64) -> Option<ObjectR
 }
 
 /// Returns the reader of an object whose size is confirmed, after these numbers of record 7,
-/// `taken` octets and `heads` heads. Returns `None` if no input reaches that state.
+/// `taken` octets and `heads` heads of subfiles. Returns `None` if no input reaches that state.
 fn confirmed_at(numbers: [Option<u64>; 4], taken: u64, heads: u64) -> Option<ObjectReader>
     ensures calls { IfSome result IsSome }
     ensures leads { IfSome result (λ r. (p : Place) × PlaceHasNumbers numbers taken None heads p
@@ -121,9 +121,9 @@ fn confirmed_at(numbers: [Option<u64>; 4], taken: u64, heads: u64) -> Option<Obj
     confirmed(object, taken)
 }
 
-/// Returns the reader of the object after these numbers of record 7, `taken` octets, `heads` heads,
-/// and the partial dataset of `phase` in record `section`. Returns `None` if no input reaches that
-/// state.
+/// Returns the reader of the object after these numbers of record 7, `taken` octets, `heads` heads
+/// of subfiles, and what `phase` has in progress in record `section`. Returns `None` if no input
+/// reaches that state.
 pub(crate) fn object_at(
     section: u8,
     phase: &TicketPhase<'_>,

@@ -1,4 +1,4 @@
-//! Whether the position of a ticket is reachable, and the readers there.
+//! Checks whether the position of a ticket is reachable, and restores the readers at that position.
 
 ghost use Rattle.iim_dataset.specs.Format.Datasets.{BeginsTag, count_octets};
 ghost use Rattle.iim_fields.specs.Format.Records.{has_number_value, IsWithin};
@@ -35,8 +35,7 @@ pub struct Readers {
     pub object: ObjectReader,
     /// The reader of the message.
     pub message: MessageReader,
-    /// How many octets the heads of records 1 and 2 announce in total, that of a partial dataset
-    /// included.
+    /// The total count of the heads of records 1 and 2 so far, in octets.
     pub octets: u32,
     /// The number of these heads.
     pub fields: u32,
@@ -46,7 +45,7 @@ pub struct Readers {
 
 impl Readers {
     /// Returns the limit that the heads of records 1 and 2 exceed, or `None`. The limit on octets
-    /// is checked first, then that on the number of datasets.
+    /// is checked before the limit on the number of datasets.
     pub fn limit_fault(&self, limits: Limits) -> Option<TicketFault>
         ensures some { IfSome result (IsLimitFault limits self.now.octets self.now.fields) }
         ensures none { IfNone result (IsWithin limits self.now.octets self.now.fields) }
@@ -60,8 +59,8 @@ impl Readers {
     }
 }
 
-/// Returns the total size of the data and the number of datasets, or `None` if either exceeds 32
-/// bits.
+/// Returns the total length of the data in octets and the number of datasets, or `None` if either
+/// exceeds 32 bits.
 fn count_fields(fields: TicketFields<'_>) -> Option<(u32, u32)>
     ensures some { IfSome result (λ r. (r.0 ≡ length (joined fields.entry)) × (r.1 ≡ length fields.entry)) }
     ensures none { IfNone result (IsWithin widest (length (joined fields.entry)) (length fields.entry) → ⊥) }
@@ -76,8 +75,9 @@ fn count_fields(fields: TicketFields<'_>) -> Option<(u32, u32)>
     Some((octets, count))
 }
 
-/// Returns the total size and the number of the datasets, including a partial dataset of records 1
-/// and 2 with the whole count of its head. Returns `None` if either exceeds 32 bits.
+/// Returns the total length and the number of the datasets of records 1 and 2. A dataset in
+/// progress is included with the whole count of its head. Returns `None` if either number exceeds
+/// 32 bits.
 fn told(section: u8, phase: &TicketPhase<'_>, fields: TicketFields<'_>) -> Option<(u32, u32)>
     ensures some { IfSome result (λ r. (r.0 ≡ length (joined fields.entry) + partial_count section
         (phase_of_ticket phase.now))
@@ -106,7 +106,7 @@ pub(crate) fn has_complete_subfile(section: u8, phase: &TicketPhase<'_>, heads: 
     }
 }
 
-/// Checks whether the message has ended if the object has.
+/// Checks that the message has ended if the object has ended.
 fn message_has_ended_with_object(section: u8, part: u8) -> bool
     ensures ends { IsTrue result → section ≡ 9 → part ≡ 11 }
     ensures apart { result ≡ false → (section ≡ 9) × (part ≡ 11 → ⊥) }
@@ -114,8 +114,8 @@ fn message_has_ended_with_object(section: u8, part: u8) -> bool
     section != POST_OBJECT || part == part_number(MessagePart::AfterEnd)
 }
 
-/// Returns the readers at the position of a ticket's parts. Returns `None` if no input reaches it
-/// that is incomplete or an envelope by the sizes of the present version.
+/// Returns the readers at the position of a ticket's parts. Returns `None` if no incomplete or
+/// complete envelope reaches that position under the size limits of the current version.
 fn readers_by_layers(parts: &TicketParts<'_>) -> Option<Readers>
     requires { HasForm (contents_from parts.now) }
     ensures some { IfSome result (λ r. ReadersAreAt (contents_from parts.now) r) }
@@ -155,13 +155,13 @@ fn readers_by_layers(parts: &TicketParts<'_>) -> Option<Readers>
     })
 }
 
-/// The maximum length of a count or a size, in octets, when version 1 was current.
+/// The maximum number of octets of a count or a size in version 1.
 const FIRST_COUNT_OCTETS: u8 = 4;
 
-/// The maximum size of an object when version 1 was current, in octets.
+/// The maximum size of an object in version 1, in octets.
 const FIRST_GREATEST_SIZE: u64 = 4_294_967_295;
 
-/// Checks whether the prefix of a tag begins one whose count has at most that length.
+/// Checks whether the prefix of a tag is possible with the counts of version 1.
 fn is_small_tag(held: &[u8]) -> bool
     requires { BeginsTag count_octets held.now }
     ensures { IsTrue result ↔ BeginsTag first_count_octets held.now }
@@ -175,8 +175,9 @@ fn is_small_tag(held: &[u8]) -> bool
     held[4] <= FIRST_COUNT_OCTETS
 }
 
-/// Checks whether partial data with this count, of which `left` octets remain, were possible by
-/// those sizes after `taken` octets of the object.
+/// Checks whether data in progress are possible with the sizes of version 1: `count` is their
+/// length, `left` is the number of octets that remain, and `taken` is the number of octets of the
+/// object before.
 fn is_small_data(section: u8, taken: u64, count: u64, left: u64) -> bool
     ensures { IsTrue result ↔ ((has_number_value section ≡ true → count ≤ first_count_octets)
         × (section ≡ 8 → (count ≤ first_greatest_size) × (taken + left ≤ first_greatest_size))) }
@@ -192,7 +193,7 @@ fn is_small_data(section: u8, taken: u64, count: u64, left: u64) -> bool
     }
 }
 
-/// Checks whether the partial dataset was possible by those sizes.
+/// Checks whether the dataset in progress is possible with the sizes of version 1.
 fn is_small(section: u8, taken: u64, phase: &TicketPhase<'_>) -> bool
     requires { TagsReachPhase section (phase_of_ticket phase.now) }
     ensures { IsTrue result ↔ IsSmallPhase section taken (phase_of_ticket phase.now) }
@@ -204,8 +205,8 @@ fn is_small(section: u8, taken: u64, phase: &TicketPhase<'_>) -> bool
     }
 }
 
-/// Returns the readers at the position of a ticket's parts. Returns `None` if no input reaches it
-/// that is incomplete or an envelope by the sizes of the ticket's version.
+/// Returns the readers at the position of a ticket's parts. Returns `None` if no incomplete or
+/// complete envelope reaches that position under the size limits of the ticket's version.
 pub fn readers_at(parts: &TicketParts<'_>) -> Option<Readers>
     requires { HasForm (contents_from parts.now) }
     ensures some { IfSome result (λ r. ReadersAreAtIn (contents_from parts.now) r) }

@@ -1,4 +1,4 @@
-//! The readers at the position of a ticket, except that of the records that it stores.
+//! Restores the readers at the position of a ticket, except the reader of the records.
 
 ghost use Rattle.std.specs.Prelude.{◌≡◌, ◌↔◌, ◌<◌, ℕ, List, length, map, IsSome, IfSome, IfNone, IsTrue, false};
 ghost use Rattle.iim_dataset.specs.Format.Datasets.{Dataset};
@@ -28,12 +28,12 @@ use iim_fields::RecordCheck;
 use iim_tables::records::POST_OBJECT;
 use wire_message::{MessagePart, MessagePlace, MessageReader};
 
-/// Proves that the items of a slice of octets are octets.
+/// Proves that each item of a slice of octets is less than 256.
 fn are_octets(octets: &[u8])
     ensures { Octets octets.now }
 {}
 
-/// Copies the octets into an array, or returns `None` if they exceed its capacity.
+/// Copies the octets into an array. Returns `None` if they exceed the capacity of the array.
 fn copy_if_fits<const ROOM: usize>(octets: &[u8]) -> Option<ArrayVec<u8, ROOM>>
     ensures some { IfSome result (λ array. array.items ≡ octets.now) }
     ensures none { IfNone result (ROOM < length octets.now) }
@@ -41,8 +41,8 @@ fn copy_if_fits<const ROOM: usize>(octets: &[u8]) -> Option<ArrayVec<u8, ROOM>>
     ArrayVec::try_from(octets).ok()
 }
 
-/// Returns the reader of tags in the partial dataset of `phase`, after a head of record `section`,
-/// or `None` if no input reaches that state.
+/// Returns the reader of tags at the position that `phase` describes, after a head of record
+/// `section`. Returns `None` if no input reaches that state.
 pub(crate) fn tags_at(section: u8, phase: &TicketPhase<'_>) -> Option<HeadReader>
     requires { IsTicketPhase present_version section (phase_of_ticket phase.now) }
     ensures calls { IfSome result DatasetReaderAccepts }
@@ -88,8 +88,8 @@ pub(crate) fn has_received_octet(section: u8, phase: &TicketPhase<'_>) -> bool
     }
 }
 
-/// Checks whether the record layer can continue with the partial dataset of `phase`, after the
-/// datasets that `check` has consumed.
+/// Checks whether the record layer can continue with the dataset in progress, after the datasets
+/// that `check` has consumed.
 fn can_continue(check: &mut RecordCheck, section: u8, phase: &TicketPhase<'_>) -> bool
     requires { AcceptsHead check.old }
     ensures lives { IsTrue result → (ds : List Dataset) → HasChecked check.old ds
@@ -112,7 +112,7 @@ fn can_continue(check: &mut RecordCheck, section: u8, phase: &TicketPhase<'_>) -
 }
 
 /// Checks whether the record layer accepts these fields, these numbers of record 7, a subfile if
-/// `some` are complete, 9:10 if the object has ended, and then the partial dataset of `phase`.
+/// `some` subfiles are complete, 9:10 if the object has ended, and then the dataset in progress.
 pub(crate) fn records_are_reached(
     section: u8,
     phase: &TicketPhase<'_>,
@@ -177,7 +177,7 @@ fn message_part(number: u8) -> Option<MessagePart>
 }
 
 /// Returns the position within a message with this part, counter, flag and texts. Returns `None` if
-/// a text is too long or the part does not exist, so that no input reaches the position.
+/// the part does not exist or a text is too long, since no input reaches such a position.
 fn message_place(part: u8, counter: u8, flag: u8, texts: &[&[u8]; 7]) -> Option<MessagePlace>
     ensures some { IfSome result (HasMessageParts part counter flag (map (λ t. t.now) texts.now)) }
     ensures none { IfNone result ((m : MessagePlaceValue) (octets text : List ℕ)
@@ -198,7 +198,7 @@ fn message_place(part: u8, counter: u8, flag: u8, texts: &[&[u8]; 7]) -> Option<
     })
 }
 
-/// Checks whether the number is at least `least`, and at most `greatest` if that is given.
+/// Checks whether `count` is at least `least` and, if `greatest` is given, at most `greatest`.
 fn is_between(least: u64, greatest: Option<u64>, count: u64) -> bool
     ensures { IsTrue result ↔ IsPossibleLength least greatest count }
 {

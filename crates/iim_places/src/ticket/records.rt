@@ -1,4 +1,4 @@
-//! The reader of the records that are stored in a ticket.
+//! Restores the reader of the records at the position of a ticket.
 
 ghost use Rattle.std.specs.Prelude.{◌≡◌, ◌+◌, List, length, IfOk};
 ghost use Rattle.iim_dataset.specs.Format.Datasets.{Dataset};
@@ -22,8 +22,8 @@ use iim_fields::{Fields, Limits};
 use iim_tables::records::OBJECT;
 use std::alloc::{AllocError, Global};
 
-/// Passes the partial dataset of `phase`, in record `section`, to the reader: its head, and the
-/// data received. The data of a subfile are not stored.
+/// Passes the dataset in progress in record `section` to the reader: its head, and the data
+/// received. The data of a subfile are not passed.
 fn take_phase(records: &mut Fields, section: u8, phase: &TicketPhase<'_>)
     requires stands { (ds : List Dataset) × HasReadDatasets records.old ds × RecordsAreViable section
         (phase_of_ticket phase.now) ds
@@ -57,7 +57,7 @@ fn take_phase(records: &mut Fields, section: u8, phase: &TicketPhase<'_>)
 }
 
 /// Returns the reader of the records at a ticket's position. Allocates exactly the memory that the
-/// limits require; an error means that the allocation failed.
+/// limits require. Returns an error if the allocation fails.
 fn records_at(
     alloc: Global,
     limits: Limits,
@@ -89,7 +89,7 @@ fn records_at(
 }
 
 /// Returns the reader of the records at the position of a ticket's parts. Allocates exactly the
-/// memory that the limits require; an error means that the allocation failed.
+/// memory that the limits require. Returns an error if the allocation fails.
 pub fn fields_at(
     alloc: Global,
     limits: Limits,

@@ -1,4 +1,4 @@
-//! Parses the parts of a ticket, without a copy.
+//! Splits a ticket into its parts, without copying.
 
 ghost use Rattle.std.specs.Prelude.{◌≡◌, ◌<◌, ◌+◌, ◌++◌, ◌∷◌, length, map, IfSome, IfNone, IfOk, IfErr};
 ghost use Rattle.std.specs.List.{flat_map};
@@ -19,48 +19,48 @@ use iim_tables::records::OBJECT;
 /// The magic number at the start of each ticket.
 const NAME: &[u8] = b"IIMT";
 
-/// The partial dataset at the position that a ticket encodes.
+/// What is in progress at the position that a ticket encodes.
 #[derive(Drop)]
 pub enum TicketPhase<'a> {
-    /// A tag, with its octets received so far. They are empty between datasets.
+    /// A tag, with the octets received so far. There are none between datasets.
     Tag(&'a [u8]),
     /// The data of a dataset.
     Data {
         /// The number of the dataset.
         set: u8,
-        /// The count of its head, in octets.
+        /// The length of the data in octets, as in the head.
         count: u64,
-        /// How many of these octets remain.
+        /// The number of these octets that remain.
         left: u64,
-        /// The octets received so far. They are empty for a subfile.
+        /// The octets received so far. They are not stored for a subfile.
         taken: &'a [u8],
     },
     /// No dataset: the last one has ended.
     Ended,
 }
 
-/// The parts of a ticket. They do not prove that any input reaches such a position.
+/// The parts of a ticket. There may be no input that reaches the position that they describe.
 #[derive(Drop)]
 pub struct TicketParts<'a> {
     /// The version.
     pub version: u8,
     /// The record of the last head.
     pub section: u8,
-    /// The partial dataset.
+    /// What is in progress.
     pub phase: TicketPhase<'a>,
     /// The datasets of records 1 and 2.
     pub fields: TicketFields<'a>,
     /// The numbers of 7:10, 7:20, 7:90 and 7:95.
     pub numbers: [Option<u64>; 4],
-    /// How many octets of the object were received.
+    /// The number of octets of the object that were received.
     pub taken: u64,
-    /// How many heads of 8:10 were received.
+    /// The number of heads of 8:10 that were received.
     pub heads: u64,
-    /// The number of the part of the message.
+    /// The number of the part of the message that the input has reached.
     pub part: u8,
-    /// The counter of the message's position.
+    /// The counter of the position within the message.
     pub counter: u8,
-    /// The flag of the message's position.
+    /// The flag of the position within the message.
     pub flag: u8,
     /// Source, number, priority, category, words, info and trailer, as far as they were received.
     pub texts: [&'a [u8]; 7],
@@ -100,7 +100,7 @@ fn max_partial_tag(version: u8) -> usize
     if version == FIRST_VERSION { 8 } else { 12 }
 }
 
-/// Parses the octets of an incomplete tag. Returns them and the rest.
+/// Parses the octets of an incomplete tag. Returns these octets and the rest.
 fn take_partial_tag(version: u8, octets: &[u8]) -> Option<(&[u8], &[u8])>
     ensures parts { IfSome result (λ r. octets.now ≡ text_octets r.0.now ++ r.1.now) }
     ensures fits { IfSome result (λ r. length r.0.now < 5 + width version) }
@@ -113,7 +113,7 @@ fn take_partial_tag(version: u8, octets: &[u8]) -> Option<(&[u8], &[u8])>
     Some((held, rest))
 }
 
-/// Parses partial data. Returns them and the rest.
+/// Parses data in progress. Returns them and the rest of the ticket.
 fn take_data(version: u8, section: u8, octets: &[u8]) -> Option<(TicketPhase<'_>, &[u8])>
     ensures parts { IfSome result (λ r. 1 ∷ octets.now ≡ phase_octets version (phase_of_ticket r.0) ++ r.1.now) }
     ensures fits { IfSome result (λ r. IsTicketPhase version section (phase_of_ticket r.0)) }
@@ -136,7 +136,7 @@ fn take_data(version: u8, section: u8, octets: &[u8]) -> Option<(TicketPhase<'_>
     Some((phase, rest))
 }
 
-/// Parses the partial dataset. Returns it and the rest.
+/// Parses what is in progress. Returns it and the rest of the ticket.
 fn take_phase(version: u8, section: u8, octets: &[u8]) -> Option<(TicketPhase<'_>, &[u8])>
     ensures parts { IfSome result (λ r. octets.now ≡ phase_octets version (phase_of_ticket r.0) ++ r.1.now) }
     ensures fits { IfSome result (λ r. IsTicketPhase version section (phase_of_ticket r.0)) }
@@ -260,16 +260,17 @@ fn read_body(version: u8, octets: &[u8]) -> Option<TicketParts<'_>>
     })
 }
 
-/// Parses a ticket without a copy. Allocates nothing, and does not check whether any input reaches
-/// the position.
+/// Splits a ticket into its parts without copying. Allocates nothing, and does not check whether
+/// any input reaches the position.
 ///
-/// **Errors:** [`TicketFault::TicketVersion`] if the octets begin with a ticket's name and another
-/// version. [`TicketFault::TicketForm`] for all other octets that do not have the form of a ticket:
+/// **Errors:** [`TicketFault::TicketVersion`] if the octets begin with the name of a ticket and an
+/// unknown version. [`TicketFault::TicketForm`] for all other octets that do not have the form of a
+/// ticket:
 ///
 /// - a part is incomplete, or octets are left over;
-/// - the kind of the partial dataset is not 0, 1 or 2;
+/// - the kind of what is in progress is not 0, 1 or 2;
 /// - an incomplete tag is longer than the version allows;
-/// - more octets of data remain than their count;
+/// - the number of octets of data that remain exceeds their count;
 /// - the mark of a number of record 7 is not 0 or 1.
 pub fn split_ticket(ticket: &[u8]) -> Result<TicketParts<'_>, TicketFault>
     ensures parts { IfOk result (λ parts. HasContents ticket.now (contents_from parts)) }

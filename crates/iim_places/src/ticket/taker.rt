@@ -20,22 +20,22 @@ use iim_tables::records::{
     PRE_OBJECT, SIZE_MODE, SUBFILE,
 };
 
-/// A consumer of the datasets of an envelope, each with its complete data.
+/// A consumer of the datasets of an envelope. Each dataset is passed with its complete data.
 pub(crate) trait DatasetTaker {
-    /// It can accept a dataset.
+    /// The consumer can accept a dataset.
     ghost ready: { Self → Type 0 };
 
-    /// It has consumed exactly these datasets.
+    /// The consumer has accepted exactly these datasets.
     ghost stands: { Self → List Dataset → Type 0 };
 
-    /// The limits that it enforces.
+    /// The limits that the consumer enforces.
     ghost limits: { Self → LimitsValue };
 
-    /// Its capacity.
+    /// The capacity of the consumer.
     ghost room: { Self → Room };
 
-    /// Consumes a dataset. Returns `false` if no datasets within the limits can continue with it.
-    /// Allocates nothing.
+    /// Accepts a dataset. Returns `false` if the datasets including this one are no longer a viable
+    /// prefix, or exceed the limits. Allocates nothing.
     fn take(&mut self, rec: u8, set: u8, octets: &[u8]) -> bool
         requires { ready self.old }
         ensures took { ConsumesEach ready stands limits self.old (dataset rec set octets.now ∷ []) self.new result }
@@ -47,7 +47,7 @@ impl DatasetTaker for RecordCheck {
 
     ghost stands = { checks.HasChecked };
 
-    // No limit is enforced: the widest limits add nothing to the rules of the records.
+    // A check enforces no limit: the widest limits add nothing to the rules of the records.
     ghost limits = { λ _. widest };
 
     // A check stores nothing.
@@ -116,7 +116,7 @@ fn take_fields<T: DatasetTaker>(taker: &mut T, fields: TicketFields<'_>) -> bool
     true
 }
 
-/// Passes the mode, 7:10, to `taker` if there is one.
+/// Passes the mode, 7:10, to `taker`, if there is a mode.
 fn take_mode<T: DatasetTaker>(taker: &mut T, mode: Option<u64>) -> bool
     requires { T.ready taker.old }
     ensures took { ConsumesEach T.ready T.stands T.limits taker.old (dataset_if mode_dataset mode) taker.new result }
@@ -129,7 +129,7 @@ fn take_mode<T: DatasetTaker>(taker: &mut T, mode: Option<u64>) -> bool
     }
 }
 
-/// Passes the size 7:`set` to `taker` if there is one.
+/// Passes the size 7:`set` to `taker`, if there is such a size.
 fn take_size<T: DatasetTaker>(taker: &mut T, set: u8, size: Option<u64>) -> bool
     requires ready { T.ready taker.old }
     requires fits { IsAbsentOrSize size }
@@ -195,7 +195,8 @@ fn take_records<T: DatasetTaker>(
     take_fields(taker, fields) && take_numbers(taker, numbers)
 }
 
-/// Passes an empty subfile to `taker` if `some` are complete, and 9:10 if the object has ended.
+/// Passes an empty subfile to `taker` if `some` subfiles are complete, and 9:10 if the object has
+/// ended.
 fn take_object<T: DatasetTaker>(taker: &mut T, some: bool, ended: bool) -> bool
     requires { T.ready taker.old }
     ensures took { ConsumesEach T.ready T.stands T.limits taker.old
@@ -206,8 +207,8 @@ fn take_object<T: DatasetTaker>(taker: &mut T, some: bool, ended: bool) -> bool
 }
 
 /// Passes to `taker` the datasets that determine the state of the record layer at a ticket's
-/// position: the fields, the numbers of record 7, an empty subfile if `some` are complete, and 9:10
-/// if the object has ended.
+/// position: the fields, the numbers of record 7, an empty subfile if `some` subfiles are complete,
+/// and 9:10 if the object has ended.
 pub(crate) fn pass_state<T: DatasetTaker>(
     taker: &mut T,
     fields: TicketFields<'_>,

@@ -3,7 +3,8 @@ use Rattle.std.specs.Prelude.{ℕ, List, codes}
 use Rattle.iim_places.specs.Format.Causes.{cause_number, cause_name, refusal_text}
 use Rattle.iim_round_trip.specs.Format.RoundTrip.{UnpackFault, OutOfMemory, Refused}
 
--- The number of the cause for which nothing was unpacked. A refusal has the number of its cause.
+-- The number of the cause for which nothing was unpacked. For a refusal, it is the number of its
+-- cause.
 abbrev pub unpack_fault_number : UnpackFault → ℕ
 unpack_fault_number OutOfMemory = 70
 unpack_fault_number (Refused e) = cause_number e.cause

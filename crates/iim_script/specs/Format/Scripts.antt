@@ -1,5 +1,5 @@
--- The format of scripts: their lines, the forms of these, their contents, and what is printed of an
--- envelope.
+-- The format of scripts: their lines, the forms of lines, and their contents; and the printed form
+-- of an envelope.
 use Rattle.std.specs.Prelude.{◌≡◌, ℕ, ◌==◌, false, ◌⊎◌, List, [], ◌∷◌, ◌++◌, ◌≢◌, ◌+◌, ◌*◌, ◌<◌, ◌≤◌, ◌-◌, get_or, IsTrue, length, codes, None}
 use Rattle.std.specs.List.{AllByRecursion, list_all, flat_map, join_with_byte}
 use Rattle.iim_dataset.specs.Format.Octets.{lf, cr, sp, digit_zero, capital_a, small_a, backslash, small_x, colon, is_digit}
@@ -12,29 +12,30 @@ use Rattle.wire_story.specs.Format.{Texts.IsLine, Texts.delivered, Packing.lines
 abbrev pub Lacks : ℕ → List ℕ → Type 0
 Lacks b xs = AllByRecursion (λ x. (x == b) ≡ false) xs
 
--- `front` is the octets without this one at their end; or all of them, if this is not their last.
+-- `front` is the octets without this octet at their end; or all of the octets, if they do not end
+-- with it.
 abbrev pub WithoutLast : ℕ → List ℕ → List ℕ → Type 0
 WithoutLast b octets front = (octets ≡ front ++ b ∷ []) ⊎ ((octets ≡ front) × ((before : List ℕ) → octets ≡ before ++ b ∷ [] → ⊥))
 
--- The octets begin with the line and its end, followed by `after`. LF ends the line, and one CR
--- right before it is not part of the line.
+-- The octets begin with the line and its line end, followed by `after`. The line end is LF, or CR
+-- LF.
 pub record NextLine (octets line after : List ℕ) : Type 0 where
   pub ended : List ℕ
   pub no_feed : Lacks lf ended
   pub is_line : WithoutLast cr ended line
   pub parts : octets ≡ ended ++ lf ∷ after
 
--- The octets begin with the lines, each with its end, followed by `after`.
+-- The octets begin with these lines and their line ends, followed by `after`.
 abbrev pub NextLines : List ℕ → List (List ℕ) → List ℕ → Type 0
 NextLines octets [] after = octets ≡ after
 NextLines octets (line ∷ lines) after = (rest : List ℕ) × NextLine octets line rest × NextLines rest lines after
 
--- The digit is one of `many` from `first` on, the first of which has the value `least`; its own
--- value is `value`.
+-- The digit is in the range of `many` octets from `first` on, of which the first has the value
+-- `least`. The value of the digit is `value`.
 abbrev pub IsDigitFrom : ℕ → ℕ → ℕ → ℕ → ℕ → Type 0
 IsDigitFrom first least many digit value = (first ≤ digit) × (digit < first + many) × (digit + least ≡ first + value)
 
--- The digit has this value in hexadecimal: ten octets from 0 on, six from A on, or six from a on.
+-- The digit has this value in hexadecimal: it is from 0 to 9, from A to F, or from a to f.
 abbrev pub IsHexDigit : ℕ → ℕ → Type 0
 IsHexDigit digit value = IsDigitFrom digit_zero 0 10 digit value ⊎ (IsDigitFrom capital_a 10 6 digit value ⊎ IsDigitFrom small_a 10 6 digit value)
 
@@ -53,14 +54,14 @@ abbrev pub EncodesOctets : List ℕ → List ℕ → Type 0
 EncodesOctets text [] = text ≡ []
 EncodesOctets text (octet ∷ octets) = (rest : List ℕ) × BeginsWith text octet rest × EncodesOctets rest octets
 
--- What ends a line: nothing, for no octets; otherwise SP, and a text of at least one octet.
+-- The end of a line: nothing, for no octets; otherwise SP, and a text of at least one octet.
 abbrev pub EndsWith : List ℕ → List ℕ → Type 0
 EndsWith end [] = end ≡ []
 EndsWith end (octet ∷ octets) = (text : List ℕ) × (end ≡ sp ∷ text) × EncodesOctets text (octet ∷ octets)
 
 -- ---- The forms of a script's lines.
 
--- the number of the decimal digits, after digits whose number is `n`
+-- the number of the decimal digits, which follow digits with the number `n`
 abbrev pub decimal_from : ℕ → List ℕ → ℕ
 decimal_from n [] = n
 decimal_from n (digit ∷ digits) = decimal_from (n * 10 + (digit - digit_zero)) digits
@@ -73,7 +74,7 @@ pub record EncodesNumber (digits : List ℕ) (n : ℕ) : Type 0 where
   pub value : n ≡ decimal_from 0 digits
   pub fits : n ≤ 255
 
--- The line is `R:D`, and the rest, which does not begin with a digit.
+-- The line begins with `R:D`. The rest does not begin with a digit.
 pub record BeginsWithName (line : List ℕ) (rec set : ℕ) (end : List ℕ) : Type 0 where
   pub rec_digits : List ℕ
   pub set_digits : List ℕ
@@ -82,13 +83,13 @@ pub record BeginsWithName (line : List ℕ) (rec set : ℕ) (end : List ℕ) : T
   pub undigited : is_digit (get_or end 0 0) ≡ false
   pub line_is : line ≡ rec_digits ++ (colon ∷ set_digits ++ end)
 
--- A line `R:D`, followed by SP and the octets as text if there are any.
+-- A line `R:D`, followed by SP and the octets as text, if there are any.
 pub record DescribesField (line : List ℕ) (d : Dataset) : Type 0 where
   pub end : List ℕ
   pub names : BeginsWithName line d.rec d.set end
   pub is_end : EndsWith end d.octets
 
--- `text`
+-- the line `text`
 abbrev pub text_word : List ℕ
 text_word = codes "text"
 
@@ -96,8 +97,8 @@ text_word = codes "text"
 abbrev pub head_words : Header → List ℕ → List ℕ
 head_words head end = head.source ++ (sp ∷ (head.number ++ (sp ∷ (head.priority ++ (sp ∷ (head.category ++ (sp ∷ (head.words ++ end))))))))
 
--- The octets are these parts, none of which contains SP, and the rest of the line: nothing, or SP
--- and more.
+-- The octets consist of these parts, none of which contains SP, and the end of the line, which is
+-- empty or begins with SP.
 pub record AreFieldsOf (octets : List ℕ) (head : Header) (end : List ℕ) : Type 0 where
   pub source : Lacks sp head.source
   pub number : Lacks sp head.number
@@ -107,15 +108,15 @@ pub record AreFieldsOf (octets : List ℕ) (head : Header) (end : List ℕ) : Ty
   pub ends : get_or end 0 sp ≡ sp
   pub octets_are : octets ≡ head_words head end
 
--- A line `message SOURCE NUMBER PRIORITY CATEGORY WORDS`, followed by SP and the info as text if
--- there is one.
+-- A line `message SOURCE NUMBER PRIORITY CATEGORY WORDS`, followed by SP and the info as text, if
+-- there is any.
 pub record DescribesHead (line : List ℕ) (head : Header) : Type 0 where
   pub end : List ℕ
   pub is_header : IsHeader head
   pub is_end : EndsWith end head.info
   pub line_is : line ≡ codes "message " ++ head_words head end
 
--- A line `trailer`, followed by SP and the octets as text if there are any.
+-- A line `trailer`, followed by SP and the octets as text, if there are any.
 pub record DescribesTrailer (line octets : List ℕ) : Type 0 where
   pub end : List ℕ
   pub is_end : EndsWith end octets
@@ -127,22 +128,22 @@ pub record DescribesTrailer (line octets : List ℕ) : Type 0 where
 abbrev pub max_script : ℕ
 max_script = 16777216
 
--- Each line describes the dataset at the same index, and a builder accepts these, one after
--- another, after those before them.
+-- Each line specifies the dataset at the same index, and a builder accepts these datasets, one
+-- after another, after the datasets `before`.
 abbrev pub DescribeFields : Limits → List Dataset → List (List ℕ) → List Dataset → Type 0
 DescribeFields limits before [] [] = Unit {0}
 DescribeFields limits before (line ∷ lines) (d ∷ ds) =
     DescribesField line d × (added_field_fault limits before d ≡ None) × DescribeFields limits (before ++ d ∷ []) lines ds
 DescribeFields limits before lines ds = ⊥
 
--- No line, for an empty trailer; or the one line that describes the trailer.
+-- No line for an empty trailer, or the one line that specifies the trailer.
 abbrev pub DescribeTrailer : List (List ℕ) → List ℕ → Type 0
 DescribeTrailer [] octets = octets ≡ []
 DescribeTrailer (line ∷ []) octets = DescribesTrailer line octets × IsTrailer octets
 DescribeTrailer (line ∷ next ∷ lines) octets = ⊥
 
--- The octets begin with what precedes the story, and the story follows. The lines are those of
--- datasets, which are an envelope; that of the header; that of the trailer, if any; and the line
+-- The octets begin with the lines before the story, and the story follows. The lines are those of
+-- datasets that form an envelope; that of the header; that of the trailer, if any; and the line
 -- `text`.
 pub record IsFront (limits : Limits) (octets : List ℕ) (fields : List Dataset) (head : Header) (trailer : List ℕ) (text_line : ℕ)
     (story : List ℕ) : Type 0 where
@@ -156,8 +157,8 @@ pub record IsFront (limits : Limits) (octets : List ℕ) (fields : List Dataset)
   pub is_trailer : DescribeTrailer trailers trailer
   pub text_line_is : text_line ≡ length field_lines + length trailers + 2
 
--- The lines of a story, at least one. Each but the last has its end. The last may lack it, unless
--- the last is empty and others precede it.
+-- The lines of a story, at least one. Each line but the last has its line end. The last line need
+-- not have one, unless it is empty and others precede it.
 abbrev pub IsStory : List ℕ → List (List ℕ) → Type 0
 IsStory octets lines = (0 < length lines) × (NextLines octets lines []
     ⊎ ((before : List (List ℕ)) × (last : List ℕ) × (lines ≡ before ++ last ∷ []) × NextLines octets before last
@@ -181,7 +182,7 @@ abbrev pub after_space : List ℕ → List ℕ
 after_space [] = []
 after_space (x ∷ xs) = sp ∷ shown (x ∷ xs)
 
--- the line of a dataset: its name and its octets
+-- the line of a dataset: its name and its data
 abbrev pub field_line : Dataset → List ℕ
 field_line d = dataset_name d.rec d.set ++ (after_space d.octets ++ codes "\n")
 
@@ -199,7 +200,7 @@ abbrev pub value_lines : List Dataset → Header → List ℕ → List ℕ
 value_lines fields head trailer = flat_map field_line fields ++ (message_line head ++ trailer_line trailer)
 
 -- The octets are the lines of a story, joined by LF, and a final LF. The final LF may be missing,
--- unless the last of several lines is empty.
+-- unless the last line is empty and others precede it.
 abbrev pub PrintsStory : List ℕ → List (List ℕ) → Type 0
 PrintsStory octets lines =
     (octets ≡ join_with_byte lf lines ++ lf ∷ []) ⊎ ((octets ≡ join_with_byte lf lines) × ((before : List (List ℕ)) → lines ≡ before ++ [] ∷ [] → before ≡ []))

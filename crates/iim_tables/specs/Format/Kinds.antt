@@ -1,4 +1,4 @@
--- The kinds: which octets a dataset may have, and how many octets a size may have.
+-- The kinds: which octets a dataset may have, and the length of a size in octets.
 use Rattle.std.specs.Prelude.{ℕ, Bool, ◌||◌, ◌==◌, true, ◌&&◌, nat_le, List, length}
 use Rattle.std.specs.List.{list_all}
 use Rattle.iim_dataset.specs.Format.Octets.{within, lf, cr, sp, is_digit, is_letter, number, greatest_size}
@@ -11,27 +11,29 @@ use Rattle.iim_tables.specs.declared.shape.Kind.TheVariants.{Graphic, Spaced, Sp
 abbrev pub is_graphic : ℕ → Bool
 is_graphic b = within 0x21 0x7e b || within 0x80 0xff b
 
--- graphic, or the space
+-- a graphic octet, or a space
 abbrev pub is_spaced : ℕ → Bool
 is_spaced b = is_graphic b || b == sp
 
--- spaced, or LF, or CR
+-- a graphic octet, a space, LF or CR
 abbrev pub is_spaced_or_line_end : ℕ → Bool
 is_spaced_or_line_end b = is_spaced b || b == lf || b == cr
 
--- the greatest number of octets of a size: as many as an extended count may have (the profile's)
+-- the greatest number of octets of a size, which is that of the number in an extended count (a
+-- choice of the profile)
 abbrev pub size_octets : ℕ
 size_octets = count_octets
 
--- one octet, 00 or 01
+-- one octet, which is 00 or 01
 abbrev pub is_mode : List ℕ → Bool
 is_mode xs = (length xs == 1) && list_all (λ b. nat_le b 1) xs
 
--- as many octets as a size may have, which encode a number from `least` to the greatest size
+-- a size: as many octets as a size may have, which encode a number from `least` to the greatest
+-- size
 abbrev pub is_size_from : ℕ → List ℕ → Bool
 is_size_from least xs = within 1 size_octets (length xs) && within least greatest_size (number xs)
 
--- the octets are of the kind
+-- the octets are a value of the kind
 abbrev pub has_kind : Kind → List ℕ → Bool
 has_kind Graphic xs = list_all is_graphic xs
 has_kind Spaced xs = list_all is_spaced xs

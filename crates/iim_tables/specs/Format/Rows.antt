@@ -1,5 +1,5 @@
--- The rows: how many octets each dataset may have, of which kind, whether it must occur and whether
--- it may repeat.
+-- The rows of the tables: how many octets each dataset may have, of which kind, whether it must
+-- occur and whether it may repeat.
 use Rattle.std.specs.Prelude.{ℕ, IsTrue, Bool, true, false, ◌&&◌, ◌||◌, ◌==◌, if◌then◌else◌, List, [], ◌∷◌, length, Option, Some, None, IsSomeAnd}
 use Rattle.std.specs.{List.find, Option.option_map, Option.option_or}
 use Rattle.iim_dataset.specs.Format.Octets.{within, greatest_size}
@@ -8,19 +8,19 @@ use Rattle.iim_tables.specs.declared.shape.Kind.TheVariants.{Graphic, Spaced, Sp
 use Rattle.iim_tables.specs.declared.shape.Duty.TheVariants.{Mandatory, Optional, ByMode}
 use Rattle.iim_tables.specs.declared.shape.{Kind.Kind, Duty.Duty, Row.Row}
 
--- A line of the table: a dataset and its row.
+-- An entry of the tables: a dataset and its row.
 pub record Entry : Type 0 where
   pub rec : ℕ
   pub set : ℕ
   pub row : Row
 
--- a line of the table: record and number, least and greatest number of octets, kind, duty, whether
--- it repeats
+-- creates an entry: record and number, least and greatest number of octets, kind, duty, whether the
+-- dataset repeats
 abbrev pub entry : ℕ → ℕ → ℕ → ℕ → Kind → Duty → Bool → Entry
 entry rec set least greatest kind duty repeats =
     record { rec = rec; set = set; row = record { min = least; max = greatest; kind = kind; duty = duty; repeats = repeats } }
 
--- the datasets of the records 1, 2, 7, 8 and 9, in the order and by the names of the standard
+-- the datasets of the records 1, 2, 7, 8 and 9, in the order and with the names of the standard
 unfoldable pub table : List Entry
 table =
     entry 1 0 2 2 Binary Mandatory false  -- Model Version
@@ -70,16 +70,16 @@ table =
     ∷ entry 8 10 0 greatest_size Octets Mandatory true  -- Subfile
     ∷ entry 9 10 1 size_octets Size Mandatory false ∷ []  -- Confirmed ObjectData Size
 
--- the row of the first line for that record and number
+-- the row of the first entry for this record and number
 abbrev pub row_in : List Entry → ℕ → ℕ → Option Row
 row_in entries rec set = option_map (λ e. e.row) (find (λ e. e.rec == rec && e.set == set) entries)
 
--- the row of a dataset that has no line and is stored unread: up to 8192 octets of any kind, as
--- often as it occurs
+-- the row of a dataset that is not in the tables: up to 8,192 octets of any kind, any number of
+-- times
 abbrev pub unread_row : Row
 unread_row = record { min = 0; max = 8192; kind = Octets; duty = Optional; repeats = true }
 
--- every other number of records 1 and 2 is stored unread, and no other record has another number
+-- records 1 and 2 have this row for every other number, and other records have no other numbers
 abbrev pub row_of_unread : ℕ → Option Row
 row_of_unread rec = if rec == 1 || rec == 2 then Some unread_row else None
 
@@ -91,6 +91,6 @@ row_of rec set = option_or (row_in table rec set) (row_of_unread rec)
 abbrev pub is_admitted : Row → List ℕ → Bool
 is_admitted r xs = within r.min r.max (length xs) && has_kind r.kind xs
 
--- the dataset has a row, and the octets meet it
+-- the dataset has a row, and the octets are valid for it
 abbrev pub OctetsMeetRow : ℕ → ℕ → List ℕ → Type 0
 OctetsMeetRow rec set xs = IsSomeAnd (row_of rec set) (λ r. IsTrue (is_admitted r xs))

@@ -1,5 +1,4 @@
--- Numbers and names of the errors of an unpacker that returned no ticket, and of an intake that
--- returned no envelope.
+-- Numbers and names of the errors of saving an unpacker, and of an intake.
 use Rattle.std.specs.Prelude.{ℕ, List, codes}
 use Rattle.iim_places.specs.Format.Causes.{cause_number, cause_name}
 use Rattle.iim_unpack.specs.declared.{ticket.spelling.SaveFault.SaveFault, intake.IntakeFault.IntakeFault}
@@ -14,7 +13,7 @@ abbrev pub save_name : SaveFault → List ℕ
 save_name Failed = codes "Failed"
 save_name OutOfMemory = codes "OutOfMemory"
 
--- A refusal has the number and the name of its cause.
+-- The number of an error of an intake. For a refusal, it is the number of its cause.
 abbrev pub intake_number : IntakeFault → ℕ
 intake_number (Refused refusal) = cause_number refusal.cause
 intake_number Read = 71

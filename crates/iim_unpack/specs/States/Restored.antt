@@ -7,9 +7,8 @@ use Rattle.iim_places.specs.Format.Tickets.{Place, ReachesPlace, IsTicketOf}
 use Rattle.iim_unpack.specs.States.Unpacking.{Unpacking, HasRead, IsDoneWith, limits_in}
 
 -- The octets are the ticket of a possible position whose heads are within the limits. The unpacker
--- has these limits. It is in the state after all incomplete input that reaches the position, and
--- after every envelope that reaches it, and there is at least one of these. Its count of octets is
--- `at`.
+-- has these limits. It is in the state after every incomplete input and after every envelope that
+-- reaches the position, and there is at least one of these. Its count of octets is `at`.
 pub record IsRestored (limits : Limits) (ticket : List ℕ) (at : ℕ) (u : Unpacking) : Type 0 where
   pub place : Place
   pub is_ticket : EncodesPlace ticket place
@@ -19,7 +18,7 @@ pub record IsRestored (limits : Limits) (ticket : List ℕ) (at : ℕ) (u : Unpa
   pub done : (p : List ℕ) (v : Value) → ReachesPlace p place → IsEnvelopeWithin limits p v → IsDoneWith u p at
   pub some : (p : List ℕ) × ReachesPlace p place × (HasRead u p at ⊎ IsDoneWith u p at)
 
--- The ticket of the unpacker has `count` octets, and is at the start of the buffer if it fits.
+-- The ticket of the unpacker has `count` octets. The buffer begins with it if it fits.
 pub record WritesTicketOf (u : Unpacking) (out : List ℕ) (count : ℕ) : Type 0 where
   pub ticket : List ℕ
   pub is_ticket : (p : List ℕ) (a : ℕ) → HasRead u p a ⊎ IsDoneWith u p a → IsTicketOf p ticket

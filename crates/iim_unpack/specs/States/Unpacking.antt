@@ -34,7 +34,7 @@ pub record PartsAreAfter (parts : Parts) (ds : List Dataset) : Type 0 where
   pub message : wire.MessageReaderHasRead parts.message (object_of ds) (text_so_far (object_of ds))
   pub ended : section_after ds ≡ 9 → wire.IsCompleteMessage parts.message
 
--- The parts have consumed these datasets, then this head and these data.
+-- The parts have consumed these datasets, then this head and the data `taken`.
 pub record PartsAreIn (parts : Parts) (ds : List Dataset) (h : Head) (taken : List ℕ) : Type 0 where
   pub octets : Octets taken
   pub fields : records.IsReadingDataset parts.fields ds h (if h.rec == 8 then [] else taken)
@@ -56,11 +56,11 @@ pub record AreReachedBy (parts : Parts) (events : List DatasetEvent) (text : Lis
   pub stands : PartsAreAt parts whole begun
   pub is_text : text ≡ text_so_far (object_so_far whole begun)
 
--- The last dataset has ended: the current record is 9, and no dataset is partial.
+-- The last dataset has ended: the current record is 9, and no dataset is in progress.
 unfoldable pub has_ended : Parts → Bool
 has_ended parts = (records.section_of parts.fields == 9) && is_none (records.current_head_of parts.fields)
 
--- The sink's count of failures increased if and only if the sink is the cause.
+-- The sink's count of failures increased if and only if the sink caused the refusal.
 abbrev pub CountsSinkFailure : Cause → ℕ → ℕ → Type 0
 CountsSinkFailure (Message Sink) old new = CounterRose old new
 CountsSinkFailure _ old new = new ≡ old
@@ -77,7 +77,7 @@ pub record Unpacking : Type 0 where
 abbrev pub limits_in : Unpacking → Limits
 limits_in u = limits_of u.parts.fields
 
--- the capacity of its header
+-- the capacity of the reader of records
 abbrev pub capacity_in : Unpacking → Room
 capacity_in u = reader_capacity u.parts.fields
 
@@ -88,8 +88,7 @@ pub record IsReachedBy (u : Unpacking) (p : List ℕ) : Type 0 where
   pub leads : ReachesDatasetState count_octets p events u.reader.place
   pub led : AreReachedBy u.parts events text
 
--- The unpacker has consumed exactly these octets, which are incomplete, and its count of octets is
--- `a`.
+-- The unpacker has consumed exactly these octets, which are incomplete. Its count of octets is `a`.
 pub record HasRead (u : Unpacking) (p : List ℕ) (a : ℕ) : Type 0 where
   pub taking : u.refused ≡ None
   pub unended : has_ended u.parts ≡ false
@@ -98,7 +97,7 @@ pub record HasRead (u : Unpacking) (p : List ℕ) (a : ℕ) : Type 0 where
   pub is_led : IsReachedBy u p
   pub is_open : IsIncomplete (limits_in u) p
 
--- The unpacker has consumed exactly these octets, which are an envelope, and its count of octets is
+-- The unpacker has consumed exactly these octets, which are an envelope. Its count of octets is
 -- `a`.
 pub record IsDoneWith (u : Unpacking) (p : List ℕ) (a : ℕ) : Type 0 where
   pub taking : u.refused ≡ None
@@ -142,12 +141,13 @@ abbrev pub tag_held : DatasetPlace → ℕ
 tag_held (tags.Tag held) = length held.items
 tag_held (tags.Inside head left) = 0
 
--- the number of CR that no LF has followed yet
+-- the number of pending CR
 abbrev pub pending_returns : Place → ℕ
 pending_returns (Text head (Some held)) = held
 pending_returns _ = 0
 
--- the number of stored octets of a message: those of the header and the trailer so far, and CR
+-- the number of stored octets of a message: those of the header and the trailer so far, and pending
+-- CR
 abbrev pub buffered_message : Option Place → ℕ
 buffered_message None = 0
 buffered_message (Some place) =
@@ -155,7 +155,7 @@ buffered_message (Some place) =
     length m.source.items + length m.number.items + length m.priority.items + length m.category.items + length m.words.items + length m.info.items
     + length m.trailer.items + pending_returns place
 
--- one for a partial dataset of record 1 or 2
+-- one if a dataset of record 1 or 2 is in progress, otherwise 0
 abbrev pub partial_entries : Option Head → ℕ
 partial_entries None = 0
 partial_entries (Some h) = if is_kept h.rec then 1 else 0
@@ -163,9 +163,9 @@ partial_entries (Some h) = if is_kept h.rec then 1 else 0
 -- The unpacker stores at most 256 octets more than its limits allow, and no more entries than they
 -- allow.
 pub record StoresFew (u : Unpacking) : Type 0 where
-  -- The octets that it stores: the data of records 1 and 2, and those received of a partial value
-  -- of record 1, 2, 7 or 9; a partial tag; the texts of the message; and CR.
+  -- The stored octets: the data of records 1 and 2, the data received of a value in progress of
+  -- record 1, 2, 7 or 9, a partial tag, the texts of the message, and pending CR.
   pub octets : length (joined u.parts.fields.kept) + length u.parts.fields.taken + (tag_held u.reader.place + buffered_message u.parts.message)
       ≤ (limits_in u).octets + 256
-  -- Its entries: the heads of records 1 and 2.
+  -- The stored entries: the heads of records 1 and 2.
   pub entries : length u.parts.fields.kept + partial_entries (current_head_of u.parts.fields) ≤ (limits_in u).fields

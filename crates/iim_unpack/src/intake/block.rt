@@ -7,7 +7,7 @@ ghost use Rattle.iim_dataset.specs.States.Devices.{ReadFailed, ReadsGave, Within
 use iim_dataset::{BLOCK, IoFault, Source, take};
 use std::marker::Model;
 
-/// A buffer for one read: the octets that were read and not consumed yet.
+/// A buffer for one read. It has the octets that were read but not consumed yet.
 #[derive(Drop)]
 pub(crate) struct Block {
     octets: [u8; BLOCK],
@@ -44,7 +44,7 @@ impl Block {
         &self.octets[self.from..self.to]
     }
 
-    /// Discards the first `used` buffered octets.
+    /// Removes the first `used` buffered octets.
     pub(crate) fn pass(&mut self, used: usize)
         requires { used ≤ length self.old }
         ensures { self.new ≡ drop used self.old }
@@ -52,8 +52,8 @@ impl Block {
         self.from += used;
     }
 
-    /// Reads once, retrying after interruptions, and replaces the buffered octets. Returns how many
-    /// octets were read: 0 only at the end of the source.
+    /// Reads once, with retries after interruptions, and replaces the buffered octets. Returns the
+    /// number of octets read, which is 0 only at the end of the source.
     pub(crate) fn fill<R: Source>(&mut self, reader: &mut R) -> Result<usize, IoFault>
         ensures given { IfOk result (λ count. ReadsGave (R.state reader.old) (R.state reader.new) self.new) }
         ensures length { IfOk result (λ count. length self.new ≡ count) }

@@ -1,4 +1,4 @@
-//! Forwards the octets of an object to the message, and its text to the caller's sink.
+//! Passes the octets of an object to the message reader, and the text in them to the caller's sink.
 
 ghost use Rattle.std.specs.Prelude.{◌≡◌, ◌<◌, length, map, take, slice_index, Some, IsSome, IfErr, OnOk, refl};
 ghost use Rattle.std.proofs.Common.{◌∙◌};
@@ -12,8 +12,8 @@ use iim_places::internals::{TokenFault, message_fault_on, size_fault_on};
 use wire_message::{MessageCause, MessageFault, MessageReader};
 use wire_story::StorySink;
 
-/// A sink of objects that passes the octets to a reader of messages, and the text in them to a sink
-/// of stories. After a failure it stores the cause.
+/// A sink for the octets of an object. It passes them to a reader of messages, and the text in them
+/// to a sink of stories. After a failure it has the cause.
 pub(crate) struct ToMessage<'m, 's, S> {
     message: &'m mut MessageReader,
     sink: &'s mut S,
@@ -69,12 +69,13 @@ impl<'m, 's, S: StorySink> ObjectSink for ToMessage<'m, 's, S> {
     }
 }
 
-/// Ends a mutable borrow, for the prover: the value is unchanged.
+/// Ends a mutable borrow, for the prover. The value is unchanged.
 pub(crate) fn end_borrow<T>(lent: &mut T)
     ensures { lent.new ≡ lent.old }
 {}
 
-/// Passes octets to the object reader. The references in the sink still point to the same places.
+/// Passes octets to the object reader. The references in the sink afterwards point to the same
+/// values as before.
 fn run_object<'m, 's, S: StorySink>(
     object: &mut ObjectReader,
     run: &[u8],
@@ -93,8 +94,8 @@ fn run_object<'m, 's, S: StorySink>(
     object.run(run, to)
 }
 
-/// Passes the head of 8:10 or 9:10 to the object reader. The references in the sink still point to
-/// the same places.
+/// Passes the head of 8:10 or 9:10 to the object reader. The references in the sink afterwards
+/// point to the same values as before.
 fn end_object<'m, 's, S: StorySink>(
     object: &mut ObjectReader,
     head: Head,
@@ -158,7 +159,7 @@ pub(crate) fn pass_octets<S: StorySink>(
     }
 }
 
-/// Consumes the head of a subfile, or of 9:10, which ends the object.
+/// Consumes the head of a subfile, or the head of 9:10, which ends the object.
 pub(crate) fn pass_head<S: StorySink>(
     object: &mut ObjectReader,
     message: &mut MessageReader,

@@ -10,11 +10,11 @@ use iim_places::internals::TokenFault;
 use wire_story::StorySink;
 
 /// A sink of datasets that passes them to the parts of an unpacker, and the text in them to a sink
-/// of stories. After a failure it stores the error.
+/// of stories. After a failure it has the error.
 pub(crate) struct Router<'p, 's, S> {
-    /// The destination of the datasets.
+    /// The parts to which the datasets are passed.
     pub parts: &'p mut Parts,
-    /// The destination of the text.
+    /// The sink to which the text is passed.
     pub sink: &'s mut S,
     /// The error of the rejected token, or `None`.
     pub refused: Option<TokenFault>,

@@ -1,30 +1,30 @@
-//! Output of a ticket: to memory that grows, or to a caller's buffer.
+//! Outputs for a ticket: memory that grows, or a buffer of the caller.
 
 ghost use Rattle.std.specs.Prelude.{[], ◌++◌, List, ℕ};
 
-/// An output for octets, slice by slice. Every call returns: if the allocation fails or the buffer
-/// is full, the output records that.
+/// An output for octets, slice by slice. Calls do not fail: if an allocation fails or the buffer is
+/// full, the output has a field that records this.
 pub(crate) trait TicketOut {
-    /// The octets take the output from the first state to the second.
+    /// Relates the values of the output before and after it received these octets.
     ghost puts: { Self → List ℕ → Self → Type 0 };
 
     /// Appends octets.
     fn put(&mut self, more: &[u8])
         ensures { puts self.old more.now self.new };
 
-    /// Appending nothing changes nothing.
+    /// Appending no octets changes nothing.
     ghost nothing: { (out : Self) → puts out [] out };
 
-    /// Appending two slices in turn equals appending their concatenation.
+    /// Appending two slices one after the other is the same as appending their concatenation.
     ghost joined: { (a b c : Self) (xs ys : List ℕ) → puts a xs b → puts b ys c → puts a (xs ++ ys) c };
 }
 
-/// Memory that grows.
+/// An output into memory that grows.
 #[derive(Drop)]
 pub(crate) struct Grown {
     /// The octets.
     pub ticket: Vec<u8>,
-    /// Whether an allocation failed. Then some octets are missing.
+    /// Whether an allocation failed, so that some octets are missing.
     pub is_refused: bool,
 }
 
@@ -47,11 +47,12 @@ impl TicketOut for Grown {
     }
 }
 
-/// The start of a buffer. Octets are written while they fit, and all of them are counted.
+/// An output to the start of a buffer. Octets are written as far as they fit, and all of them are
+/// counted.
 pub(crate) struct Front<'o> {
     /// The buffer.
     pub out: &'o mut [u8],
-    /// How many octets were appended, saturated at the greatest number of 64 bits.
+    /// The number of octets appended, which saturates at the greatest number of 64 bits.
     pub count: usize,
 }
 

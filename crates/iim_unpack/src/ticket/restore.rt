@@ -19,7 +19,7 @@ use iim_places::{TicketFault, TicketParts, split_ticket};
 use std::alloc::{AllocError, Global};
 
 /// Returns the unpacker with these readers and the datasets stored in the ticket. Allocates exactly
-/// the memory that the limits require; an error means that the allocation failed.
+/// the memory that the limits require. Returns an error if the allocation fails.
 fn unpacker_at(
     alloc: Global,
     limits: Limits,
@@ -54,20 +54,21 @@ fn unpacker_at(
 }
 
 impl Unpacker {
-    /// Restores an unpacker at the position of a ticket, with `at` as its count of consumed octets.
+    /// Restores an unpacker at the position of a ticket. `at` becomes its count of consumed octets.
     ///
-    /// With the same limits, and `octets()` of the saved unpacker as `at`, it continues as that
-    /// unpacker would: it returns the same results for all chunks, and emits the same lines. It
-    /// allocates exactly the memory that the limits require, and no later call allocates.
+    /// If the limits are the same, and `at` is `octets()` of the saved unpacker, it continues as
+    /// that unpacker would: it returns the same results for all chunks, and passes the same lines
+    /// to its sink. It allocates exactly the memory that the limits require, and no later call
+    /// allocates.
     ///
-    /// A ticket has version 1 or 2. The position of a ticket of version 1 must be possible by the
-    /// sizes of that version; the unpacker continues by the present sizes.
+    /// A ticket has version 1 or 2. The position of a ticket of version 1 must be possible with the
+    /// size limits of that version; the unpacker then continues with the limits of version 2.
     ///
     /// **Errors**, in this order: `TicketForm` if the octets do not begin with the name of a
-    /// ticket; `TicketVersion` for another version; `TicketForm` if the rest does not have the form
-    /// of a ticket; `Impossible` if no envelope reaches the position; `HeaderFull`, then
-    /// `TooManyFields`, if it exceeds a limit; `OutOfMemory` if the allocation fails. Nothing is
-    /// allocated before that last check.
+    /// ticket; `TicketVersion` if the version is unknown; `TicketForm` if the rest does not have
+    /// the form of a ticket; `Impossible` if no envelope reaches the position; `HeaderFull`, then
+    /// `TooManyFields`, if the datasets exceed a limit; `OutOfMemory` if the allocation fails.
+    /// Nothing is allocated before that last check.
     pub fn restore(
         alloc: Global,
         limits: Limits,

@@ -24,7 +24,7 @@ use wire_message::MessagePlace;
 /// Why an unpacker returned no ticket.
 #[derive(Clone, Copy, Debug, PartialEq, Eq, Error)]
 pub enum SaveFault {
-    /// An earlier call failed (61).
+    /// An earlier call returned an error (61).
     #[error("the unpacker has refused its octets")]
     Failed,
     /// Memory allocation failed (70).
@@ -32,10 +32,10 @@ pub enum SaveFault {
     OutOfMemory,
 }
 
-/// What each ticket begins with: its name and the version.
+/// The start of each ticket: its name and the version.
 const NAME: [u8; 5] = [b'I', b'I', b'M', b'T', PRESENT_VERSION];
 
-/// Appends a number in four octets, high octet first. The numbers passed fit into four octets.
+/// Appends a number in four octets, high octet first. The number must fit into four octets.
 fn push_number<T: TicketOut>(ticket: &mut T, number: u64)
     ensures { T.puts ticket.old (four number) ticket.new }
 {
@@ -59,7 +59,7 @@ fn push_text<T: TicketOut>(ticket: &mut T, text: &[u8])
     ticket.put(text);
 }
 
-/// Appends the octets of a partial tag.
+/// Appends the octets of a tag in progress.
 fn push_tag<T: TicketOut>(ticket: &mut T, held: &[u8])
     requires { length held.now < 256 }
     ensures { T.puts ticket.old (phase_octets present_version (PartialTag held.now)) ticket.new }
@@ -68,8 +68,8 @@ fn push_tag<T: TicketOut>(ticket: &mut T, held: &[u8])
     push_text(ticket, held);
 }
 
-/// Appends partial data: the dataset's number, the count, how many octets remain, and those
-/// received.
+/// Appends data in progress: the number of the dataset, the count, the number of octets that
+/// remain, and the octets received.
 fn push_data<T: TicketOut>(ticket: &mut T, head: Head, left: u64, taken: &[u8])
     ensures { T.puts ticket.old (phase_octets present_version (PartialData head.set head.count left taken.now))
         ticket.new }
@@ -80,7 +80,7 @@ fn push_data<T: TicketOut>(ticket: &mut T, head: Head, left: u64, taken: &[u8])
     ticket.put(taken);
 }
 
-/// Appends the partial dataset.
+/// Appends what is in progress.
 fn push_phase<T: TicketOut>(ticket: &mut T, reader: &HeadReader, parts: &Parts)
     requires reader { DatasetReaderAccepts reader.now }
     requires fields { RecordReaderFailed parts.now.fields → ⊥ }
@@ -108,7 +108,7 @@ fn push_field<T: TicketOut>(ticket: &mut T, rec: u8, set: u8, octets: &[u8])
     ticket.put(octets);
 }
 
-/// Returns how many datasets are stored.
+/// Returns the number of stored datasets.
 fn stored_count(fields: &Fields) -> usize
     requires { length fields.now.kept < 2 ^ 32 }
     ensures { result ≡ length fields.now.kept }
@@ -150,7 +150,7 @@ fn push_options<T: TicketOut>(ticket: &mut T, numbers: &[Option<u64>])
     }
 }
 
-/// Returns how many octets of the object were received.
+/// Returns the number of octets of the object that were received.
 fn object_octets(reader: &HeadReader, object: &ObjectReader) -> u64
     requires reader { DatasetReaderAccepts reader.now }
     requires object { IsSome object.now }
@@ -178,7 +178,7 @@ fn push_texts<T: TicketOut>(ticket: &mut T, place: &MessagePlace)
     push_text(ticket, place.trailer.as_slice());
 }
 
-/// Appends the position in a message.
+/// Appends the position within a message.
 fn push_message<T: TicketOut>(ticket: &mut T, place: &MessagePlace)
     ensures { T.puts ticket.old (message_octets place.now) ticket.new }
 {
@@ -205,8 +205,8 @@ fn write_ticket<T: TicketOut>(ticket: &mut T, reader: &HeadReader, parts: &Parts
     push_message(ticket, &parts.message.place());
 }
 
-/// Writes the ticket to the start of an unused buffer. The reference in `front` still points to the
-/// same buffer.
+/// Writes the ticket to the start of an unused buffer. The reference in `front` afterwards points
+/// to the same buffer as before.
 fn write_front(front: &mut Front<'_>, reader: &HeadReader, parts: &Parts)
     requires unused { front.old.count ≡ 0 }
     requires reader { DatasetReaderAccepts reader.now }
@@ -221,7 +221,7 @@ fn write_front(front: &mut Front<'_>, reader: &HeadReader, parts: &Parts)
     write_ticket(front, reader, parts);
 }
 
-/// Returns the ticket for the state of these readers, or `None` if the allocation fails.
+/// Returns the ticket for the state of these readers, or `None` if an allocation fails.
 pub(crate) fn encode_ticket(alloc: Global, reader: &HeadReader, parts: &Parts) -> Option<Vec<u8>>
     requires reader { DatasetReaderAccepts reader.now }
     requires fields { RecordReaderFailed parts.now.fields → ⊥ }
@@ -242,13 +242,13 @@ pub(crate) fn encode_ticket(alloc: Global, reader: &HeadReader, parts: &Parts) -
     Some(ticket)
 }
 
-/// Ends a mutable borrow, for the prover: the buffer is unchanged.
+/// Ends a mutable borrow, for the prover. The buffer is unchanged.
 fn end_borrow(lent: &mut [u8])
     ensures { lent.new ≡ lent.old }
 {}
 
-/// Writes the ticket to the start of a buffer if it fits, and returns its length in octets in any
-/// case. Allocates nothing.
+/// Writes the ticket to the start of a buffer, if it fits. Returns the length of the ticket in
+/// octets, whether it was written or not. Allocates nothing.
 pub(crate) fn encode_ticket_at(out: &mut [u8], reader: &HeadReader, parts: &Parts) -> usize
     requires reader { DatasetReaderAccepts reader.now }
     requires fields { RecordReaderFailed parts.now.fields → ⊥ }

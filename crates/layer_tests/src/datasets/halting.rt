@@ -1,4 +1,4 @@
-//! Readers and writers of `std` that are interrupted, and then fail.
+//! Tests readers and writers of `std` that are interrupted and then fail.
 
 use crate::told::{TestLog, count_of};
 use iim_dataset::{FromRead, FromWrite, Source, Target, put, take};
@@ -6,7 +6,7 @@ use std::alloc::Global;
 use std::io::{Error, ErrorKind, Read, Result, Write};
 
 /// A reader and writer that is interrupted `waits` times before each octet, and fails after `good`
-/// of them.
+/// octets.
 #[derive(Drop)]
 struct Halting {
     waits: u32,
@@ -67,7 +67,8 @@ pub(crate) fn tell(told: &mut TestLog, alloc: Global) {
     a_long_piece_comes_at_once(told);
 }
 
-/// Checks that only the kind `Interrupted` is an interruption; every other error is a failure.
+/// Checks that an error of the kind `Interrupted` is an interruption, and every other error is a
+/// failure.
 fn faults_of_a_reader_of_std(told: &mut TestLog) {
     let mut reader = FromRead::new(Halting::new(1, 1));
     let mut buffer = [0u8; 8];
@@ -76,8 +77,8 @@ fn faults_of_a_reader_of_std(told: &mut TestLog) {
     told.end(" ", &take(&mut reader, &mut buffer));
 }
 
-/// Checks that only the kind `Interrupted` is an interruption of a writer; `put` then stops after 0
-/// octets.
+/// Checks that a writer's error of the kind `Interrupted` is an interruption, and that after any
+/// other error `put` stops after 0 octets.
 fn faults_of_a_writer_of_std(told: &mut TestLog) {
     let mut writer = FromWrite::new(Halting::new(1, 1));
     told.begin("faults_of_a_writer_of_std", " ", &writer.write(b"abcdef"));
@@ -85,7 +86,7 @@ fn faults_of_a_writer_of_std(told: &mut TestLog) {
     told.end(" ", &put(&mut writer, b"bcdef"));
 }
 
-/// Checks that a million interruptions are a fault only if they come in a row.
+/// Checks that a million interruptions are a fault only if they are consecutive.
 fn interruptions_between_octets(told: &mut TestLog) {
     let mut writer = FromWrite::new(Halting::new(600_000, 3));
     told.begin(
@@ -96,14 +97,14 @@ fn interruptions_between_octets(told: &mut TestLog) {
     told.end(" ", &put(&mut writer, b"d"));
 }
 
-/// Writes a long slice twice, and begins a line of the results.
+/// Writes a long slice twice, and begins a line of the log with the results.
 fn write_twice<T: Target>(told: &mut TestLog, target: &mut T) {
     let piece = [b'x'; 32_768];
     told.begin("a_long_piece_goes_at_once", " ", &target.write(&piece));
     told.answer(" ", &put(target, &piece));
 }
 
-/// Checks that a long slice is written in one call if the writer accepts it.
+/// Checks that a long slice is written in one call, if the writer accepts all of it.
 fn a_long_piece_goes_at_once(told: &mut TestLog, alloc: Global) {
     let mut writer = FromWrite::new(Vec::new(alloc));
     write_twice(told, &mut writer);
@@ -113,7 +114,8 @@ fn a_long_piece_goes_at_once(told: &mut TestLog, alloc: Global) {
     told.end_words(" of them x");
 }
 
-/// Logs three reads of a source of two long slices, and how many octets of the first are right.
+/// Logs three reads from a source of two long slices, and the number of octets of the first that
+/// are right.
 fn read_thrice<S: Source>(told: &mut TestLog, source: &mut S) {
     let mut buffer = [0u8; 32_768];
     told.begin("a_long_piece_comes_at_once", " ", &source.read(&mut buffer));
@@ -122,7 +124,7 @@ fn read_thrice<S: Source>(told: &mut TestLog, source: &mut S) {
     told.end(" ", &take(source, &mut buffer));
 }
 
-/// Checks that a long slice is read in one call if the reader returns it.
+/// Checks that a long slice is read in one call, if the reader returns all of it.
 fn a_long_piece_comes_at_once(told: &mut TestLog) {
     let octets = [b'x'; 65_536];
     read_thrice(told, &mut FromRead::new(octets.as_slice()));

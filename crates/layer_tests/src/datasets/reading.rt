@@ -1,4 +1,4 @@
-//! Sinks of datasets that stop, and octets after the dataset that a sink called the last.
+//! Tests sinks of datasets that stop, and octets after the dataset that a sink called the last one.
 
 ghost use Rattle.std.specs.Prelude.{◌≡◌, ◌≢◌, ⊤, IfSome};
 ghost use Rattle.iim_dataset.specs.States.Reading.{DatasetReaderAccepts};
@@ -7,11 +7,12 @@ use crate::told::TestLog;
 use arrayvec::ArrayVec;
 use iim_dataset::{DatasetSink, Fault, Head, HeadReader, Step, Stop};
 
-/// Three datasets: a standard count, an extended one, and no data; and an octet after them.
+/// Three datasets, with a standard count, with an extended count, and without data, and one octet
+/// after them.
 const STREAM: &[u8] = b"\x1c\x01\x1e\x00\x03TST\x1c\x02\x05\x80\x01\x02ab\x1c\x07\x0a\x00\x00x";
 
-/// A sink that records what it receives. The third dataset is the last one, and after it nothing is
-/// accepted until it continues.
+/// A sink that records what it receives. It calls the third dataset the last one, and accepts
+/// nothing after it until `go_on` is called.
 #[derive(Drop)]
 struct Recorder {
     record: ArrayVec<u8, 64>,
@@ -33,7 +34,7 @@ impl Recorder {
         }
     }
 
-    /// Resets the count of ends: after the last dataset the sink accepts others.
+    /// Makes the sink accept further datasets after the last one.
     fn go_on(&mut self)
         ensures { self.new.ended ≡ 0 }
     {
@@ -107,8 +108,8 @@ pub(crate) fn tell(told: &mut TestLog) {
     sinks_of_datasets_that_stop(told);
 }
 
-/// Feeds octets one by one up to the end of the last dataset, and returns how many were consumed. A
-/// call that consumes no octet ends it, too.
+/// Feeds octets one by one, up to the end of the last dataset. Returns the number of octets
+/// consumed. Also stops at a call that consumes no octet.
 fn feed_by_octets(
     reader: &mut HeadReader,
     octets: &[u8],
@@ -134,7 +135,7 @@ fn feed_by_octets(
     Ok(octets.len())
 }
 
-/// Feeds octets in one chunk, or one by one, and returns how many were consumed, or the fault.
+/// Feeds octets in one chunk, or one by one. Returns the number of octets consumed, or the fault.
 fn feed(
     reader: &mut HeadReader,
     octets: &[u8],
@@ -151,8 +152,8 @@ fn feed(
     }
 }
 
-/// Feeds a chunk to a reader whose sink accepts others after its last dataset, and returns how many
-/// octets were consumed.
+/// Feeds a chunk to a reader whose sink accepts further datasets after its last one. Returns the
+/// number of octets consumed.
 fn feed_on(reader: &mut HeadReader, octets: &[u8], sink: &mut Recorder) -> Option<usize>
     requires { DatasetReaderAccepts reader.old }
     ensures { IfSome result (λ used. DatasetReaderAccepts reader.new) }
@@ -164,8 +165,8 @@ fn feed_on(reader: &mut HeadReader, octets: &[u8], sink: &mut Recorder) -> Optio
     }
 }
 
-/// Feeds three datasets, then nothing, and then the beginning of a fourth, and returns how many
-/// octets of each were consumed.
+/// Feeds three datasets, then an empty chunk, and then the beginning of a fourth dataset. Returns
+/// the numbers of octets consumed.
 fn feed_four(reader: &mut HeadReader, sink: &mut Recorder) -> Option<(usize, usize, usize)>
     requires { DatasetReaderAccepts reader.old }
     ensures { IfSome result (λ used. DatasetReaderAccepts reader.new) }
@@ -176,8 +177,8 @@ fn feed_four(reader: &mut HeadReader, sink: &mut Recorder) -> Option<(usize, usi
     Some((three, none, fourth))
 }
 
-/// Checks that after the last dataset a reader continues if its sink does: what comes then is the
-/// next dataset.
+/// Checks that a reader continues after the last dataset if its sink does: the following octets are
+/// the next dataset.
 fn a_dataset_after_the_last(told: &mut TestLog) {
     let trial = "a_dataset_after_the_last";
     let mut reader = HeadReader::new();
@@ -191,7 +192,7 @@ fn a_dataset_after_the_last(told: &mut TestLog) {
     told.line_and_octets(trial, &answer, sink.record.as_slice());
 }
 
-/// Logs how many octets of each of three chunks were consumed, and the dataset that was named last.
+/// Logs the number of octets consumed of each of three chunks, and the last dataset that was named.
 fn log_used(told: &mut TestLog, trial: &str, used: [usize; 3], named: (u8, u8)) {
     let [three, none, fourth] = used;
     told.begin(trial, " used ", &three);
@@ -200,19 +201,19 @@ fn log_used(told: &mut TestLog, trial: &str, used: [usize; 3], named: (u8, u8)) 
     log_named(told, named);
 }
 
-/// Ends a line with the dataset that was named last.
+/// Ends a line of the log with the last dataset that was named.
 fn log_named(told: &mut TestLog, named: (u8, u8)) {
     told.answer(", named ", &named.0);
     told.end(":", &named.1);
 }
 
-/// Adds what a sink has received, and whether its reader has failed.
+/// Appends to the log what a sink has received, and whether its reader has failed.
 fn log_state(told: &mut TestLog, reader: &HeadReader, sink: &Recorder) {
     told.octets(" ", sink.record.as_slice());
     told.answer(", failed: ", &reader.is_failed());
 }
 
-/// Checks that an octet after the last dataset is rejected if it begins no tag.
+/// Checks that an octet after the last dataset is rejected if it does not begin a tag.
 fn octets_after_the_last_dataset(told: &mut TestLog) {
     let trial = "octets_after_the_last_dataset";
     let mut reader = HeadReader::new();
@@ -228,7 +229,8 @@ fn octets_after_the_last_dataset(told: &mut TestLog) {
     told.end_words("");
 }
 
-/// Logs the result of reading with a sink that stops at an event, in one chunk or one by one.
+/// Logs the result of reading with a sink that stops at this event. The octets are read in one
+/// chunk, or one by one.
 fn log_stop(told: &mut TestLog, event: usize, one_by_one: bool) {
     let mut sink = Recorder::new(event);
     let mut reader = HeadReader::new();
@@ -238,7 +240,7 @@ fn log_stop(told: &mut TestLog, event: usize, one_by_one: bool) {
     log_named(told, reader.named());
 }
 
-/// Stops a sink at each event: a head, octets of data, or an end.
+/// Makes a sink stop at each event: a head, octets of data, or an end.
 fn sinks_of_datasets_that_stop(told: &mut TestLog) {
     for event in 0..11 {
         log_stop(told, event, false);

@@ -1,4 +1,4 @@
-//! Objects written with computed sizes, and to a target that fails at each call.
+//! Tests objects that are written with computed sizes, and to a target that fails at each call.
 
 use crate::told::TestLog;
 use iim_dataset::Target;
@@ -6,7 +6,8 @@ use iim_object::{PackCause, Plan, Size, StartFault, SubfileBuffer, SubfileWriter
 use std::alloc::Global;
 use trials::{TrialWriter, Trouble};
 
-/// The expected octets of three octets in subfiles of two, with an unknown size and a maximum.
+/// The expected encoding of an object of three octets in subfiles of two octets, with an unknown
+/// size and a maximum.
 const SMALL_OUT: &[u8] = b"\x1C\x07\x0A\x00\x01\x00\
 \x1C\x07\x14\x00\x04\x00\x00\x00\x02\
 \x1C\x07\x5F\x00\x04\x00\x00\x00\x05\
@@ -22,7 +23,7 @@ fn buffer(alloc: Global, subfile: u64, size: Size) -> Option<SubfileBuffer> {
     SubfileBuffer::reserve(alloc, Plan::new(subfile, size)?).ok()
 }
 
-/// Subfiles and sizes of plans.
+/// Plans: the size of a subfile, and the size of the object.
 const PLANS: [(u64, Size); 7] = [
     (1, Size::Known(50)),
     (7, Size::Known(50)),
@@ -33,10 +34,10 @@ const PLANS: [(u64, Size); 7] = [
     (1024, Size::Unknown(None)),
 ];
 
-/// The name of a test that several functions log.
+/// The name of a test that is logged by several functions.
 const CAUSES: &str = "causes_and_their_order";
 
-/// The name of another test that several functions log.
+/// The name of another test that is logged by several functions.
 const FAILING: &str = "writes_that_fail_at_each_call";
 
 /// Returns the capacity of the buffer of a plan.
@@ -56,13 +57,13 @@ fn buffers_have_room_for_the_lesser_of_subfile_and_bound(told: &mut TestLog, all
     }
 }
 
-/// Returns a writer of three octets in subfiles of two, to a target that does not fail.
+/// Creates a writer of three octets in subfiles of two octets, to a target that does not fail.
 fn writer_of_three(alloc: Global) -> Option<SubfileWriter<Sink>> {
     let buffer = buffer(alloc, 2, Size::Known(3))?;
     SubfileWriter::start(buffer, TrialWriter::new(1000, Trouble::Failure)).ok()
 }
 
-/// Logs how many octets were written, and how many the object has so far.
+/// Logs the number of octets written, and the number of octets of the object so far.
 fn log_counts<W: Target>(told: &mut TestLog, writer: &SubfileWriter<W>) {
     told.begin(CAUSES, " ", &writer.written());
     told.answer(" out, ", &writer.total());
@@ -77,21 +78,21 @@ fn log_writes<W: Target>(told: &mut TestLog, writer: &mut SubfileWriter<W>, piec
     }
 }
 
-/// Writes more than was announced, and then less.
+/// Writes more octets than were announced, and then fewer.
 fn write_before<W: Target>(told: &mut TestLog, writer: &mut SubfileWriter<W>) {
     log_writes(told, writer, &[b"abcd"]);
     log_counts(told, writer);
     log_writes(told, writer, &[b"ab"]);
 }
 
-/// Continues to write after less was written than was announced.
+/// Continues to write, after fewer octets were written than were announced.
 fn write_after<W: Target>(told: &mut TestLog, writer: &mut SubfileWriter<W>) {
     log_counts(told, writer);
     log_writes(told, writer, &[b"cd", b"c", b"d"]);
     log_counts(told, writer);
 }
 
-/// Logs the rejected end, and continues after it.
+/// Logs an end that is rejected, and continues after it.
 fn finish_after(told: &mut TestLog, mut writer: SubfileWriter<Sink>, cause: PackCause) {
     told.line(CAUSES, " finish: ", &cause);
     write_after(told, &mut writer);
@@ -112,18 +113,18 @@ fn causes_and_their_order(told: &mut TestLog, alloc: Global) {
     }
 }
 
-/// How writing ended: in which call, with which cause, and how many octets the writer or the fault
-/// counts.
+/// How writing ended: in which call, with which cause, and the number of octets that the writer or
+/// the error reports.
 #[derive(Clone, Copy)]
 struct End {
     call: &'static str,
     cause: Option<PackCause>,
     written: u64,
-    /// What each of three later calls returns, if there is a writer left: two chunks and the end.
+    /// The results of three later calls, if there still is a writer: two chunks and the end.
     later: [Option<PackCause>; 3],
 }
 
-/// Logs an end, and whether the octets that were written are a prefix of the expected ones.
+/// Logs how writing ended, and whether the octets written are a prefix of the expected ones.
 fn log_end(told: &mut TestLog, end: &End, octets: &[u8]) {
     told.put(" good: in ");
     told.put(end.call);
@@ -134,7 +135,7 @@ fn log_end(told: &mut TestLog, end: &End, octets: &[u8]) {
     told.line(FAILING, " then ", &end.later);
 }
 
-/// Logs the end at a call of a writer that failed there. It accepts nothing more.
+/// Logs how writing ended at a call that failed. The writer must not accept anything afterwards.
 fn log_failed(
     told: &mut TestLog,
     call: &'static str,
@@ -160,7 +161,7 @@ fn log_failed(
     }
 }
 
-/// Writes three octets, and logs how that ended.
+/// Writes three octets, and logs how writing ended.
 fn log_written(told: &mut TestLog, mut writer: SubfileWriter<Sink>) {
     if let Err(cause) = writer.write(b"abc") {
         return log_failed(told, "write", cause, writer);
@@ -179,7 +180,7 @@ fn log_written(told: &mut TestLog, mut writer: SubfileWriter<Sink>) {
     }
 }
 
-/// Logs how writing ended that failed at its start.
+/// Logs how writing ended if it could not be started.
 fn log_not_started(told: &mut TestLog, fault: &StartFault<Sink>) {
     let end = End {
         call: "start",
@@ -190,7 +191,7 @@ fn log_not_started(told: &mut TestLog, fault: &StartFault<Sink>) {
     log_end(told, &end, fault.writer.octets());
 }
 
-/// Writes three octets to a target that accepts `good` octets, one a call, and then fails.
+/// Writes three octets to a target that accepts `good` octets, one in each call, and then fails.
 fn write_three(told: &mut TestLog, alloc: Global, good: u64) {
     let Some(buffer) = buffer(alloc, 2, Size::Unknown(Some(5))) else {
         return told.line_of_words(FAILING, "no buffer");
@@ -210,8 +211,8 @@ fn writes_that_fail_at_each_call(told: &mut TestLog, alloc: Global) {
     }
 }
 
-/// Returns whether a writer accepts three octets, and how many were written, if its target is
-/// interrupted `interruptions` times after 30 octets.
+/// Writes three octets to a target that is interrupted `interruptions` times after 30 octets.
+/// Returns whether they were accepted, and the number of octets written.
 fn interrupted(alloc: Global, interruptions: u32) -> Option<(bool, u64)> {
     let buffer = buffer(alloc, 2, Size::Unknown(Some(5)))?;
     let target: Sink = TrialWriter::new(30, Trouble::Interruptions(interruptions));

@@ -22,21 +22,20 @@ name_of_message LoneReturn = name_of_text texts.LoneReturn
 name_of_message ControlOctet = name_of_text texts.ControlOctet
 name_of_message Sink = name_of_text texts.Sink
 
--- a cause's number and name, as they are printed
+-- the printed form of a cause: its number and its name
 abbrev pub print_of_message : MessageCause → List ℕ
 print_of_message cause = decimal (number_of_message cause) ++ (codes " " ++ name_of_message cause)
 
--- The number of octets before the rejected one, and the cause, as they are printed.
+-- The printed form of a fault: the number of octets before the rejected one, and the cause.
 abbrev pub print_of_fault : MessageFault → List ℕ
 print_of_fault fault = codes "refused after " ++ (decimal fault.taken ++ (codes " octets, cause " ++ print_of_message fault.cause))
 
--- The text in the octets is a viable prefix of a story, and with one more octet it is not.
+-- The text in the octets is a viable prefix of a story, but with one more octet it is not.
 abbrev pub EndsViableStoryIn : List ℕ → ℕ → Type 0
 EndsViableStoryIn octets octet = HasViableStory octets × (HasViableStory (octets ++ octet ∷ []) → ⊥)
 
--- Why an octet is rejected after others: with it they are no longer a viable prefix of a message,
--- or else their text is not one of a story, or else the sink rejected an octet of the text that it
--- received.
+-- Why an octet is rejected after others: with it they are no longer a viable prefix of a message;
+-- or their text is no longer a viable prefix of a story; or the sink rejected an octet of the text.
 abbrev pub HasMessageCause : MessageCause → List ℕ → ℕ → Type 0
 HasMessageCause BadOctet octets octet = EndsViableMessage octets (Octet octet)
 HasMessageCause Unfinished octets octet = ⊥

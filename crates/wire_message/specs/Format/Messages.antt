@@ -1,4 +1,4 @@
--- The message: its parts, its canonical form, and the layers of an object.
+-- Messages: their parts, their canonical form, and the layers of an object.
 use Rattle.std.specs.Prelude.{ℕ, ◌≤◌, Bool, ◌&&◌, ◌||◌, ◌==◌, not, nat_lt, IsTrue, List, length, ◌≡◌, ◌⊎◌, [], ◌∷◌, ◌++◌, if◌then◌else◌, map}
 use Rattle.std.specs.List.{list_all, list_any, before_first, after_first}
 use Rattle.iim_dataset.specs.Format.Octets.{nul, etx, lf, cr, syn, sp, within, is_digit, is_letter, soh, stx, eot, IsViablePrefix, EndsViablePrefix}
@@ -19,11 +19,11 @@ is_trailer_octet b = is_info_octet b || b == lf || b == cr
 abbrev pub is_filler_octet : ℕ → Bool
 is_filler_octet b = b == nul || b == lf || b == cr || b == syn
 
--- To the message the text is any octets but ETX.
+-- For the message layer the text consists of any octets but ETX.
 abbrev pub is_text_octet : ℕ → Bool
 is_text_octet b = nat_lt b 256 && not (b == etx)
 
--- Each octet passes the test.
+-- All octets pass the test.
 abbrev pub Are : (ℕ → Bool) → List ℕ → Type 0
 Are test xs = IsTrue (list_all test xs)
 
@@ -31,9 +31,9 @@ Are test xs = IsTrue (list_all test xs)
 abbrev pub IsField : (ℕ → Bool) → ℕ → ℕ → List ℕ → Type 0
 IsField test least most xs = Are test xs × (least ≤ length xs) × (length xs ≤ most)
 
--- ---- The greatest numbers of octets of the parts.
+-- ---- The maximum lengths of the parts, in octets.
 
--- filler before SOH and after EOT, and the gap
+-- the maximum length of the filler before SOH, of the filler after EOT, and of the gap
 abbrev pub max_filler : ℕ
 max_filler = 32
 
@@ -74,7 +74,7 @@ abbrev pub header_of : List ℕ → List ℕ → List ℕ → List ℕ → List 
 header_of source number priority category words info =
     record { source = source; number = number; priority = priority; category = category; words = words; info = info }
 
--- A header: each part has one of its lengths and is made of its octets.
+-- A header: each part has a length that is allowed, and consists of octets that are allowed.
 pub record IsHeader (head : Header) : Type 0 where
   pub source : IsField is_letter 1 max_source head.source
   pub number : IsField is_digit 1 max_number head.number
@@ -83,23 +83,23 @@ pub record IsHeader (head : Header) : Type 0 where
   pub words : IsField is_digit 1 max_words head.words
   pub info : IsField is_info_octet 0 max_info head.info
 
--- A trailer: up to 64 octets, which may be line ends.
+-- A trailer: up to 64 octets, which may include line ends.
 abbrev pub IsTrailer : List ℕ → Type 0
 IsTrailer xs = IsField is_trailer_octet 0 max_trailer xs
 
--- Filler: up to 32 octets that mean nothing.
+-- Filler: up to 32 octets that are ignored.
 abbrev pub IsFiller : List ℕ → Type 0
 IsFiller xs = IsField is_filler_octet 0 max_filler xs
 
--- One of the octets is LF.
+-- the octets contain an LF
 abbrev pub has_feed : List ℕ → Bool
 has_feed xs = list_any (λ b. b == lf) xs
 
--- A gap: filler octets, at least one of them LF.
+-- A gap: filler octets, which include an LF.
 abbrev pub IsGap : List ℕ → Type 0
 IsGap xs = IsField is_filler_octet 1 max_filler xs × IsTrue (has_feed xs)
 
--- nothing for an empty info, or SP and the info
+-- the encoding of the info: nothing, if the info is empty, or SP and the info
 abbrev pub EncodesInfo : List ℕ → List ℕ → Type 0
 EncodesInfo info xs = ((info ≡ []) × (xs ≡ [])) ⊎ (xs ≡ sp ∷ info)
 
@@ -122,7 +122,7 @@ pub record IsMessage (object : List ℕ) (head : Header) (text trailer : List �
   pub is_after : IsFiller after
   pub parts : object ≡ before ++ (soh ∷ fixed_header head ++ (info ++ (gap ++ (stx ∷ text ++ (etx ∷ trailer ++ (eot ∷ after))))))
 
--- The octets are a message with this header up to STX, and then any octets.
+-- The octets begin like a message with this header, up to STX, and continue with any octets.
 pub record BeginsWithHeader (octets : List ℕ) (head : Header) : Type 0 where
   pub before : List ℕ
   pub info : List ℕ
@@ -134,24 +134,24 @@ pub record BeginsWithHeader (octets : List ℕ) (head : Header) : Type 0 where
   pub is_gap : IsGap gap
   pub parts : octets ≡ before ++ (soh ∷ fixed_header head ++ (info ++ (gap ++ (stx ∷ rest))))
 
--- nothing for an empty info, and otherwise SP and the info
+-- the canonical encoding of the info: nothing, if it is empty, otherwise SP and the info
 abbrev pub packed_info : List ℕ → List ℕ
 packed_info [] = []
 packed_info (b ∷ bs) = sp ∷ b ∷ bs
 
--- SOH to STX, with the gap CR LF
+-- the canonical octets from SOH to STX, with the gap CR LF
 abbrev pub packed_head : Header → List ℕ
 packed_head head = soh ∷ fixed_header head ++ (packed_info head.info ++ (cr ∷ lf ∷ stx ∷ []))
 
--- ETX, trailer, EOT
+-- the canonical octets from ETX to EOT
 abbrev pub packed_tail : List ℕ → List ℕ
 packed_tail trailer = etx ∷ trailer ++ (eot ∷ [])
 
--- the object with no filler, its lines joined by CR LF
+-- the canonical object: a message without filler, whose lines are joined by CR LF
 abbrev pub canonical : Header → List (List ℕ) → List ℕ → List ℕ
 canonical head lines trailer = packed_head head ++ (packed_text lines ++ packed_tail trailer)
 
--- the language of the message: the octets of a message, and then the end
+-- The language of messages: the octets of a message, followed by the end.
 pub record MessageLanguage (tokens : List OctetOrEnd) : Type 0 where
   pub object : List ℕ
   pub head : Header
@@ -164,23 +164,23 @@ pub record MessageLanguage (tokens : List OctetOrEnd) : Type 0 where
 abbrev pub IsViableMessage : List ℕ → Type 0
 IsViableMessage octets = IsViablePrefix MessageLanguage (map Octet octets)
 
--- The octets are a viable prefix of a message, and with the next token they are not.
+-- The octets are a viable prefix of a message, but with the next token they are not.
 abbrev pub EndsViableMessage : List ℕ → OctetOrEnd → Type 0
 EndsViableMessage octets token = EndsViablePrefix MessageLanguage (map Octet octets) token
 
--- what follows STX
+-- the octets after STX
 abbrev pub after_stx : List ℕ → List ℕ
 after_stx octets = after_first (λ b. b == stx) octets
 
--- the text so far: what is after STX and before ETX
+-- the text so far: the octets after STX and before ETX
 abbrev pub text_so_far : List ℕ → List ℕ
 text_so_far octets = before_first (λ b. b == etx) (after_stx octets)
 
--- the trailer so far: what is after ETX, which ends the text, and before EOT
+-- the trailer so far: the octets after ETX and before EOT
 abbrev pub trailer_so_far : List ℕ → List ℕ
 trailer_so_far octets = before_first (λ b. b == eot) (after_first (λ b. b == etx) (after_stx octets))
 
--- the story's tokens of the octets so far: the text has ended if an ETX is after STX
+-- the tokens of the story in the octets so far: the text has ended if STX is followed by ETX
 abbrev pub story_tokens_of : List ℕ → List OctetOrEnd
 story_tokens_of octets = map Octet (text_so_far octets)
     ++ (if list_any (λ b. b == etx) (after_stx octets) then End ∷ [] else [])

@@ -1,4 +1,4 @@
--- The states of a reader of messages, which octets reach them, and how a state is saved.
+-- The states of a reader of messages, the octets that reach them, and the saved form of a state.
 use Rattle.std.specs.Prelude.{◌≡◌, ℕ, ◌≤◌, ◌||◌, nat_lt, IsTrue, List, [], ◌∷◌, ◌++◌, length, ◌<◌, take, slice_index, Bool, true, false, Option, Some, None, if◌then◌else◌, ◌+◌, IfSome}
 use Rattle.iim_dataset.specs.Format.Octets.{soh, stx, etx, sp, is_digit, is_letter, CounterRose}
 use Rattle.wire_story.specs.Format.Texts.{HasLines, StoryEvent, delivered}
@@ -15,13 +15,13 @@ use Rattle.wire_message.specs.declared.saved.MessagePart.TheVariants as part
 
 -- ---- The parts of a header.
 
--- Each part has only its own octets, and its length is between these two bounds.
+-- Each part has only octets that are allowed in it, and its length is within these bounds.
 abbrev pub HavePartBounds : (s s' n n' p p' c c' w w' : ℕ) → HeaderTexts → Type 0
 HavePartBounds s s' n n' p p' c c' w w' t = IsField is_letter s s' t.source.items × IsField is_digit n n' t.number.items × IsField is_digit p p' t.priority.items
     × IsField is_alphanumeric c c' t.category.items × IsField is_digit w w' t.words.items
 
--- the octets after SOH up to the part that is being read: the number follows the source
--- immediately, and other parts are separated by SP
+-- the octets after SOH up to the part in progress: the number directly follows the source, and
+-- other parts are separated by SP
 abbrev pub so_far : HeaderPart → HeaderTexts → List ℕ
 so_far Source t = t.source.items
 so_far Number t = t.source.items ++ t.number.items
@@ -29,11 +29,11 @@ so_far Priority t = t.source.items ++ (t.number.items ++ (sp ∷ t.priority.item
 so_far Category t = t.source.items ++ (t.number.items ++ (sp ∷ (t.priority.items ++ (sp ∷ t.category.items))))
 so_far Words t = t.source.items ++ (t.number.items ++ (sp ∷ (t.priority.items ++ (sp ∷ (t.category.items ++ (sp ∷ t.words.items))))))
 
--- ---- All states.
+-- ---- Possible states.
 
--- What was read has lengths and octets with which a message can continue. In a header the parts
--- before the one that is being read have at least one octet, and so has the number, which its first
--- digit begins; those after it are empty.
+-- What was received has lengths and octets with which a message can continue. In a header, the
+-- parts before the one in progress are non-empty, and so is the number, which begins with its first
+-- digit. The parts after the one in progress are empty.
 abbrev pub IsMessageState : Place → Type 0
 IsMessageState (Filler count) = count ≤ max_filler
 IsMessageState (InHeader Source t) = HavePartBounds 0 max_source 0 0 0 0 0 0 0 0 t
@@ -47,7 +47,7 @@ IsMessageState (Text h reader) = IsHeader h × story.IsTextState reader
 IsMessageState (Trailer h t) = IsHeader h × IsTrailer t.items
 IsMessageState (AfterEnd h t count) = IsHeader h × IsTrailer t.items × (count ≤ max_filler)
 
--- The octets are what was read, in order, with this text so far.
+-- The octets are those that the state describes, in order, and `text` is the text in them.
 abbrev pub MatchesState : List ℕ → List ℕ → Place → Type 0
 MatchesState octets text (Filler count) = IsFiller octets × (length octets ≡ count) × (text ≡ [])
 MatchesState octets text (InHeader part t) = (before : List ℕ) × IsFiller before × (octets ≡ before ++ (soh ∷ so_far part t)) × (text ≡ [])
@@ -64,74 +64,73 @@ MatchesState octets text (Trailer h t) = (before : List ℕ) × (info : List ℕ
     × (octets ≡ before ++ (soh ∷ (fixed_header h ++ (info ++ (gap ++ (stx ∷ (text ++ (etx ∷ t.items))))))))
 MatchesState octets text (AfterEnd h t count) = (message : IsMessage octets h text t.items) × (length message.after ≡ count)
 
--- The text so far is one of a story: a reader of the text is in the state after it, and from ETX on
--- the text is complete.
+-- The text so far is a viable prefix of a story: a reader of the text has consumed it, and after
+-- ETX the text is complete.
 abbrev pub IsStoryState : List ℕ → Place → Type 0
 IsStoryState text (Text h reader) = story.TextReaderHasRead reader text
 IsStoryState text (Trailer h t) = HasLines text
 IsStoryState text (AfterEnd h t count) = HasLines text
 IsStoryState text _ = text ≡ []
 
--- The octets so far, with this text among them, reach the state.
+-- The octets so far, which contain this text, reach the state.
 pub record ReachesMessageState (octets text : List ℕ) (place : Place) : Type 0 where
   pub is_place : IsMessageState place
   pub spelled : MatchesState octets text place
   pub story : IsStoryState text place
 
--- ---- The state of a reader of messages, and why it rejects an octet.
+-- ---- The state of a reader of messages, and why the reader rejects an octet.
 
--- The reader has consumed these octets, with this text among them.
+-- The reader has consumed these octets, which contain this text.
 abbrev pub MessageReaderHasRead : Option Place → List ℕ → List ℕ → Type 0
 MessageReaderHasRead reader octets text = (place : Place) × (reader ≡ Some place) × ReachesMessageState octets text place
 
--- From the state after any octets, a chunk takes the reader to the new state, and adds this to the
--- text.
+-- From the state after any octets, the chunk moves the reader to the new state, and adds this text.
 abbrev pub ChunkAdvancesMessage : Option Place → List ℕ → List ℕ → Option Place → Type 0
 ChunkAdvancesMessage old piece more new = (octets text : List ℕ) → MessageReaderHasRead old octets text → MessageReaderHasRead new (octets ++ piece) (text ++ more)
 
--- From the state after any octets, a chunk reaches some state, and adds this to the text.
+-- From the state after any octets, the chunk reaches some state, and adds this text.
 abbrev pub ReachesSomeState : Option Place → List ℕ → List ℕ → Type 0
 ReachesSomeState old piece more = (octets text : List ℕ) → MessageReaderHasRead old octets text
     → (place : Place) × ReachesMessageState (octets ++ piece) (text ++ more) place
 
--- The sink received exactly the events delivered of the text that the chunk adds.
+-- The sink received exactly the events that are delivered for the text that the chunk adds.
 abbrev pub PassesStoryToSink : {S : Type 0} → (S → List StoryEvent → S → Type 0) → S → Option Place → List ℕ → Option Place → S → Type 0
 PassesStoryToSink goes before old piece new after = (more : List ℕ) × goes before (delivered more) after × ChunkAdvancesMessage old piece more new
 
--- The sink received exactly the events delivered of the text that the octets before a rejected one
--- add.
+-- The sink received exactly the events that are delivered for the text that the octets before a
+-- rejected one add.
 abbrev pub PassesPrefixToSink : {S : Type 0} → (S → List StoryEvent → S → Type 0) → S → Option Place → List ℕ → S → Type 0
 PassesPrefixToSink goes before old piece after = (more : List ℕ) × goes before (delivered more) after × ReachesSomeState old piece more
 
--- After any octets so far, these and the chunk are a viable prefix of a message, and their text of
--- a story.
+-- After any octets so far, these octets and the chunk are a viable prefix of a message, and their
+-- text is a viable prefix of a story.
 abbrev pub IsViableWithChunk : Option Place → List ℕ → Type 0
 IsViableWithChunk old piece = (octets text : List ℕ) → MessageReaderHasRead old octets text → IsViableMessage (octets ++ piece) × HasViableStory (octets ++ piece)
 
--- After any octets so far, the octet of the chunk after the first `taken` is rejected for that
--- cause.
+-- After any octets so far, the octet of the chunk at the index `taken` is rejected for that cause.
 abbrev pub RejectsMessageOctet : Option Place → List ℕ → MessageFault → Type 0
 RejectsMessageOctet old piece fault = (octets text : List ℕ) → MessageReaderHasRead old octets text →
     HasMessageCause fault.cause (octets ++ take fault.taken piece) (slice_index piece fault.taken)
 
--- The failure counter of the sink rose exactly if the sink rejected.
+-- The sink's count of failures increased if and only if the sink rejected the octet.
 abbrev pub SinkCountsMessageCause : ℕ → ℕ → MessageCause → Type 0
 SinkCountsMessageCause old new Sink = CounterRose old new
 SinkCountsMessageCause old new _ = new ≡ old
 
--- ---- How a call ends.
+-- ---- The results of calls.
 
--- All octets of a chunk were consumed: the octets so far are a viable prefix of a message, and
--- their text of a story, the sink received exactly the events delivered of the text that they add,
--- and it did not stop.
+-- All octets of a chunk were consumed. The octets so far are a viable prefix of a message, and
+-- their text is a viable prefix of a story. The sink received exactly the events that are delivered
+-- for the text that the chunk adds, and did not stop.
 pub record MessageReaderConsumes {S : Type 0} (goes : S → List StoryEvent → S → Type 0) (failures : S → ℕ) (old : Option Place) (piece : List ℕ) (new : Option Place) (a b : S) : Type 0 where
   pub lives : IsViableWithChunk old piece
   pub told : PassesStoryToSink goes a old piece new b
   pub no_failure : failures b ≡ failures a
 
--- One octet of a chunk was rejected, for its cause. With those before it the octets are a viable
--- prefix of a message, and their text of a story, and the sink received exactly the events
--- delivered of their text. Its failure counter rose if it was the one that rejected.
+-- An octet of a chunk was rejected, for its cause. The octets before it are a viable prefix of a
+-- message, and their text is a viable prefix of a story, and the sink received exactly the events
+-- that are delivered for that text. The sink's count of failures increased if the sink rejected the
+-- octet.
 pub record MessageReaderRejects {S : Type 0} (goes : S → List StoryEvent → S → Type 0) (failures : S → ℕ) (old : Option Place) (piece : List ℕ) (fault : MessageFault) (a b : S) : Type 0 where
   pub before : fault.taken < length piece
   pub lives : IsViableWithChunk old (take fault.taken piece)
@@ -139,35 +138,35 @@ pub record MessageReaderRejects {S : Type 0} (goes : S → List StoryEvent → S
   pub told : PassesPrefixToSink goes a old (take fault.taken piece) b
   pub counted : SinkCountsMessageCause (failures a) (failures b) fault.cause
 
--- ---- What a reader returns.
+-- ---- The values that a reader returns.
 
--- the header, from STX on
+-- the header, after STX was received
 abbrev pub head_read : Option Place → Option Header
 head_read (Some (Text h reader)) = Some h
 head_read (Some (Trailer h t)) = Some h
 head_read (Some (AfterEnd h t count)) = Some h
 head_read _ = None
 
--- the trailer so far, empty before ETX
+-- the trailer so far, which is empty before ETX
 abbrev pub trailer_read : Option Place → List ℕ
 trailer_read (Some (Trailer h t)) = t.items
 trailer_read (Some (AfterEnd h t count)) = t.items
 trailer_read _ = []
 
--- whether EOT has come
+-- whether EOT was received
 abbrev pub is_ended : Option Place → Bool
 is_ended (Some (AfterEnd h t count)) = true
 is_ended _ = false
 
--- The octets are a message with the header and the trailer that were read, and with a text.
+-- The octets are a message with a text, and with the header and the trailer that were received.
 abbrev pub IsCompleteMessage : Option Place → Type 0
 IsCompleteMessage reader = (octets text : List ℕ) → MessageReaderHasRead reader octets text
     → (head : Header) × (head_read reader ≡ Some head) × IsMessage octets head text (trailer_read reader) × HasLines text
 
 -- ---- The saved state of a reader of messages.
 
--- a part, its counter and flag, and the octets of source, number, priority, category, words, info
--- and trailer
+-- a saved state: a part, its counter and flag, and the octets of source, number, priority,
+-- category, words, info and trailer
 abbrev pub place_from : MessagePart → ℕ → ℕ → List ℕ → List ℕ → List ℕ → List ℕ → List ℕ → List ℕ → List ℕ → MessagePlace
 place_from part counter flag source number priority category words info trailer = record {
   part = part;
@@ -182,12 +181,13 @@ place_from part counter flag source number priority category words info trailer 
   trailer = record { items = trailer };
 }
 
--- a part, its counter and flag, the parts of a header, and the trailer
+-- a saved state with the parts of a header: a part, its counter and flag, the header, and the
+-- trailer
 abbrev pub place_with_header : MessagePart → ℕ → ℕ → Header → List ℕ → MessagePlace
 place_with_header part counter flag h trailer = place_from part counter flag h.source h.number h.priority h.category h.words h.info trailer
 
--- a part of the header in its saved form: the priority, with these octets, is before its digit or
--- after it
+-- the saved form of a part of the header, in which the priority before its digit differs from the
+-- priority after it
 abbrev pub saved_part : HeaderPart → List ℕ → MessagePart
 saved_part Source _ = part.Source
 saved_part Number _ = part.Number
@@ -196,7 +196,7 @@ saved_part Priority (b ∷ bs) = part.PriorityRead
 saved_part Category _ = part.Category
 saved_part Words _ = part.Words
 
--- the saved form of a state: parts after the one that is being read are empty
+-- the saved form of a state, in which the parts after the one in progress are empty
 abbrev pub saved : Place → MessagePlace
 saved (Filler count) = place_from part.Filler count 0 [] [] [] [] [] [] []
 saved (InHeader at t) = place_from (saved_part at t.priority.items) 0 0 t.source.items t.number.items t.priority.items t.category.items t.words.items [] []
@@ -207,7 +207,7 @@ saved (Text h None) = place_with_header part.Text 0 0 h []
 saved (Trailer h t) = place_with_header part.Trailer 0 0 h t.items
 saved (AfterEnd h t count) = place_with_header part.AfterEnd count 0 h t.items
 
--- The octets so far, with this text among them, reach the state with this saved form.
+-- The octets so far, which contain this text, reach the state with this saved form.
 abbrev pub ReachesSavedState : List ℕ → List ℕ → MessagePlace → Type 0
 ReachesSavedState octets text place = (at : Place) × ReachesMessageState octets text at × (saved at ≡ place)
 
@@ -215,25 +215,25 @@ ReachesSavedState octets text place = (at : Place) × ReachesMessageState octets
 abbrev pub ReaderHasSavedState : Option Place → MessagePlace → Type 0
 ReaderHasSavedState reader place = (at : Place) × (reader ≡ Some at) × (saved at ≡ place)
 
--- Some `count` octets reach the state of the reader.
+-- Some octets of length `count` reach the state of the reader.
 abbrev pub IsReachedByLength : Option Place → ℕ → Type 0
 IsReachedByLength reader count = (octets : List ℕ) × (text : List ℕ) × MessageReaderHasRead reader octets text × (length octets ≡ count)
 
--- The number is at least the least, and at most the greatest if there is one.
+-- The number is at least the minimum and, if there is a maximum, at most the maximum.
 abbrev pub IsPossibleLength : ℕ → Option ℕ → ℕ → Type 0
 IsPossibleLength least greatest count = (least ≤ count) × IfSome greatest (λ most. count ≤ most)
 
--- the length of SOH and the parts up to the words, with the SP between them
+-- the length of SOH and the parts up to the words, including the SP between them
 abbrev pub fixed_octets : Header → ℕ
 fixed_octets h = 1 + length (fixed_header h)
 
--- the least length from SOH to STX: an empty info has no SP, and the gap is LF alone
+-- the minimum length from SOH to STX: an empty info has no SP, and the gap is a single LF
 abbrev pub least_head : Header → ℕ
 least_head h = fixed_octets h + length (packed_info h.info) + 2
 
--- The least number of octets that reach a state: there is no filler before SOH, an empty info has
--- no SP once the gap has begun, and once the gap has ended it is LF alone; the text is the pending
--- CR.
+-- The minimum length of octets that reach a state: there is no filler before SOH; an empty info has
+-- no SP if the gap has begun; the gap is a single LF if it has ended; and the text consists of the
+-- pending CR.
 abbrev pub least_of : Place → ℕ
 least_of (Filler count) = count
 least_of (InHeader part t) = 1 + length (so_far part t)
@@ -244,8 +244,9 @@ least_of (Text h None) = least_head h
 least_of (Trailer h t) = least_head h + 1 + length t.items
 least_of (AfterEnd h t count) = least_head h + 2 + length t.items + count
 
--- The greatest number of octets that reach a state: there are 32 octets of filler before SOH, and
--- in the gap an empty info has its SP. From STX on the text may be of any length.
+-- The maximum length of octets that reach a state: there are 32 octets of filler before SOH, and in
+-- the gap an empty info has its SP. From STX on there is no maximum, since the text may have any
+-- length.
 abbrev pub greatest_of : Place → Option ℕ
 greatest_of (Filler count) = Some count
 greatest_of (Gap h count feed) = Some (max_filler + (fixed_octets h + 1 + length h.info + count))

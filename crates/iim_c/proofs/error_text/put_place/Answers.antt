@@ -1,0 +1,7 @@
+use Rattle.iim_c.specs.TextOutLaws.{octets_joined}
+use Rattle.iim_c.proofs.error_text.put_place.Goals as goal
+
+pub returns : goal.returns
+returns c =
+    octets_joined c.put_number.ensures
+    (octets_joined c.put_words.ensures (octets_joined c.put_number-2.ensures (octets_joined c.put_words-2.ensures c.put_layer.ensures)))
