@@ -73,6 +73,9 @@ enum {
     IIM_FAILED = 11      /**< a byte was rejected before: the iim_unpacker has no state to save */
 };
 
+/** Success: another name of IIM_DONE, for the calls that return their status. */
+#define IIM_OK IIM_DONE
+
 /** The layer that rejects a byte; 0 if no layer does. A head is a complete tag. */
 enum {
     IIM_LAYER_DATASET = 1, /**< tags, byte by byte */
@@ -113,6 +116,18 @@ typedef struct iim_limits {
     uint32_t octets; /**< bytes of data */
     uint32_t fields; /**< number of datasets */
 } iim_limits;
+
+/** The bytes of data that these iim_limits allow. */
+#define IIM_OCTETS_MAX(limits) ((size_t)((limits).octets ? (limits).octets : 65536))
+
+/** The number of datasets that these iim_limits allow. */
+#define IIM_FIELDS_MAX(limits) ((size_t)((limits).fields ? (limits).fields : 512))
+
+/** The greatest length of a ticket within these iim_limits, in bytes. */
+#define IIM_TICKET_MAX(limits) (IIM_OCTETS_MAX(limits) + 6 * IIM_FIELDS_MAX(limits) + 256)
+
+/** The greatest length of a ticket within the limits of wire copy: a constant, for arrays. */
+#define IIM_TICKET_SIZE (65536 + 6 * 512 + 256)
 
 /* ---- Reading envelopes */
 
@@ -453,8 +468,7 @@ void iim_place(const uint8_t *ticket, size_t ticket_len, uint64_t at, iim_begun 
  *     iim_unpacker_end(&unpacker, &answer);
  *     iim_unpacker_close(&unpacker);
  *
- * To read datasets, header or sizes, save the state with iim_unpacker_save() into a buffer, and
- * call iim_fields(), iim_header() or iim_sizes() on that ticket.
+ * iim_unpacker_fields() returns all datasets in one call, and iim_unpacker_field() copies one.
  *
  * An unpacker may be moved: copied, if only one of the copies is used from then on. Threads may
  * use it one after another, in one call at a time, if the caller orders the calls. A call on a
@@ -567,6 +581,97 @@ void iim_unpacker_save(iim_unpacker *unpacker, uint8_t *ticket_out, size_t ticke
 void iim_unpacker_restore(iim_limits limits, iim_unpacker *unpacker, const uint8_t *ticket,
                           size_t ticket_len, uint64_t at, iim_answer *answer);
 
+/*
+ * The readers below return their status, which is `answer->status`, too. They allocate no memory,
+ * and leave the unpacker unchanged.
+ *
+ * The first three work in any state. They write the ticket of that state into a buffer of the
+ * caller, as iim_unpacker_save() does, and return slices of that buffer: they read what
+ * iim_fields(), iim_header() and iim_sizes() read of that ticket. Status of each:
+ * - IIM_OK: the ticket has `ticket` bytes, and `octet` is the length of the envelope so far.
+ * - IIM_SHORT: the buffer is too short: the ticket has `ticket` bytes. Nothing is written but the
+ *   buffer.
+ * - IIM_FAILED: a byte was rejected before. Nothing is written.
+ * - IIM_BAD_HANDLE: the unpacker is closed. Nothing is written.
+ */
+
+/**
+ * Writes all complete datasets of records 1 and 2, in one call.
+ *
+ * @param unpacker        an open unpacker
+ * @param ticket_out      receives the ticket, which has the data of the datasets
+ * @param ticket_out_len  its length; IIM_TICKET_SIZE is enough for the limits of wire copy
+ * @param datasets        receives the datasets; the data of dataset k begin at
+ *                        `ticket_out[datasets[k].data.offset]`
+ * @param datasets_len    capacity of `datasets`
+ * @param answer          receives the result
+ * @return                IIM_OK, and `written` is the number of datasets; IIM_SHORT if `written`
+ *                        datasets do not fit, and `datasets` has the first of them; or as above
+ */
+int iim_unpacker_fields(iim_unpacker *unpacker, uint8_t *ticket_out, size_t ticket_out_len,
+                        iim_dataset *datasets, size_t datasets_len, iim_answer *answer);
+
+/**
+ * Returns the header and the trailer of the message, as far as they were received.
+ *
+ * @param unpacker        an open unpacker
+ * @param ticket_out      receives the ticket, which has the texts of the message
+ * @param ticket_out_len  its length
+ * @param message         receives the header and the trailer, as slices of `ticket_out`
+ * @param answer          receives the result
+ * @return                IIM_OK, or as above
+ */
+int iim_unpacker_header(iim_unpacker *unpacker, uint8_t *ticket_out, size_t ticket_out_len,
+                        iim_message *message, iim_answer *answer);
+
+/**
+ * Returns the sizes of the object, as far as they were received.
+ *
+ * @param unpacker        an open unpacker
+ * @param ticket_out      receives the ticket
+ * @param ticket_out_len  its length
+ * @param object          receives the sizes
+ * @param answer          receives the result
+ * @return                IIM_OK, or as above
+ */
+int iim_unpacker_sizes(iim_unpacker *unpacker, uint8_t *ticket_out, size_t ticket_out_len,
+                       iim_object *object, iim_answer *answer);
+
+/**
+ * Copies the data of one dataset of a complete envelope.
+ *
+ *     uint8_t headline[256];
+ *     if (iim_unpacker_field(&unpacker, 2, 105, 0, headline, sizeof headline, &answer) == IIM_OK)
+ *         fwrite(headline, 1, answer.written, stdout);
+ *
+ * @param unpacker  an open unpacker, after IIM_DONE
+ * @param rec       the record
+ * @param set       the number of the dataset within its record
+ * @param n         index among the datasets with these numbers, in the order received; 0 is the
+ *                  first
+ * @param out       receives the data
+ * @param out_len   its length
+ * @param answer    receives the result
+ * @return          IIM_OK, and `written` is the number of bytes; IIM_NONE if there are no more than
+ *                  `n`; IIM_SHORT if the data have `written` bytes, more than `out_len`; IIM_MORE
+ *                  if the envelope is not complete; IIM_FAILED if a byte was rejected; or
+ *                  IIM_BAD_HANDLE. Except for IIM_OK, `out` is unchanged
+ */
+int iim_unpacker_field(iim_unpacker *unpacker, uint8_t rec, uint8_t set, size_t n, uint8_t *out,
+                       size_t out_len, iim_answer *answer);
+
+/**
+ * Counts the datasets of a complete envelope with one record and number.
+ *
+ * @param unpacker  an open unpacker, after IIM_DONE
+ * @param rec       the record
+ * @param set       the number of the dataset within its record
+ * @param answer    receives the result
+ * @return          IIM_OK, and `written` is their number, which may be 0; or IIM_MORE, IIM_FAILED
+ *                  or IIM_BAD_HANDLE, as for iim_unpacker_field()
+ */
+int iim_unpacker_count(iim_unpacker *unpacker, uint8_t rec, uint8_t set, iim_answer *answer);
+
 /**
  * Closes an unpacker, and frees its memory.
  *
@@ -597,7 +702,7 @@ typedef struct iim_so_far {
 
 /** Whether the copy of an envelope may be used. */
 enum {
-    IIM_COPY_FREE = 0,   /**< it may be used */
+    IIM_COPY_FREE = 0,   /**< the copy may be used */
     IIM_COPY_HELD = 1,   /**< its release is after the instant of the audit */
     IIM_COPY_EXPIRED = 2 /**< it is not held, and that instant is after its expiration */
 };
@@ -614,7 +719,7 @@ typedef struct iim_audit_row {
     uint64_t announced; /**< number of words that its message announces */
     /** Number of words of its story: the longest spans, within a line, without SP and TAB. */
     uint64_t counted;
-    /** has_age: whole seconds since it was sent, rounded down, below zero for the future. */
+    /** has_age: whole seconds since it was sent, rounded down; negative if sent in the future. */
     int64_t age;
     iim_instant release;    /**< has_release: the first instant at which its copy may be used */
     iim_instant expires;    /**< has_expires: the last instant at which its copy may be used */
@@ -837,6 +942,20 @@ size_t iim_layer_name(uint8_t layer, char *out, size_t len);
  * @return     number of characters of the name, without the NUL; 0 if the dataset is unknown
  */
 size_t iim_dataset_name(uint8_t rec, uint8_t set, char *out, size_t len);
+
+/**
+ * Writes the line that `iimwire check` prints for a refusal, without its line end, and a NUL, such
+ * as `1 refused at octet 46 by layer record on 1:70, cause 14 Missing`. Every line and its NUL fit
+ * in 128 bytes.
+ *
+ * @param number  number of the envelope in its input, from 1
+ * @param answer  the answer with the refusal: its status is IIM_REFUSED, of a call that reads an
+ *                envelope, or IIM_TRUNCATED
+ * @param out     receives the line and a NUL, if they fit; otherwise its contents are unspecified
+ * @param len     capacity of `out`
+ * @return        number of characters of the line, without the NUL; 0 for any other status
+ */
+size_t iim_error_text(uint64_t number, const iim_answer *answer, char *out, size_t len);
 
 /**
  * Returns the version of the interface that the library implements. Allocates no memory.

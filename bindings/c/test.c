@@ -73,6 +73,9 @@ static int try_buffers(char **words) {
     try_great_limits(story);
     try_names();
     try_sentences();
+    try_error_texts();
+    try_statuses();
+    try_greatest_ticket();
     try_default_limits(smallest);
     try_fields(smallest);
     try_fields(story);

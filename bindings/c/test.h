@@ -12,7 +12,7 @@
 #include <stdlib.h>
 #include <string.h>
 
-enum { TICKET = 65536 + 6 * 512 + 256 };
+enum { TICKET = IIM_TICKET_SIZE };
 
 static const iim_limits DEFAULTS = {0, 0};
 
@@ -138,6 +138,7 @@ void try_memory(octets file);
 void try_great_limits(octets file);
 
 /* The default limits are 65,536 bytes and 512 datasets. */
+void try_greatest_ticket(void);
 void try_default_limits(octets smallest);
 
 /* Reads all datasets in one call: from each ticket of an envelope, from each index, into arrays of
@@ -163,6 +164,8 @@ void try_names(void);
 
 /* Each cause has the meaning in docs/reference/causes.md, and no other number has one. */
 void try_sentences(void);
+void try_error_texts(void);
+void try_statuses(void);
 
 /* The script, packed into buffers that are too short and with failed allocations. */
 void try_packing(octets script, octets packed);

@@ -107,6 +107,54 @@ static void try_edge(octets piece, size_t count, uint8_t cause) {
     }
 }
 
+/* Writes a dataset, whose data are as many bytes as the count, and returns what comes after it. */
+static uint8_t *put_dataset(uint8_t *at, uint8_t rec, uint8_t set, const char *octets, size_t count) {
+    const uint8_t head[] = {0x1c, rec, set, (uint8_t)(count >> 8), (uint8_t)count};
+    memcpy(at, head, sizeof head);
+    if (octets != NULL)
+        memcpy(at + sizeof head, octets, count);
+    else
+        memset(at + sizeof head, 'x', count);
+    return at + sizeof head + count;
+}
+
+/* Writes the datasets that every envelope has: 7 of them, with 27 bytes of data. */
+static uint8_t *put_mandatory(uint8_t *at) {
+    at = put_dataset(at, 1, 0, "\0\4", 2);
+    at = put_dataset(at, 1, 20, "\0\2", 2);
+    at = put_dataset(at, 1, 22, "\0\1", 2);
+    at = put_dataset(at, 1, 30, "TST", 3);
+    at = put_dataset(at, 1, 40, "00000002", 8);
+    at = put_dataset(at, 1, 70, "20240301", 8);
+    return put_dataset(at, 2, 0, "\0\4", 2);
+}
+
+/* The ticket of as much data in as many datasets as the limits of wire copy allow: IIM_TICKET_SIZE is
+ * enough for it, and at most 256 bytes too much. Then one more byte or dataset exceeds a limit. */
+void try_greatest_ticket(void) {
+    enum { EACH = 129, REST = 65536 - 27 - 504 * EACH };
+    octets all = room_for(65536 + 5 * 513), text = room_for(all.count), ticket = room_for(TICKET);
+    uint8_t *at = put_mandatory(all.octets);
+    for (int n = 0; n < 504; n++)
+        at = put_dataset(at, 2, 250, NULL, EACH);
+    uint8_t *last = at;
+    at = put_dataset(last, 2, 250, NULL, REST);
+    size_t count = (size_t)(at - all.octets);
+    iim_answer answer;
+    iim_feed(DEFAULTS, NULL, 0, 0, all.octets, count, text.octets, text.count, ticket.octets, TICKET, &answer);
+    expect(answer.status == IIM_MORE && answer.octet == count, "the limits of wire copy are reached");
+    expect(answer.ticket <= IIM_TICKET_SIZE && answer.ticket > IIM_TICKET_SIZE - 256, "the length of the greatest ticket");
+    expect(IIM_TICKET_MAX(DEFAULTS) == IIM_TICKET_SIZE, "the macro of the default limits");
+    expect(IIM_TICKET_MAX(((iim_limits){1000, 10})) == 1000 + 60 + 256, "the macro of other limits");
+    at = put_dataset(at, 2, 250, NULL, 0);
+    iim_feed(DEFAULTS, NULL, 0, 0, all.octets, (size_t)(at - all.octets), text.octets, text.count, ticket.octets, TICKET, &answer);
+    expect(answer.status == IIM_REFUSED && answer.cause == 51, "one dataset more");
+    put_dataset(last, 2, 250, NULL, REST + 1);
+    iim_feed(DEFAULTS, NULL, 0, 0, all.octets, count, text.octets, text.count, ticket.octets, TICKET, &answer);
+    expect(answer.status == IIM_REFUSED && answer.cause == 50, "one byte more");
+    free(all.octets), free(text.octets), free(ticket.octets);
+}
+
 /* The default limits are 65,536 bytes and 512 datasets. */
 void try_default_limits(octets smallest) {
     octets many = begun_with(smallest, 512 * 6), full = begun_with(smallest, 65536 + 16 * 5);

@@ -28,6 +28,7 @@ AROUND = {
 # The types of the sources, as C declares them.
 WORDS = {
     "u8": "uint8_t",
+    "i32": "int",
     "u32": "uint32_t",
     "u64": "uint64_t",
     "i64": "int64_t",
@@ -143,8 +144,8 @@ def of_c(kind: str) -> List[str]:
         return ["uint8_t *" if slice_of[1] else "const uint8_t *", "size_t "]
     if array_of := re.fullmatch(r"&mut \[(\w+)\]", kind):
         return [f"{struct_of(array_of[1])} *", "size_t "]
-    if struct := re.fullmatch(r"&mut (\w+)", kind):
-        return [f"{struct_of(struct[1])} *"]
+    if struct := re.fullmatch(r"&(mut )?(\w+)", kind):
+        return [f"{'' if struct[1] else 'const '}{struct_of(struct[2])} *"]
     return [f"{WORDS.get(kind) or struct_of(kind)} "]
 
 

@@ -123,11 +123,9 @@ void print_answer(const iim_answer *a) {
 }
 
 void print_refusal(FILE *to, long number, const iim_answer *a) {
-    char layer[64], cause[64];
-    iim_layer_name(a->layer, layer, sizeof layer);
-    iim_cause_name(a->cause, cause, sizeof cause);
-    fprintf(to, "%ld refused at octet %" PRIu64 " by layer %s on %d:%02d, cause %d %s\n", number, a->octet, layer, a->rec,
-            a->set, a->cause, cause);
+    char line[128];
+    expect(iim_error_text((uint64_t)number, a, line, sizeof line) == strlen(line), "the length of the line of a refusal");
+    fprintf(to, "%s\n", line);
 }
 
 void guard_buffers(void) {

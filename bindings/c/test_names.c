@@ -1,6 +1,7 @@
 /*
  * Names and meanings in buffers of each length, and packing into buffers that are too short.
  */
+#include "iim_strerror.h"
 #include "test.h"
 
 /* Names in buffers of each length. */
@@ -88,6 +89,47 @@ void try_sentences(void) {
         expect(iim_cause_text((uint8_t)number, means, sizeof means) == strlen(want) && strcmp(means, want) == 0, "what a cause means");
     }
     expect(at == sizeof CAUSES / sizeof CAUSES[0], "each cause was asked for");
+}
+
+/* The line of a refusal in buffers of each length, and of the greatest numbers. */
+void try_error_texts(void) {
+    static const char want[] = "1 refused at octet 46 by layer record on 1:70, cause 14 Missing";
+    static const char greatest[] = "18446744073709551615 refused at octet 18446744073709551615 by layer dataset on 255:255, "
+                                   "cause 52 TooManySubfiles";
+    iim_answer answer = {.status = IIM_REFUSED, .layer = IIM_LAYER_RECORD, .cause = 14, .rec = 1, .set = 70, .octet = 46};
+    char line[128];
+    for (size_t len = 0; len <= sizeof line; len++) {
+        memset(line, '*', sizeof line);
+        expect(iim_error_text(1, &answer, line, len) == strlen(want) && is_all((uint8_t *)line + len, sizeof line - len, '*'),
+               "a line stays in its buffer");
+        expect(len < sizeof want || strcmp(line, want) == 0, "the line of a refusal");
+    }
+    answer = (iim_answer){.status = IIM_TRUNCATED, .layer = IIM_LAYER_DATASET, .cause = 52, .rec = 255, .set = 255, .octet = UINT64_MAX};
+    expect(iim_error_text(UINT64_MAX, &answer, line, sizeof line) == strlen(greatest) && strcmp(line, greatest) == 0, "the longest line");
+    answer.set = 5;
+    iim_error_text(2, &answer, line, sizeof line);
+    expect(strstr(line, " on 255:05, ") != NULL, "a number of one digit");
+    for (int status = 0; status < 256; status++) {
+        answer.status = (uint8_t)status;
+        bool has_line = iim_error_text(1, &answer, line, sizeof line) > 0;
+        expect(has_line == (status == IIM_REFUSED || status == IIM_TRUNCATED) && has_line == (line[0] != 0), "a status without a line");
+    }
+}
+
+/* Each status has its own sentence, and no other number has one. */
+void try_statuses(void) {
+    const char *unknown = iim_strerror(-1);
+    expect(strcmp(unknown, "unknown status") == 0 && strcmp(iim_strerror(IIM_OK), "complete") == 0, "the sentence of a status");
+    for (int status = IIM_OK; status <= IIM_FAILED; status++) {
+        expect(strcmp(iim_strerror(status), unknown) != 0, "each status has a sentence");
+        for (int other = IIM_OK; other < status; other++)
+            expect(strcmp(iim_strerror(status), iim_strerror(other)) != 0, "two statuses have two sentences");
+    }
+    expect(strcmp(iim_strerror(IIM_SHORT), "a buffer is too short") == 0 && strcmp(iim_strerror(IIM_NO_MEMORY), "an allocation failed") == 0
+               && strcmp(iim_strerror(IIM_BAD_INSTANT), "the instant is invalid") == 0
+               && strcmp(iim_strerror(IIM_FAILED), "a byte was rejected before") == 0,
+           "the sentences of some statuses");
+    expect(strcmp(iim_strerror(IIM_FAILED + 1), unknown) == 0 && strcmp(iim_strerror(INT32_MIN), unknown) == 0, "no status");
 }
 
 /* The script, packed into buffers that are too short and with failed allocations. */

@@ -8,7 +8,7 @@ from typing import Callable, List
 
 import pytest
 from support.bindings.harness import ALL, HERE, SANITIZERS, STRICT
-from support.bindings.paths import BUILT
+from support.bindings.paths import BUILT, SAMPLES
 from support.bindings.running import Name, run_text
 
 COUNTING = ["-Wl,--wrap=malloc", "-Wl,--wrap=realloc"]
@@ -32,6 +32,31 @@ FAULTS = {
         "__real_iim_unpacker_end(u, a); a->cause = 3;",
     ),
     "reset": ("uint8_t", "iim_unpacker *u", "(void)u; return IIM_DONE;"),
+    "fields": (
+        "int",
+        "iim_unpacker *u, uint8_t *t, size_t n, iim_dataset *d, size_t m, iim_answer *a",
+        "int s = __real_iim_unpacker_fields(u, t, n, d, m, a); if (m > 1) d[1] = d[0]; return s;",
+    ),
+    "header": (
+        "int",
+        "iim_unpacker *u, uint8_t *t, size_t n, iim_message *m, iim_answer *a",
+        "int s = __real_iim_unpacker_header(u, t, n, m, a); m->part = 0; return s;",
+    ),
+    "sizes": (
+        "int",
+        "iim_unpacker *u, uint8_t *t, size_t n, iim_object *o, iim_answer *a",
+        "int s = __real_iim_unpacker_sizes(u, t, n, o, a); o->octets += 1; return s;",
+    ),
+    "field": (
+        "int",
+        "iim_unpacker *u, uint8_t r, uint8_t s, size_t n, uint8_t *o, size_t m, iim_answer *a",
+        "return __real_iim_unpacker_field(u, r, s, n / 2, o, m, a);",
+    ),
+    "count": (
+        "int",
+        "iim_unpacker *u, uint8_t r, uint8_t s, iim_answer *a",
+        "int c = __real_iim_unpacker_count(u, r, s, a); a->written |= 1; return c;",
+    ),
 }
 
 
@@ -62,6 +87,24 @@ def test_unpacker_leaks_nothing(compiled: Callable[..., Path], compiler: str) ->
     check: List[Name] = ["valgrind", "-q", "--leak-check=full", "--error-exitcode=9"]
     status, _, errors = run_text([*check, program, *FEW])
     assert (status, errors) == (0, "")
+
+
+THREADS = ["-pthread", str(BUILT / "libiim.a")]
+STREAM = SAMPLES / "stream.iim"
+AGREE = "5 passed, 0 failed\n"
+
+
+def test_unpackers_on_threads_agree(compiled: Callable[..., Path], compiler: str) -> None:
+    program = compiled(compiler, "threads", "threads.c", THREADS)
+    assert run_text([program, STREAM]) == (0, AGREE, "")
+
+
+def test_unpackers_race_for_nothing(compiled: Callable[..., Path], compiler: str) -> None:
+    if shutil.which("valgrind") is None:
+        pytest.skip("valgrind is not installed")
+    program = compiled(compiler, "threads", "threads.c", THREADS)
+    check: List[Name] = ["valgrind", "-q", "--tool=helgrind", "--error-exitcode=9"]
+    assert run_text([*check, program, STREAM]) == (0, AGREE, "")
 
 
 @pytest.mark.parametrize("name", FAULTS)

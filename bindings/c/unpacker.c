@@ -6,7 +6,8 @@
  *
  * Each file is read in chunks of several sizes, by iim_feed() and by iim_unpacker_feed(): status,
  * layer, cause, dataset, offset, used bytes and text must be equal after each chunk, and so must
- * the ticket that iim_unpacker_save() writes and the ticket of iim_feed().
+ * the ticket that iim_unpacker_save() writes and the ticket of iim_feed(). The readers of an
+ * unpacker must return what the readers of that ticket return.
  */
 #include "iim.h"
 
@@ -15,7 +16,7 @@
 #include <stdlib.h>
 #include <string.h>
 
-enum { TICKET = 65536 + 6 * 512 + 256, PIECE = 4096 };
+enum { TICKET = IIM_TICKET_SIZE, PIECE = 4096, FIELDS = 512 };
 
 static const iim_limits DEFAULTS = {0, 0};
 
@@ -88,6 +89,159 @@ static void compare_tickets(const char *where) {
     }
 }
 
+/* ---- Comparing the readers */
+
+/* Checks the answer of a reader that wrote the ticket, and the ticket. */
+static bool has_ticket(int status, const iim_answer *answer, const uint8_t *ticket) {
+    return status == IIM_OK && answer->status == IIM_OK && answer->ticket == both.ticket_len &&
+           answer->octet == both.at && memcmp(ticket, both.tickets[both.which], both.ticket_len) == 0;
+}
+
+/* Checks the answer of a reader whose buffer is a byte shorter than the ticket. */
+static bool lacks_room(int status, const iim_answer *answer) {
+    return status == IIM_SHORT && answer->status == IIM_SHORT && answer->ticket == both.ticket_len &&
+           answer->written == 0;
+}
+
+static bool is_same_dataset(const iim_dataset *one, const iim_dataset *other) {
+    return one->rec == other->rec && one->set == other->set && one->data.offset == other->data.offset &&
+           one->data.count == other->data.count;
+}
+
+/* Returns the number of datasets, which are in `datasets`. */
+static size_t compare_fields(iim_dataset *datasets, const char *where) {
+    static iim_dataset found[FIELDS];
+    static uint8_t ticket[TICKET];
+    iim_answer of_ticket, answer;
+    iim_fields(both.tickets[both.which], both.ticket_len, 0, datasets, FIELDS, &of_ticket);
+    int status = iim_unpacker_fields(&both.unpacker, ticket, sizeof ticket, found, FIELDS, &answer);
+    check(has_ticket(status, &answer, ticket) && answer.written == of_ticket.written, "answer of fields", where);
+    for (size_t n = 0; n < of_ticket.written; n++)
+        check(is_same_dataset(&datasets[n], &found[n]), "dataset", where);
+    memset(found, 7, sizeof found);
+    if (of_ticket.written > 0) {
+        size_t most = of_ticket.written - 1;
+        status = iim_unpacker_fields(&both.unpacker, ticket, sizeof ticket, found, most, &answer);
+        check(status == IIM_SHORT && answer.written == of_ticket.written && answer.ticket == both.ticket_len &&
+                  found[most].rec == 7 && (most == 0 || is_same_dataset(&datasets[0], &found[0])),
+              "fields in a short array", where);
+        memset(found, 7, sizeof found);
+    }
+    status = iim_unpacker_fields(&both.unpacker, ticket, both.ticket_len - 1, found, FIELDS, &answer);
+    check(lacks_room(status, &answer) && found[0].rec == 7, "fields in a short buffer", where);
+    return of_ticket.written;
+}
+
+static void compare_header(const char *where) {
+    static uint8_t ticket[TICKET];
+    iim_message of_ticket, found;
+    iim_answer answer;
+    memset(&of_ticket, 7, sizeof of_ticket);
+    memset(&found, 7, sizeof found);
+    int status = iim_unpacker_header(&both.unpacker, ticket, both.ticket_len - 1, &found, &answer);
+    check(lacks_room(status, &answer) && memcmp(&of_ticket, &found, sizeof found) == 0, "header in a short buffer",
+          where);
+    iim_header(both.tickets[both.which], both.ticket_len, &of_ticket, &answer);
+    status = iim_unpacker_header(&both.unpacker, ticket, sizeof ticket, &found, &answer);
+    check(has_ticket(status, &answer, ticket) && memcmp(&of_ticket, &found, sizeof found) == 0, "header", where);
+}
+
+static void compare_sizes(const char *where) {
+    static uint8_t ticket[TICKET];
+    iim_object of_ticket, found;
+    iim_answer answer;
+    memset(&of_ticket, 1, sizeof of_ticket);
+    memset(&found, 1, sizeof found);
+    int status = iim_unpacker_sizes(&both.unpacker, ticket, both.ticket_len - 1, &found, &answer);
+    check(lacks_room(status, &answer) && memcmp(&of_ticket, &found, sizeof found) == 0, "sizes in a short buffer",
+          where);
+    iim_sizes(both.tickets[both.which], both.ticket_len, &of_ticket, &answer);
+    status = iim_unpacker_sizes(&both.unpacker, ticket, sizeof ticket, &found, &answer);
+    check(has_ticket(status, &answer, ticket) && memcmp(&of_ticket, &found, sizeof found) == 0, "sizes", where);
+}
+
+/* Compares a dataset of a complete envelope, the one with the index n of those with its numbers. */
+static void compare_data(const iim_dataset *dataset, size_t n, const char *where) {
+    static uint8_t data[TICKET];
+    size_t count = dataset->data.count;
+    const uint8_t *want = both.tickets[both.which] + dataset->data.offset;
+    iim_answer answer;
+    memset(data, 7, count + 1);
+    int status = iim_unpacker_field(&both.unpacker, dataset->rec, dataset->set, n, data, count, &answer);
+    check(status == IIM_OK && answer.status == IIM_OK && answer.written == count && memcmp(data, want, count) == 0 &&
+              data[count] == 7,
+          "data of a dataset", where);
+    if (count > 0) {
+        memset(data, 7, count);
+        status = iim_unpacker_field(&both.unpacker, dataset->rec, dataset->set, n, data, count - 1, &answer);
+        check(status == IIM_SHORT && answer.status == IIM_SHORT && answer.written == count && data[0] == 7,
+              "data in a short buffer", where);
+    }
+}
+
+/* Compares each dataset of a complete envelope, by record and number. */
+static void compare_values(const iim_dataset *datasets, size_t count, const char *where) {
+    uint8_t byte = 7;
+    iim_answer answer;
+    for (size_t i = 0; i < count; i++) {
+        size_t before = 0, all = 0;
+        for (size_t j = 0; j < count; j++)
+            if (datasets[j].rec == datasets[i].rec && datasets[j].set == datasets[i].set) {
+                all++;
+                before += j < i;
+            }
+        compare_data(&datasets[i], before, where);
+        check(iim_unpacker_count(&both.unpacker, datasets[i].rec, datasets[i].set, &answer) == IIM_OK &&
+                  answer.status == IIM_OK && answer.written == all,
+              "count", where);
+        check(iim_unpacker_field(&both.unpacker, datasets[i].rec, datasets[i].set, all, &byte, 1, &answer) == IIM_NONE &&
+                  answer.status == IIM_NONE && byte == 7,
+              "index past the last", where);
+    }
+    check(iim_unpacker_count(&both.unpacker, 2, 255, &answer) == IIM_OK && answer.written == 0, "count of none", where);
+}
+
+/* Compares every reader. Those of a complete envelope return IIM_MORE before its end. */
+static void compare_readers(bool is_done, const char *where) {
+    static iim_dataset datasets[FIELDS];
+    uint8_t byte = 7;
+    iim_answer answer;
+    unsigned long before = requests;
+    size_t count = compare_fields(datasets, where);
+    compare_header(where);
+    compare_sizes(where);
+    if (is_done) {
+        compare_values(datasets, count, where);
+    } else {
+        check(iim_unpacker_field(&both.unpacker, 1, 0, 0, &byte, 1, &answer) == IIM_MORE &&
+                  answer.status == IIM_MORE && byte == 7,
+              "field of an incomplete envelope", where);
+        check(iim_unpacker_count(&both.unpacker, 1, 0, &answer) == IIM_MORE && answer.status == IIM_MORE,
+              "count of an incomplete envelope", where);
+    }
+    check(requests == before, "readers allocate nothing", where);
+}
+
+/* Checks that no reader returns anything but this status, nor writes anything. */
+static void try_unread(iim_unpacker *unpacker, int status, const char *where) {
+    uint8_t ticket[TICKET];
+    iim_dataset dataset = {7, 7, {7, 7}};
+    iim_message message = {.part = 7};
+    iim_object object = {.mode = 7};
+    iim_answer answer;
+    ticket[0] = 7;
+    check(iim_unpacker_fields(unpacker, ticket, sizeof ticket, &dataset, 1, &answer) == status && dataset.rec == 7,
+          "fields", where);
+    check(iim_unpacker_header(unpacker, ticket, sizeof ticket, &message, &answer) == status && message.part == 7,
+          "header", where);
+    check(iim_unpacker_sizes(unpacker, ticket, sizeof ticket, &object, &answer) == status && object.mode == 7,
+          "sizes", where);
+    check(iim_unpacker_field(unpacker, 1, 0, 0, ticket, 2, &answer) == status && answer.status == status, "field",
+          where);
+    check(iim_unpacker_count(unpacker, 1, 0, &answer) == status && answer.status == status, "count", where);
+    check(status != IIM_BAD_HANDLE || ticket[0] == 7, "buffer", where);
+}
+
 /* Replaces the unpacker by one that is restored from the ticket. */
 static void restore(const char *where) {
     iim_answer answer;
@@ -113,6 +267,8 @@ static long feed_both(const uint8_t *piece, size_t count, const char *where) {
     both.ticket_len = by_ticket.ticket;
     both.at = by_ticket.octet;
     compare_tickets(where);
+    if (both.at % 5 == 0 || by_ticket.status == IIM_DONE)
+        compare_readers(by_ticket.status == IIM_DONE, where);
     return by_ticket.status == IIM_DONE ? (long)by_ticket.used : (long)count;
 }
 
@@ -134,6 +290,7 @@ static void try_failed(const char *where) {
     check(answer.status == IIM_REFUSED && answer.cause == 61, "end after a rejection", where);
     iim_unpacker_save(&both.unpacker, ticket, sizeof ticket, &answer);
     check(answer.status == IIM_FAILED && answer.cause == 0, "save after a rejection", where);
+    try_unread(&both.unpacker, IIM_FAILED, "readers after a rejection");
 }
 
 static void compare_file(const uint8_t *octets, size_t count, size_t size, const char *where) {
@@ -171,6 +328,7 @@ static void try_closed(iim_unpacker *closed, const char *where) {
     iim_unpacker_save(closed, octets, 2, &answer);
     check(answer.status == IIM_BAD_HANDLE && octets[0] == 7, "save", where);
     check(iim_unpacker_reset(closed) == IIM_BAD_HANDLE, "reset", where);
+    try_unread(closed, IIM_BAD_HANDLE, where);
     iim_unpacker_close(closed);
     iim_unpacker_close(closed);
 }
@@ -194,6 +352,9 @@ static void try_memory(void) {
     iim_unpacker_save(&unpacker, ticket, sizeof ticket, &answer);
     check(answer.status == IIM_DONE && answer.octet == 2, "save", "while malloc fails");
     size_t ticket_len = answer.ticket;
+    check(iim_unpacker_count(&unpacker, 1, 0, &answer) == IIM_MORE, "count", "while malloc fails");
+    check(iim_unpacker_fields(&unpacker, ticket, sizeof ticket, NULL, 0, &answer) == IIM_OK && answer.written == 0,
+          "fields", "while malloc fails");
     check(iim_unpacker_reset(&unpacker) == IIM_DONE, "reset", "while malloc fails");
     iim_unpacker_restore(DEFAULTS, &unpacker, ticket, ticket_len, 2, &answer);
     check(answer.status == IIM_BAD_HANDLE, "restore an open one", "while malloc fails");
