@@ -156,7 +156,9 @@ WRITER = """
 import argparse, marshal, random, re, sys, time
 from iim.archive import index as indexes, progress, rows as archive_rows, updating
 path, rows = sys.argv[1], int(sys.argv[2])
+services, per_day = ["AFP", "DPA", "REU", "TST", "UPI"], max(1, rows // 3_650)
 index = indexes.Index(path)
+index.begin("index", indexes.Rules("2", 65_536, 512, "none", "latin-1"))
 kept = updating.Update(index, argparse.Namespace(name="*", into=path), progress.Silence())
 chance, wrote = random.Random(1), 0.0
 for first in range(0, rows, 2_000):
@@ -166,20 +168,25 @@ for first in range(0, rows, 2_000):
         for nth in range(200):
             at = (file - 1) * 200 + nth
             at = at if at % 100 else chance.randrange(at + 1)
-            date = f"2024{at // 3_000_000 % 12 + 1:02}{at // 100_000 % 28 + 1:02}"
-            of_file += file, nth + 1, nth * 4700, 4700, "TST", "%08d" % (at % 10**8), date
-            of_file += "5", 4200, 2, 910, 905, 1_709_290_800, None, None
+            day = at // per_day
+            date = f"{1990 + day // 336}{day // 28 % 12 + 1:02}{day % 28 + 1:02}"
+            of_file += file, nth + 1, nth * 4700, 4700, services[at % 5], "%08d" % (at % 10**8)
+            of_file += date, "5", 4200, 2, 910, 905, 1_709_290_800
         name = b"/archive/%06d/%02d.iim" % (file // 100, file % 100)
-        files.append((file, name, 940_000, 1, 940_000, "accepted", None, of_file, None))
+        row = file, name, 940_000, 1, 940_000, "accepted", "", "0" * 64, b""
+        files.append((row, of_file, [], None, []))
     block = marshal.dumps(files, archive_rows.FORM)
     began = time.process_time()
     kept.add(marshal.loads(block))
     wrote += time.process_time() - began
 print(f"{rows:,} rows: {rows / wrote:,.0f} a second of a processor", flush=True)
 began = time.monotonic()
+ending = time.process_time()
 sums = index.end(0)
-again = time.monotonic()
-print(f"indexes and sums: {again - began:.1f} seconds, {sums}")
+ended = time.process_time() - ending
+print(f"indexes and sums: {time.monotonic() - began:.1f} seconds, {sums}")
+index.close()
+print(f"with all of it: {rows / (wrote + ended):,.0f} rows a second of a processor")
 with open("/proc/self/status") as status:
     print("memory:", re.search(r"VmHWM:\\s+(\\d+ kB)", status.read())[1])
 """
@@ -195,15 +202,26 @@ def write_rows(rows: int) -> None:
             env=ENVIRONMENT,
         )
         print(f"size: {os.path.getsize(index) / 1e6:,.0f} MB")
-        began = time.monotonic()
-        words = [*ARCHIVE, "query", "--repeats", "--csv", index]
-        with subprocess.Popen(words, stdout=subprocess.PIPE, env=ENVIRONMENT) as query:
-            count = len(list(query.stdout or ())) - 1
-            _, _, usage = os.wait4(query.pid, 0)
-        print(
-            f"repeats: {count:,} in {time.monotonic() - began:.1f} seconds, "
-            f"memory {usage.ru_maxrss / 1000:.0f} MB"
-        )
+        queries: List[List[str]] = [
+            ["--date", "19950615"],
+            ["--date", "19950615", "--service", "REU", "--csv"],
+            ["--where", "number=00000042"],
+            ["--repeats", "--csv"],
+            ["--csv"],
+            [],
+        ]
+        for words in queries:
+            began = time.monotonic()
+            program = [*ARCHIVE, "query", *words, index]
+            with subprocess.Popen(program, stdout=subprocess.PIPE, env=ENVIRONMENT) as query:
+                count = sum(piece.count(b"\n") for piece in query.stdout or ())
+                _, _, usage = os.wait4(query.pid, 0)
+            print(
+                f"query {' '.join(words)}: {count:,} lines, {time.monotonic() - began:.2f} s, "
+                f"{usage.ru_utime + usage.ru_stime:.2f} of a processor, "
+                f"{usage.ru_maxrss / 1000:.0f} MB",
+                flush=True,
+            )
 
 
 def index_files(files: int) -> None:

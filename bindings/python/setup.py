@@ -1,8 +1,8 @@
-"""Build a wheel for every Python 3.
+"""Build a wheel for every Python from 3.8 on.
 
-packages/build puts the library, the file VERSION and the program that writes the SBOM beside this
-file, and names the platform in the environment variable IIM_PLATFORM. Without the library the wheel
-has no platform, and the package loads the library of the system.
+packages/build puts the library, the extension module, the file VERSION and the program that writes
+the SBOM beside this file, and names the platform in the environment variable IIM_PLATFORM. Without
+the library the wheel has no platform, and the package loads the library of the system.
 """
 from __future__ import annotations
 
@@ -41,11 +41,13 @@ class WithLibrary(Distribution):
 
 
 class Wheel(bdist_wheel):
-    """Tag the wheel for every Python 3, and add its SBOM."""
+    """Tag the wheel for every Python from 3.8 on, and add its SBOM."""
 
     def get_tag(self) -> Tuple[str, str, str]:
         """Return the tags of Python, of its binary interface and of the platform."""
-        return "py3", "none", os.environ["IIM_PLATFORM"] if LIBRARY.exists() else "any"
+        if LIBRARY.exists():
+            return "cp38", "abi3", os.environ["IIM_PLATFORM"]
+        return "py3", "none", "any"
 
     def write_wheelfile(self, wheelfile_base: str, **more: Any) -> None:
         """Write the file WHEEL and the SBOM."""

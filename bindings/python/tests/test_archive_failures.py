@@ -9,13 +9,14 @@ import contextlib
 import json
 import os
 import pty
+import re
 import sqlite3
 import subprocess
 import sys
 import tempfile
 
 from envelopes import SMALLEST
-from iim.archive import index as archive_index
+from iim.archive import schema
 from support.bindings.archive import (
     archive,
     expect_failures,
@@ -63,13 +64,10 @@ def test_prints_progress_on_a_terminal(folder: str) -> None:
             [*words, "--batch", "5", tree],
         )
         last = reported.splitlines()[-1]
-        of = f"{count} of {count} files, "
-        assert (
-            last.startswith(of)
-            and " envelopes, " in last
-            and " refused, " in last
-            and last.endswith(" left")
-        ), f"{words}: {reported[-300:]}"
+        assert re.match(rf"{count} files, \d+ envelopes, \d+ refused, [\d.]+ MB/s, 0:", last), (
+            words,
+            reported[-300:],
+        )
         assert sums["files"] == count
     # (not at each batch)
     assert at_terminal("progress.Progress.EVERY = 60\nsys.modules['tqdm'] = None", [tree])[0] == ""
@@ -82,9 +80,8 @@ def test_prints_progress_with_tqdm(folder: str) -> None:
     text = MAIN.format("progress.Progress.EVERY = 0")
     program = [python, "-c", text, "--now", NOW, "--batch", "5", tree]
     reported = told_at_terminal(program, subprocess.DEVNULL)
-    assert b"% " in reported and b"B/s" in reported and b" files, " in reported, repr(
-        reported[-300:]
-    )
+    counts = [int(count) for count in re.findall(rb", (\d+) files, ", reported)]
+    assert b"B/s" in reported and 1 < max(counts) <= len(files_in(tree)), repr(reported[-300:])
 
 
 def indexes_at_fault(folder: str, tree: str) -> List[Tuple[str, str]]:
@@ -101,11 +98,11 @@ def indexes_at_fault(folder: str, tree: str) -> List[Tuple[str, str]]:
     for name, tables in ("foreign", "files (file, path)"), ("other", "envelopes (file)"):
         with contextlib.closing(sqlite3.connect(f"{folder}/{name}")) as database:
             database.execute(f"CREATE TABLE {tables}")
-            database.execute(f"PRAGMA user_version = {archive_index.FORM}")
+            database.execute(f"PRAGMA user_version = {schema.FORM}")
             database.commit()
     os.mkfifo(f"{folder}/fifo")
     os.mkdir(f"{folder}/folder")
-    other = "not an index of this version of archive.py"
+    other = "not an index of iim-archive"
     return [
         (damaged, "damaged: "),
         (cut, "cut: "),
@@ -150,7 +147,6 @@ def provoked_failures(folder: str, tree: str, index: str) -> List[Tuple[Any, ...
         (["query", f"{folder}/absent"], "absent: there is no index"),
         (["report", f"{folder}/absent"], "absent: there is no index"),
         (["--into", f"{folder}/absent/index", tree], "absent/index: No such file or directory"),
-        (["query", *[index] * 11], "too many attached databases"),
         (["--into", f"{tree}/empty.iim", f"{tree}/empty.iim"], "empty.iim: is an input"),
         (["--workers", "8", tree], "--workers 8: Too many open files", {"shell": "ulimit -n 20;"}),
         (

@@ -107,6 +107,7 @@ def test_reads_only_new_or_changed_files(folder: str) -> None:
         "refused": 1,
         "empty": 1,
         "failed": 0,
+        "linked": 0,
     }
     printed = [(os.path.relpath(row["file"], tree), row.get("length")) for row in query([index])[1]]
     want = [("a.iim", 114)] * 3 + [("b.iim", 246), ("b.iim", None), ("c.iim", 246), ("e.iim", 246)]
@@ -151,6 +152,7 @@ def test_marks_only_files_that_are_gone(folder: str) -> None:
         "refused": 0,
         "empty": 0,
         "failed": 0,
+        "linked": 0,
     }
     assert stored(index, ["--name", "*.iim", tree])[1] == want
     assert [os.path.relpath(row["file"], tree) for row in query(["--only", "gone", index])[1]] == [
@@ -189,7 +191,7 @@ def test_rejects_files_that_are_no_index(folder: str) -> None:
     with contextlib.closing(sqlite3.connect(other)) as database:
         database.execute("CREATE TABLE files (name)")
     write_file(folder, "text", b"no database " * 100)
-    for path, why in (other, "not an index of this version of archive.py"), (
+    for path, why in (other, "not an index of iim-archive"), (
         f"{folder}/text",
         "file is not a database",
     ):
@@ -219,6 +221,7 @@ MADE = """
 import argparse, json, re, sys
 from iim.archive import index, progress, updating
 kept_in = index.Index(sys.argv[1])
+kept_in.begin("index", index.Rules("2", 65_536, 512, "none", "latin-1"))
 words = argparse.Namespace(name="*", into=sys.argv[1])
 kept = updating.Update(kept_in, words, progress.Silence())
 for file in range(1, int(sys.argv[2]) // 1000 + 1):
@@ -226,8 +229,9 @@ for file in range(1, int(sys.argv[2]) // 1000 + 1):
     for e in range(1000):
         number = "%08d" % ((file * 1000 + e) % 79_999)
         rows += file, e + 1, e * 100, 100, "TST", number, "20240301", "5"
-        rows += 50, 1, 9, 9, 1, None, None
-    kept.add([(file, b"/made/%06d" % file, 100_000, 1, 100_000, "accepted", None, rows, None)])
+        rows += 50, 1, 9, 9, 1
+    row = file, b"/made/%06d" % file, 100_000, 1, 100_000, "accepted", "", "", b""
+    kept.add([(row, rows, [], None, [])])
 sums = kept_in.end(0)
 kept_in.close()
 with open("/proc/self/status") as status:

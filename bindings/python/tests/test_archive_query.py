@@ -7,7 +7,7 @@ import io
 import os
 
 from envelopes import STORY
-from iim.archive import query as archive_query
+from iim.archive import formats
 from typing import Any, Callable, List, Tuple
 from support.bindings.archive import Row, query, random_tree, stored
 from support.bindings.paths import ARCHIVE, NOW
@@ -67,7 +67,7 @@ def test_prints_csv_with_the_same_cells(folder: str) -> None:
     status, output, errors = run([*ARCHIVE, "query", "--csv", "--now", NOW, index])
     assert (status, errors) == (0, b"")
     names, *lines = csv.reader(io.StringIO(output.decode()))
-    assert names == archive_query.COLUMNS
+    assert names == formats.COLUMNS
     assert len(lines) == len(rows)
     for row, line in zip(rows, lines):
         cells = {name: cell for name, cell in zip(names, line) if cell}
@@ -76,7 +76,11 @@ def test_prints_csv_with_the_same_cells(folder: str) -> None:
         want.update(
             {f"repeats_{name}": value for name, value in (row.get("repeats") or {}).items()}
         )
-        want = {name: str(want[name]) for name in names if want.get(name) not in (None, "")}
+        want = {name: want[name] for name in names if want.get(name) not in (None, "")}
+        want = {
+            name: formats.safe_cell(value) if isinstance(value, str) else str(value)
+            for name, value in want.items()
+        }
         assert cells == want
 
 

@@ -23,7 +23,7 @@ def test_reports_an_archive_as_text(folder: str) -> None:
     assert (
         lines[1]
         == f"38 files, {octets:,} octets, 11 envelopes, 9 repeated, 1 held, 0 expired, 30 refused,"
-        " 0 empty, 0 failed, 0 gone"
+        " 0 empty, 0 failed, 0 linked, 0 gone"
     )
     counts = re.findall(
         r"^  (\d+ \w+) +(\d+) #", out.partition("REFUSALS BY CAUSE")[2].partition("\n\n")[0], re.M

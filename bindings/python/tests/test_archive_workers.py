@@ -63,9 +63,9 @@ from iim.archive import rows
 sys.setswitchinterval(1e-6)
 now = datetime.datetime.fromisoformat(sys.argv[1].replace("Z", "+00:00"))
 paths = enumerate(map(os.fsencode, sys.argv[2:]))
-files = [rows.FileRequest(nth, path, 0, 0, None) for nth, path in paths]
+files = [rows.FileRequest(nth, path, 0, 0) for nth, path in paths]
 def rows_of(asked):
-    return rows.read_file(asked, iim.WIRE, now)
+    return rows.read_file(asked, rows.Reading(iim.WIRE, now, has_sums=True, text="all"))
 want = [*map(rows_of, files)]
 wrong = set()
 with concurrent.futures.ThreadPoolExecutor(4) as pool:
@@ -210,14 +210,14 @@ def test_ends_its_workers_if_killed_at_once() -> None:
 
 # Replaces a file by a FIFO after it is listed.
 BECOMES_FIFO = """
-listed = program.files_of
-def replaced(tree, pattern):
-    for found in listed(tree, pattern):
+listed = files.Lister.files_of
+def replaced(self, tree):
+    for found in listed(self, tree):
         if found.path.endswith(b"b.iim"):
             os.remove(found.path)
             os.mkfifo(found.path)
         yield found
-program.files_of = replaced
+files.Lister.files_of = replaced
 """
 
 
@@ -291,7 +291,7 @@ ON_A_THREAD = """
 import concurrent.futures, datetime, iim
 files = [rows.FileRequest(1, os.fsencode(name), 0, 0, None) for name in sys.argv[1:]]
 def rows_of(asked):
-    return rows.read_file(asked, iim.WIRE, now, 0.5)
+    return rows.read_file(asked, rows.Reading(iim.WIRE, now, 0.5))
 now = datetime.datetime(2024, 3, 1, tzinfo=datetime.timezone.utc)
 with concurrent.futures.ThreadPoolExecutor(1) as pool:
     print([each.reason or each.state for each in pool.map(rows_of, files)])

@@ -24,6 +24,8 @@ from support.bindings.paths import NOW
 from support.bindings.running import run, samples, write_file
 from support.bindings.streams import made, OnlyRead
 
+pytestmark = pytest.mark.usefixtures("way")
+
 
 def audited(command: Path, octets: bytes, now: str = NOW) -> Tuple[List[str], Optional[str]]:
     """Return the rows of `audit` without repeats, and the line of the refusal, or `None`."""
@@ -229,6 +231,7 @@ def test_reports_unreadable_files_and_continues(folder: str) -> None:
             "refused": 2,
             "empty": 0,
             "failed": 3,
+            "linked": 0,
         }
         printed = [(os.path.relpath(row["file"], folder), outcome(row)) for row in rows]
         missing = "No such file or directory"
@@ -259,7 +262,7 @@ def test_checks_the_arguments_of_the_archive(folder: str) -> None:
     assert archive([])[:2] == (2, [])
     for words in wrong:
         assert (words, archive([*words, folder])[:2]) == (words, (2, []))
-    counts = "files", "envelopes", "repeated", "held", "refused", "empty", "failed"
+    counts = "files", "envelopes", "repeated", "held", "refused", "empty", "failed", "linked"
     assert archive([folder]) == (0, [], dict.fromkeys(counts, 0), "")
 
 

@@ -12,6 +12,8 @@ import pytest
 import rules
 from iim import _library, datasets, program
 
+pytestmark = pytest.mark.usefixtures("way")
+
 # The names that `import iim` had in release 2: those that it listed, and those of the command.
 LISTED = """
 AuditRow Auditor Envelope Fed Field Header Id Limits Octets PartId Place Receiver Refused Rule

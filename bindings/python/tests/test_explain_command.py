@@ -31,7 +31,7 @@ def test_prints_text_and_writes_pages(folder: str) -> None:
     status, out, errors = iim_text("explain", damaged)
     assert (status, errors, "Octet 54 of envelope 1" in out, "\033" in out) == (1, "", True, False)
     status, out, errors = iim_text(
-        "explain", f"{SAMPLES}/story.iim", "--html", f"{folder}/page.html"
+        "explain", f"{SAMPLES}/story.iim", "--all", "--html", f"{folder}/page.html"
     )
     assert (
         status,
@@ -77,7 +77,7 @@ def test_prints_the_output_of_the_guides(folder: str) -> None:
     begins = guide.partition(words)[2].partition("\n```\n")[2].partition("```")[0]
     assert (ran.returncode, ran.stdout[: len(begins)], ran.stderr) == (1, begins, "")
     assert os.path.getsize(f"{folder}/page.html") > 1_000, "no page"
-    printed = ran.stdout + iim_text("explain", f"{SAMPLES}/damaged/count_range.iim")[1]
+    printed = ran.stdout + iim_text("explain", f"{SAMPLES}/stream.iim")[1]
     titles = re.findall(r"^- `([A-Z][A-Z -]+)`", guide, re.M)
     assert (len(titles), [title for title in titles if f"\n{title}\n" not in printed]) == (4, [])
     assert (
@@ -128,12 +128,21 @@ def test_escapes_hostile_bytes(folder: str) -> None:
     named = f"{folder}/<script>\u202e\x1b.iim"
     for octets in whole, whole[:-1], whole.replace(b"\3\4", b"\2\4"):
         write_file(folder, os.path.basename(named), octets)
-        status, out, errors = iim_text("explain", named, "--html", f"{folder}/page.html")
+        words = [
+            "explain",
+            named,
+            "--all",
+            "--html",
+            f"{folder}/page.html",
+            "--encoding",
+            "latin-1",
+        ]
+        status, out, errors = iim_text(*words)
         page = text_of(f"{folder}/page.html")
         assert (status, errors) == (int(octets is not whole), "")
         for text in out, page:
             assert [each in text for each in ("\x1b", "\u202e", "\x07")] == [False] * 3
-            assert "\\x1B" in text and "\\xE2\\x80\\xAE" in text and "\\u202E" in text, text
+            assert "\\x1B" in text and "â\\x80®" in text and "\\u202E" in text, text
         assert ("<script" in page) is False
         assert "&lt;script&gt;alert(1)" in page, page
         assert sorted(tags_of(page) - KNOWN_TAGS) == []
@@ -141,7 +150,7 @@ def test_escapes_hostile_bytes(folder: str) -> None:
 
 KNOWN_TAGS = set(
     "html head meta title style body header h1 h2 p main section div article pre span b u a mark"
-    " ol li i small ul footer".split()
+    " ol li i small bdi strong code table thead tbody tr th td footer".split()
 )
 
 
@@ -165,17 +174,17 @@ def test_bounds_the_size_of_a_page(folder: str) -> None:
         long[:-1] + b"\0",
         tiny[:-1] + b"\0",
     ):
-        page = explain_page.page(case_of(octets))
+        page = explain_page.page(case_of(octets, shows_all=True))
         assert 50_000 < len(octets) <= 115_000, f"{len(octets)} octets"
         assert len(page.encode()) <= 2 << 20, f"{len(page):,} octets of a page of {len(octets):,}"
         assert (
             octets is not long or page.count("A line of the story that has some eighty") >= 1_140
         ), "lines are left out"
-    assert ("left out" in explain_page.page(case_of(long))) is False
+    assert ("left out" in explain_page.page(case_of(long, shows_all=True))) is False
     longer = of_lines(20_000)
     cut = explain_page.page(case_of(longer[:-1] + b"\0"))
     assert "left out" in cut and "<mark" in cut and len(cut) <= 2 << 20, f"{len(cut):,} octets"
-    text = text_told(case_of(longer))
+    text = text_told(case_of(longer, shows_all=True))
     assert (
         "are left out" in text and len(text.splitlines()) < 200
     ), f"{len(text.splitlines())} lines"

@@ -29,7 +29,6 @@ from envelopes import SMALLEST, STORY
 from iim import _library
 from iim.explain import (
     causes as explain_causes,
-    sections as explain_sections,
     words as explain_words,
 )
 from iim.explain.case import Case
@@ -51,7 +50,9 @@ Change = Tuple[bytes, int, int]
 # A change whose fix is not reported: the size of the envelope, the change, and the refusal.
 Lost = Tuple[int, int, int, str]
 # The number of single-byte changes tried, and the number whose output is checked.
-CHANGES, PRINTED = 3_000, 456
+CHANGES, PRINTED = 3_000, 228
+# The number of fixes, the likeliest ones, among which the undone change must be.
+FIXES = 16
 # An explanation may take the processor time of so many calls of `iim_check` on an envelope of 246
 # bytes, which is measured by this many calls for each fifty explanations. (It takes that of 4,000.)
 MOST_CALLS, BASELINE_CALLS = 9_000, 20_000
@@ -217,7 +218,7 @@ def change_explained(changes: Sequence[Change]) -> Tried:
         refused += 1
         tries = case.wholes[-1].tries
         assert tries
-        outputs = tries.reported_fixes()[: explain_sections.CHANGES]
+        outputs = tries.reported_fixes()[:FIXES]
         there = any(each.first <= at <= each.last and whole[at] in each.octets for each in outputs)
         if not there and not (at == case.refusal.octet and whole[at] in tries.accepted):
             lost.append((len(whole), at, value, str(case.refusal)))
@@ -276,9 +277,9 @@ UNSIGNED = rules.packed(
 
 
 # The offsets of its single-byte fixes, the likeliest first: one bit of the count before it, by
-# which the time is data of that dataset; the byte that is no sign; one byte of the count before
-# that; and the number of the dataset.
-MENDING = [79, 94, 66, 85]
+# which the time is data of that dataset; the byte that is no sign; and one byte of the count before
+# that. Another number of its dataset would keep the bad value, and is not offered.
+MENDING, NUMBER = [79, 94, 66], 85
 
 
 def test_lists_the_likeliest_fix_first() -> None:
@@ -294,14 +295,14 @@ def test_lists_the_likeliest_fix_first() -> None:
                 and reach(UNSIGNED[:at] + bytes([value]) + UNSIGNED[at + 1 :])[1]
             ):
                 whole.setdefault(at, set()).add(value)
-    assert sorted(whole) == sorted(MENDING)
+    assert sorted(whole) == sorted([*MENDING, NUMBER])
     assert (whole[79], whole[94], whole[66]) == ({UNSIGNED[79] ^ 0x10}, set(b"+-"), {0x20})
     outputs = tries.reported_fixes()
     assert [(each.first, each.last, each.octets, each.whole) for each in outputs] == [
-        (at, at, frozenset(whole[at]), True) for at in MENDING
+        (at, at, frozenset(whole[at]), True) for at in [*MENDING, NUMBER]
     ]
-    printed = text_told(case).partition("SINGLE-BYTE FIXES\n")[2].partition("\n\n")[0]
-    assert re.findall(r"\* Octet (\d+) ", printed) == [str(at) for at in MENDING]
+    printed = text_told(case).partition("WHAT TO DO\n")[2].partition("\n\n")[0]
+    assert re.findall(r"\d\. Octet (\d+) ", printed) == [str(at) for at in MENDING]
     # (if no fix makes the envelope complete, the fixes that make more of it valid have the same
     # order)
     damaged = case_of(UNSIGNED[:-1] + bytes([UNSIGNED[-1] ^ 1])).wholes[-1].tries

@@ -46,11 +46,11 @@ HINTS = {
         [STORY.replace(b"\n", b"\r\n"), SMALLEST.replace(b"\n", b"\r\n")],
         [BAD_DATE],
     ),
-    "With each lone LF of the object changed to CR LF: the": (
+    "With LF made CR LF again where the counts ask for it: the envelope is accepted": (
         [STORY.replace(b"\r\n", b"\n")],
-        [STORY.replace(b"\r\n", b"\r")],
+        [STORY.replace(b"\r\n", b"\r"), STORY],
     ),
-    "and then each LF of the object to CR LF: the envelope is accepted": (
+    "With CR LF made LF again where the counts ask for it: the envelope is accepted": (
         [re.sub(rb"(?<!\r)\n", b"\r\n", STORY)],
         [STORY.replace(b"\n", b"\r\n")],
     ),
@@ -110,7 +110,10 @@ HINTS = {
         [SMALLEST[:42] + SMALLEST[55:]],
         [SMALLEST[:21] + SMALLEST[29:]],
     ),
-    "one octet may be lost": ([SMALLEST[:92] + SMALLEST[93:]], [BAD_DATE]),
+    "the envelope is accepted: one octet is lost.": (
+        [SMALLEST[:92] + SMALLEST[93:]],
+        [BAD_DATE],
+    ),
 }
 
 
@@ -136,7 +139,7 @@ def test_accepts_envelopes_with_record_1_restored(folder: str) -> None:
         )
     assert by_rules(front + STORY[RECORD_1:-1])[:20] == f"refused at octet {RECORD_1 + 190}"
     # (there is no hint under limits that are too small for a record 1)
-    assert "record 1" not in text_told(
+    assert "inserted" not in text_told(
         case_of(STORY[RECORD_1:], iim.Limits(20, 5))
     ), "a record 1 was inserted"
 
@@ -162,19 +165,24 @@ def titles(octets: bytes) -> List[str]:
 
 
 def test_names_its_sections(folder: str) -> None:
-    assert titles(BAD_DATE) == ["Where", "Why", "Bytes accepted there", "Single-byte fixes", "Note"]
-    assert titles(SMALLEST[:100])[:3] == ["Where", "Why", "Bytes accepted next"]
-    assert titles(SMALLEST + b"\n")[-2:] == ["Other findings", "Note"]
+    accepted = "Bytes accepted there"
+    assert titles(BAD_DATE) == ["Where", "Why", "What to do", accepted, "Note"]
+    assert titles(SMALLEST[:100])[3] == "Bytes accepted next"
     assert (titles(b""), titles(SMALLEST)) == (["Empty file"], [])
     text = text_told(case_of(BAD_DATE))
-    assert [
-        each in text
-        for each in (
-            "  Likely reason: letters in a number",
-            "  What to do: look up",
-            "  It must be a date CCYYMMDD.",
-        )
-    ] == [True] * 3
+    for line in (
+        "  Likely reason: a date that does not exist, or in another form.",
+        "  First: ask the sender to send it as CCYYMMDD.",
+        "  It must be a date CCYYMMDD.",
+    ):
+        assert line in text, f"{line!r} is not printed: {text}"
+    # (verdict, where, why and what to do come first, and last the sentence that an operator needs)
+    order = ["WHERE", "WHY", "WHAT TO DO", "BYTES ACCEPTED THERE", "NOTE", "ENVELOPE 1"]
+    assert [line for line in text.splitlines() if line in order or "ENVELOPE 1" in line] == [
+        *order[:5],
+        "ENVELOPE 1  at octet 0 of the file",
+    ]
+    assert text.splitlines()[-1] == "Ask TST for 00000002 again."
 
 
 def test_states_that_nothing_was_repaired(folder: str) -> None:

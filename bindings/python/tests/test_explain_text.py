@@ -76,12 +76,14 @@ def test_describes_values_in_words(folder: str) -> None:
     assert words.names(set(range(256)) - {3}) == "any octet except ETX"
     assert words.names([]) == "no octet"
     release = explained_samples()["release.iim"][0]
-    assert "Held until 2024-03-01T13:00:00Z." in text_told(case_of(release)), "the release"
+    assert "Released at 2024-03-01T13:00:00Z." in text_told(
+        case_of(release, shows_all=True)
+    ), "the release"
 
 
 def test_lists_each_part_of_an_envelope(folder: str) -> None:
     for octets in SMALLEST, STORY, VARIED:
-        whole = case_of(octets).wholes[0]
+        whole = case_of(octets, shows_all=True).wholes[0]
         items = whole.walk.items
         datasets = [item for item in items if item.kind == "dataset"]
         assert b"".join(octets[item.at : item.at + item.length] for item in datasets) == octets
@@ -183,12 +185,15 @@ def test_never_truncates_ids(folder: str) -> None:
                 [f"{known}  REFUSED"],
             )
             page = explain_page.page(case_of(SMALLEST + octets))
-            assert f"{html.escape(known)}  REFUSED" in page, page
+            cells = "</td><td>".join([*html.escape(known).split(" "), "REFUSED"])
+            assert (kind, f"<td>{cells}</td></tr>" in page) == (kind, True)
         # (and in the lines of the datasets)
         for columns in range(60, 130):
             row = next(
                 line
-                for line in explain_text.lines(case_of(whole), explain_text.Paint(False), columns)
+                for line in explain_text.lines(
+                    case_of(whole, shows_all=True), explain_text.Paint(False), columns
+                )
                 if "1:30 " in line
             )
             assert row.endswith(f" {rules.shown(service)}"), row
@@ -213,7 +218,10 @@ def cut_values(case: explain_case.Case) -> Set[str]:
     for columns in range(60, 130):
         for line in explain_text.lines(case, explain_text.Paint(False), columns):
             assert len(line) <= max(columns, 80), f"{columns}: {line}"
-            if line.startswith("        ") and line != uncut[line[:47]]:
+            if line.startswith(" " * 40):
+                # (the bytes of the text in the line before)
+                assert re.fullmatch(r" +\[.*(\]|\.\.\.)", line), line
+            elif line.startswith("        ") and line != uncut[line[:47]]:
                 cut.add(line[14:].partition(",")[0])
                 mark = "  <-- here" * line.endswith("  <-- here")
                 front = line[: len(line) - len(mark)]

@@ -82,7 +82,8 @@ def test_reads_files_without_a_size(folder: str) -> None:
     ):
         process = started(folder, [path])
         out, printed = process.communicate(timeout=SECONDS)
-        first = out.decode().splitlines()[0]
+        # (the verdict, which may have several lines)
+        first = " ".join(out.decode().partition("\n\n")[0].split())
         assert (path, told in first, "no octets" in first, printed) == (
             path,
             True,
@@ -120,7 +121,7 @@ def test_starts_at_the_offset_of_standard_input(folder: str) -> None:
             if at == 114:
                 assert (
                     "which is octet 346 of the file" in re.sub(r"\s+", " ", out)
-                    and "ENVELOPE 1  at octet 0 of the file" in out
+                    and "ENVELOPE 2  at octet 246 of the file" in out
                 ), out
 
 
@@ -152,7 +153,7 @@ sys.exit(main(["explain", *sys.argv[1:]]))
     )
     path = write_file(folder, "a.iim", STORY + b"\x1d")
     process = subprocess.run(
-        [sys.executable, script, path],
+        [sys.executable, script, path, "--all"],
         capture_output=True,
         text=True,
         env=environment(),
@@ -204,7 +205,7 @@ def test_reports_an_allocation_failure(folder: str) -> None:
     path = write_file(folder, "big.iim", rules.packed(fields, STORY_OBJECT, 1_024))
     limits = ["--limits", "4294967295", "100000"]
     for script, words, want in [
-        ("iim-explain", ["explain", path, *limits], f"iim-explain: {path}: out of memory"),
+        ("iim-explain", ["explain", path, "--all", *limits], f"iim-explain: {path}: out of memory"),
         ("module", [path, *limits], f"python3 -m iim: {path}: out of memory"),
     ]:
         words = [sys.executable, write_file(folder, script, SPARE.encode()), *words]
@@ -251,7 +252,7 @@ def test_reports_unreadable_files_as_json_lines(folder: str) -> None:
 
 
 def test_reports_an_internal_error_in_a_line(folder: str) -> None:
-    planted = "from iim.explain import text; text.listing = lambda case: [1 / 0]; from iim.program"
+    planted = "from iim.explain import text; text.listing = lambda *_: [1 / 0]; from iim.program"
     script = write_file(
         folder, "iim-explain", EXPLAIN.replace("from iim.program", planted).encode()
     )

@@ -151,7 +151,7 @@ def test_reports_a_full_disk(folder: str) -> None:
     """Write a page to a full disk, if this user may mount one."""
     words = (
         'mount -t tmpfs -o size=64k none disk && cp page.html disk && "$0" iim-explain a.iim'
-        " --html disk/page.html >/dev/null; echo $?; cat disk/page.html; ls disk"
+        " --all --html disk/page.html >/dev/null; echo $?; cat disk/page.html; ls disk"
     )
     write_file(
         folder,
@@ -220,7 +220,8 @@ def test_ends_by_a_signal_with_an_unread_pipe(folder: str) -> None:
             rules.packed([*STORY_FIELDS, *([(2, 25, b"x" * 60)] * many)], STORY_OBJECT, 1_024),
         )
         what = f"python3 -m iim: {path}" if program == "module" else "iim-explain: standard output"
-        process = started(folder, [path], program)
+        words = [path] if program == "module" else [path, "--all"]
+        process = started(folder, words, program)
         # (a pipe with a capacity of one page)
         assert process.stdout and process.stderr
         fcntl.fcntl(process.stdout, F_SETPIPE_SZ, 4_096)

@@ -62,7 +62,7 @@ def test_quotes_programs_in_the_guides() -> None:
         "c",
         "c",
         "bindings/c/headline.c",
-        3,
+        2,
     ):
         found = [text for name, text in blocks(f"docs/guide/{guide}.md") if name == language]
         with open(f"{TOP}/{path}") as source:
@@ -123,7 +123,7 @@ def test_runs_the_python_programs_of_the_guide(command: Path) -> None:
 
 def test_packs_the_envelope_of_the_guide(command: Path) -> None:
     with clone(command) as folder:
-        write_file(folder, "pack.py", block("python", "python", "iim.pack")[0].encode())
+        write_file(folder, "pack.py", block("python", "python", "iim.build")[0].encode())
         status, octets, errors = run(
             [sys.executable, "pack.py"], cwd=folder, env={**os.environ, "PYTHONPATH": str(SOURCES)}
         )
@@ -139,7 +139,7 @@ def test_packs_the_envelope_of_the_guide(command: Path) -> None:
 def test_receives_from_a_socket_as_the_guide_does(command: Path) -> None:
     stream = samples()["stream.iim"]
     both = 0, b"00000001\n00000002\n", b""
-    one = 1, b"00000001\n", b"iim.errors.TruncatedError"
+    one = 1, b"00000001\n", b"2 refused at octet 245 by layer dataset on 9"
     with clone(command) as folder, socket.create_server(("127.0.0.1", 0)) as server:
         write_file(folder, "client.py", block("python", "python", "create_connection")[0].encode())
         for octets, want in (stream, both), (stream[:-1], one):
@@ -183,6 +183,8 @@ def test_runs_the_archive_of_the_guide(command: Path) -> None:
         rows = [json.loads(line) for line in lines.splitlines()]
         assert (status, errors, [row for row in rows if not row["repeats"]]) == (0, "", [])
         assert len(rows) == json.loads(output)["repeated"] + 1
+        status, lines, errors = run_shell(block("archive", "sh", "archive verify")[0], folder)
+        assert (status, errors, json.loads(lines)["intact"]) == (0, "", 38)
 
 
 def test_checks_a_tree_as_the_guide_does(command: Path) -> None:

@@ -37,8 +37,10 @@ STRUCTS = {
 }
 # What the package does not use: its receivers are objects of Python, which keep the state.
 ONLY_IN_C = {
+    "iim_error_text",
     "iim_unpacker",
-    *("iim_unpacker_" + name for name in "close end feed open reset restore save".split()),
+    *("iim_unpacker_" + name for name in "close count end feed field fields header".split()),
+    *("iim_unpacker_" + name for name in "open reset restore save sizes".split()),
 }
 
 

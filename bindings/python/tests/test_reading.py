@@ -30,6 +30,8 @@ from support.bindings.comparing import (
 from support.bindings.running import samples, write_file
 from support.bindings.streams import changed, made, OnlyRead, Repeating
 
+pytestmark = pytest.mark.usefixtures("way")
+
 
 def test_reads_each_sample_as_the_command(command: Path) -> None:
     compare(
@@ -137,11 +139,14 @@ def test_reads_files_of_each_kind(folder: str) -> None:
     with open(path, "rb") as buffered, open(path, "rb", buffering=0) as raw:
         files: Tuple[Any, ...] = (
             path,
-            path.encode(),
+            Path(path),
             buffered,
             raw,
             io.BytesIO(SMALLEST + STORY),
             OnlyRead(SMALLEST + STORY),
+            SMALLEST + STORY,
+            bytearray(SMALLEST + STORY),
+            memoryview(SMALLEST + STORY),
         )
         for each in files:
             assert [envelope.length for envelope in iim.read(each)] == [114, 246]
@@ -278,6 +283,8 @@ def test_reads_all_datasets_in_two_calls_at_most(monkeypatch: pytest.MonkeyPatch
         counting = Counting(_library.library)
         with monkeypatch.context() as patch:
             patch.setattr(values, "library", counting)
+            # (the extension module makes these calls itself)
+            patch.setattr(_library, "extension", lambda: None)
             assert [tuple(field) for field in envelope.datasets] == want
         assert (count, dict(counting.calls)) == (count, {"iim_fields": calls})
         assert {(type(field), type(field.octets)) for field in envelope.datasets} == {

@@ -15,6 +15,8 @@ from support.bindings.comparing import by_check, by_feed
 from support.bindings.running import samples
 from support.bindings.streams import OnlyRead
 
+pytestmark = pytest.mark.usefixtures("way")
+
 
 def test_feeds_each_bytes_type() -> None:
     fed: Any

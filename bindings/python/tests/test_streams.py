@@ -15,6 +15,8 @@ from iim.archive import distributed, output
 from iim.archive.index import Index
 from iim.explain.walk import Source
 
+pytestmark = pytest.mark.usefixtures("way")
+
 NOW = "2024-03-01T12:00:00Z"
 
 

@@ -1,8 +1,9 @@
 """Values of envelopes, names, and the rows of the tables."""
 from __future__ import annotations
-from typing import Callable, Dict, List, Set
+from typing import Callable, Dict, List, Optional, Set, Tuple
 from support.bindings.pages import name_in_tables, tables
 
+import datetime
 import inspect
 import io
 import itertools
@@ -18,6 +19,58 @@ from envelopes import SMALLEST, STORY_FIELDS, STORY_HEAD, STORY_LINES, VARIED
 from iim.datasets import ATTRIBUTES
 from pages import causes
 from support.bindings.paths import SAMPLES
+
+
+UTC = datetime.timezone.utc
+
+
+def with_dates(*more: Tuple[int, int, bytes]) -> iim.Envelope:
+    """Return the smallest envelope with more datasets, or with others of the same numbers."""
+    fields = {(record, number): octets for record, number, octets in envelopes.SMALLEST_FIELDS}
+    fields.update({(record, number): octets for record, number, octets in more})
+    datasets = [(record, number, octets) for (record, number), octets in sorted(fields.items())]
+    octets = rules.packed(datasets, rules.object_of(envelopes.SMALLEST_HEAD, [b""], b""), 1024)
+    (envelope,) = iim.read(octets)
+    return envelope
+
+
+# (the instants of the worked report: sent an hour before noon, held until 13:00)
+@pytest.mark.parametrize(
+    "name, more, want",
+    [
+        ("sent", [], None),
+        ("sent", [(1, 80, b"120000+0100")], datetime.datetime(2024, 3, 1, 11, tzinfo=UTC)),
+        ("sent", [(1, 70, b"99991230"), (1, 80, b"220001+0000")], None),
+        (
+            "sent",
+            [(1, 70, b"99991231"), (1, 80, b"000000+0200")],
+            datetime.datetime(9999, 12, 30, 22, tzinfo=UTC),
+        ),
+        ("release", [], None),
+        ("release", [(2, 30, b"20240301")], datetime.datetime(2024, 3, 1, tzinfo=UTC)),
+        (
+            "release",
+            [(2, 30, b"20240301"), (2, 35, b"120000-0100")],
+            datetime.datetime(2024, 3, 1, 13, tzinfo=UTC),
+        ),
+        ("expires", [(2, 38, b"115959+0000")], None),
+        ("expires", [(2, 37, b"20240301")], datetime.datetime(2024, 3, 1, 23, 59, 59, tzinfo=UTC)),
+        ("expires", [(2, 37, b"99991231")], None),
+    ],
+    ids=str,
+)
+def test_returns_the_instants_of_an_envelope(
+    name: str, more: List[Tuple[int, int, bytes]], want: Optional[datetime.datetime]
+) -> None:
+    found = getattr(with_dates(*more), name)
+    assert found == want
+    assert found is None or found.tzinfo is not None
+
+
+def test_keeps_the_offset_of_an_instant() -> None:
+    sent = with_dates((1, 70, b"00010101"), (1, 80, b"000000+2359")).sent
+    assert sent is not None
+    assert (sent.year, sent.utcoffset()) == (1, datetime.timedelta(hours=23, minutes=59))
 
 
 def test_returns_the_values_of_the_worked_story() -> None:

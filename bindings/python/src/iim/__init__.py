@@ -41,6 +41,7 @@ from typing import TYPE_CHECKING, Any
 from iim import auditing, octets, receiver, values
 from iim._deprecated import warn_of_old_name
 from iim.auditing import Auditor, AuditRow, audit, audit_blocks
+from iim.building import BuildError, build
 from iim.errors import (
     IimError,
     Refusal,
@@ -80,7 +81,9 @@ from iim.values import (
 __all__ = [
     "AuditRow",
     "Auditor",
+    "BuildError",
     "Envelope",
+    "Error",
     "Fed",
     "FeedResult",
     "Field",
@@ -110,6 +113,7 @@ __all__ = [
     "admits",
     "audit",
     "audit_blocks",
+    "build",
     "cause_name",
     "cause_text",
     "check",
@@ -121,11 +125,21 @@ __all__ = [
     "script",
 ]
 
+# The release: that of the command and of the library.
+__version__ = "2"
+
+# Another name of the base class of the exceptions.
+Error = IimError
+
 # Types and constants. `pydoc` has nothing to show of them, so they are not in the list.
 AnyFile = octets.AnyFile
 AnyOctets = octets.AnyOctets
+AnySource = octets.AnySource
+Event = receiver.Event
 RawRow = auditing.RawRow
 BLOCK = receiver.BLOCK
+NEED_DATA = receiver.NEED_DATA
+END_OF_INPUT = receiver.END_OF_INPUT
 GREATEST = values.GREATEST
 GREATEST_LIMIT = values.GREATEST_LIMIT
 LAST_SECOND = auditing.LAST_SECOND

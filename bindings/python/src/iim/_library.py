@@ -3,13 +3,20 @@
 At the first call the library is loaded from the path in the environment variable IIM_LIBRARY;
 otherwise from the directory of this package; otherwise, in a clone, from bindings/out, where
 bindings/build writes it; otherwise from the system's library path.
+
+The extension module `_iim` does in C what the package does for each envelope, dataset and row. It
+is optional. If it is missing, the package does the same by ctypes, more slowly.
 """
 from __future__ import annotations
 
 import ctypes
+import functools
+import importlib.machinery
+import importlib.util
 import os
 from pathlib import Path
-from typing import Any, Dict, List, Tuple
+from types import ModuleType
+from typing import Any, Dict, List, Optional, Tuple
 
 
 class Limits(ctypes.Structure):
@@ -190,19 +197,24 @@ FUNCTIONS: Dict[str, Tuple[Any, List[Any]]] = {
 }
 
 
-def library_paths() -> List[Path]:
-    """Return the candidate paths of a library that belongs to this package.
+def built_paths(name: str) -> List[Path]:
+    """Return the candidate paths of a built file that belongs to this package.
 
     They are its own directory and, in a clone, the output directory of bindings/build. Outside a
     clone a directory `out` may belong to another program, so it is not searched.
     """
     here = Path(__file__).resolve().parent
-    paths = [here / "libiim.so"]
+    paths = [here / name]
     if here.parts[-3:] == ("python", "src", "iim"):
         bindings = here.parents[2]
         if (bindings / "build").is_file() and (bindings / "c" / "iim.h").is_file():
-            paths.append(bindings / "out" / "libiim.so")
+            paths.append(bindings / "out" / name)
     return paths
+
+
+def library_paths() -> List[Path]:
+    """Return the candidate paths of a library that belongs to this package."""
+    return built_paths("libiim.so")
 
 
 def load() -> ctypes.CDLL:
@@ -235,14 +247,56 @@ class Library:
     """The C library. It is loaded at the first call, so the module can be imported without it."""
 
     def __getattr__(self, name: str) -> Any:
-        """Load the library, and return one of its functions."""
-        loaded = load()
+        """Load the library, and return it as `loaded`, or one of its functions."""
+        self.loaded = loaded = load()
         for each in FUNCTIONS:
             setattr(self, each, getattr(loaded, each))
-        return getattr(loaded, name)
+        return loaded if name == "loaded" else getattr(loaded, name)
 
 
 library = Library()
+
+
+def import_extension() -> Optional[ModuleType]:
+    """Import the extension module from the first path that has it, or return `None`.
+
+    The environment variable IIM_EXTENSION names another path. If it is 0, none is imported.
+    """
+    named = os.environ.get("IIM_EXTENSION", "")
+    if named == "0":
+        return None
+    for path in [Path(named)] if named else built_paths("_iim.abi3.so"):
+        if path.exists():
+            loader = importlib.machinery.ExtensionFileLoader("iim._iim", str(path))
+            spec = importlib.util.spec_from_file_location("iim._iim", path, loader=loader)
+            assert spec is not None
+            try:
+                module = importlib.util.module_from_spec(spec)
+                loader.exec_module(module)
+            except ImportError:
+                # (it is for another processor or interpreter)
+                return None
+            return module
+    return None
+
+
+@functools.lru_cache(maxsize=None)
+def extension() -> Any:
+    """Return the extension module, or `None` if it is missing or the library is older than it.
+
+    It calls the library that is loaded here. An older library lacks some functions.
+    """
+    module: Any = import_extension()
+    if module is None:
+        return None
+    loaded = library.loaded
+    if not all(hasattr(loaded, name) for name in module.NAMES):
+        return None
+    addresses = {
+        name: ctypes.cast(getattr(loaded, name), ctypes.c_void_p).value for name in module.NAMES
+    }
+    module.bind(addresses)
+    return module
 
 
 # A buffer that the library writes to. It knows its own length, so that the length of one buffer is

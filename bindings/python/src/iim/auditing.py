@@ -3,6 +3,7 @@ from __future__ import annotations
 
 import ctypes
 import datetime
+import io
 import os
 import struct
 import threading
@@ -22,8 +23,8 @@ from typing import (
 from iim import _library
 from iim._library import library
 from iim.errors import RefusedError
-from iim.octets import AnyFile, Octets
-from iim.receiver import BLOCK, Receiver, raise_in_use
+from iim.octets import AnySource, Octets, as_bytes
+from iim.receiver import BLOCK, Receiver, raise_in_use, require_status
 from iim.streams import Stream
 from iim.values import WIRE, Limits
 
@@ -138,6 +139,20 @@ def _row_of(raw: RawRow) -> AuditRow:
     )
 
 
+def _raw_rows_of(array: bytes) -> List[RawRow]:
+    """Return the rows of an array that the library wrote, as it writes them."""
+    return cast("List[RawRow]", [*_ROW.iter_unpack(array)])
+
+
+def _rows_of(array: bytes) -> List[AuditRow]:
+    """Return the rows of an array that the library wrote."""
+    extension = _library.extension()
+    if extension is None:
+        return [*map(_row_of, _raw_rows_of(array))]
+    rows: List[AuditRow] = extension.rows(array, AuditRow, Octets, _COPY)
+    return rows
+
+
 class Auditor:
     """Audit one input after another, as of one instant.
 
@@ -197,7 +212,7 @@ class Auditor:
             RuntimeError: The auditor is in use.
             BlockingIOError: `fill` returned `None`.
         """
-        return Stream([*map(_row_of, rows)] for rows in self._exclusive_blocks(fill))
+        return Stream(_rows_of(array) for array in self._exclusive_blocks(fill))
 
     def raw_blocks(self, fill: Callable[[memoryview], Optional[int]]) -> Stream[List[RawRow]]:
         """Return the same as `blocks`, with the rows as the library writes them: the fastest form.
@@ -208,12 +223,12 @@ class Auditor:
         Returns:
             The iterator. Its exceptions are those of `blocks`.
         """
-        return Stream(self._exclusive_blocks(fill))
+        return Stream(_raw_rows_of(array) for array in self._exclusive_blocks(fill))
 
     def _exclusive_blocks(
         self, fill: Callable[[memoryview], Optional[int]]
-    ) -> Generator[List[RawRow], None, None]:
-        """Yield the rows of an input. Raise `RuntimeError` if the auditor is in use."""
+    ) -> Generator[bytes, None, None]:
+        """Yield the arrays of rows of an input. Raise `RuntimeError` if the auditor is in use."""
         if not self._lock.acquire(False):
             raise_in_use(self)
         try:
@@ -221,8 +236,8 @@ class Auditor:
         finally:
             self._lock.release()
 
-    def _blocks(self, fill: Callable[[memoryview], Optional[int]]) -> Iterator[List[RawRow]]:
-        """Yield the rows of an input for a caller that holds the lock."""
+    def _blocks(self, fill: Callable[[memoryview], Optional[int]]) -> Iterator[bytes]:
+        """Yield the arrays of rows of an input for a caller that holds the lock."""
         so_far, answer = self._so_far, self._receiver._answer
         so_far.at = so_far.octets = 0
         self._place = self._place[0], 0
@@ -235,9 +250,7 @@ class Auditor:
                 at, written = at + answer.used, answer.written
                 if written:
                     nth, octets = nth + written, 0
-                    yield cast(
-                        "List[RawRow]", [*_ROW.iter_unpack(self._rows[: written * _ROW.size])]
-                    )
+                    yield bytes(self._rows[: written * _ROW.size])
                 if status == _library.REFUSED:
                     self._refuse(bytes(self._piece[at:count]), nth, octets)
         if count is None:
@@ -293,14 +306,15 @@ class Auditor:
             # (between two envelopes there is no ticket)
             self._place, self._next = (following, answer.ticket if answer.octet else 0), ticket
         elif status != _library.REFUSED:
-            receiver._expect()
+            require_status(answer)
         return status
 
     def _receiver_at(self, nth: int, octets: int) -> Receiver:
         """Return a receiver that has consumed `octets` bytes of the current envelope."""
         receiver, (ticket, length) = self._receiver, self._place
-        receiver._refusal, receiver._ticket = None, ticket[:length] if octets else b""
-        receiver.nth, receiver.at, receiver.octets = nth, self._so_far.at, octets
+        receiver._refusal = None
+        receiver._go_to(bytes(ticket[:length]) if octets else b"", octets)
+        receiver.nth, receiver.at = nth, self._so_far.at
         return receiver
 
     def _refuse(self, piece: bytes, nth: int, octets: int) -> None:
@@ -332,12 +346,12 @@ def _filler_of(file: BinaryIO) -> Callable[[memoryview], Optional[int]]:
 
 
 def audit_blocks(
-    file: AnyFile, limits: Limits = WIRE, *, now: Optional[datetime.datetime] = None
+    file: AnySource, limits: Limits = WIRE, *, now: Optional[datetime.datetime] = None
 ) -> Stream[List[AuditRow]]:
     """Return an iterator over the rows of `audit` in lists.
 
     Args:
-        file: A path, or an object whose `read` returns bytes.
+        file: A path, an object whose `read` returns bytes, or the bytes themselves.
         limits: The limits on records 1 and 2.
         now: The instant, with a time zone, from which ages are counted and copy is held or expired
             [default: the present].
@@ -349,7 +363,7 @@ def audit_blocks(
 
 
 def audit(
-    file: AnyFile, limits: Limits = WIRE, *, now: Optional[datetime.datetime] = None
+    file: AnySource, limits: Limits = WIRE, *, now: Optional[datetime.datetime] = None
 ) -> Stream[AuditRow]:
     """Return an iterator over a row for each envelope of a file.
 
@@ -358,7 +372,7 @@ def audit(
     the iterator closes it, too.
 
     Args:
-        file: A path, or an object whose `read` returns bytes.
+        file: A path, an object whose `read` returns bytes, or the bytes themselves.
         limits: The limits on records 1 and 2.
         now: The instant, with a time zone, from which ages are counted and copy is held or expired
             [default: the present].
@@ -376,11 +390,13 @@ def audit(
 
 
 def _audit_blocks(
-    file: AnyFile, limits: Limits, now: Optional[datetime.datetime]
+    file: AnySource, limits: Limits, now: Optional[datetime.datetime]
 ) -> Generator[List[AuditRow], None, None]:
     """Yield the rows of a file in lists."""
-    if isinstance(file, (str, bytes, os.PathLike)):
+    if isinstance(file, (str, os.PathLike)):
         with open(file, "rb", buffering=0) as opened:
             yield from _audit_blocks(opened, limits, now)
         return
+    if isinstance(file, (bytes, bytearray, memoryview)):
+        file = io.BytesIO(as_bytes(file))
     yield from Auditor(limits, now=now).blocks(_filler_of(file))

@@ -22,7 +22,10 @@ class Octets(bytes):
 AnyOctets = Union[bytes, bytearray, memoryview]
 
 # The types accepted as a file: a path, or any object whose `read` returns bytes.
-AnyFile = Union[str, bytes, "os.PathLike[str]", BinaryIO]
+AnyFile = Union[str, "os.PathLike[str]", BinaryIO]
+
+# The types accepted as a source of envelopes: a file, or the bytes themselves.
+AnySource = Union[AnyFile, AnyOctets]
 
 
 def as_bytes(octets: AnyOctets) -> bytes:

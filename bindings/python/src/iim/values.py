@@ -2,6 +2,7 @@
 from __future__ import annotations
 
 import ctypes
+import datetime
 import functools
 import json
 import struct
@@ -284,6 +285,10 @@ _FIELDS = 64
 
 def datasets_of(ticket: bytes) -> List[Field]:
     """Return the datasets of a ticket, in the order sent. An empty ticket has none."""
+    extension = _library.extension()
+    if extension is not None:
+        found: Optional[List[Field]] = extension.datasets(ticket, Field, Octets)
+        return found or []
     answer, capacity = _library.Answer(), _FIELDS
     while True:
         array = ctypes.create_string_buffer(capacity * _DATASET.size)
@@ -299,6 +304,33 @@ def datasets_of(ticket: bytes) -> List[Field]:
         new(Field, (record, number, Octets(ticket[at : at + count])))
         for record, number, at, count in _DATASET.iter_unpack(made)
     ]
+
+
+def instant_of(date: Optional[bytes], time: Optional[bytes]) -> Optional[datetime.datetime]:
+    """Return the instant of a date and a time as datasets have them, with the offset of the time.
+
+    Args:
+        date: A valid date as CCYYMMDD, or `None`.
+        time: A valid time as HHMMSS and an offset such as +0100, or `None`.
+
+    Returns:
+        The instant. `None` if one is missing, or if the instant is after 9999-12-30T22:00:00Z, the
+        last one that the library knows.
+    """
+    if date is None or time is None:
+        return None
+    day = datetime.date(int(date[:4]), int(date[4:6]), int(date[6:]))
+    local = datetime.datetime.combine(
+        day, datetime.time(int(time[:2]), int(time[2:4]), int(time[4:6]))
+    )
+    minutes = 60 * int(time[7:9]) + int(time[9:11])
+    offset = datetime.timedelta(minutes=-minutes if time[6:7] == b"-" else minutes)
+    if local - _FIRST - offset > _LAST - _FIRST:
+        return None
+    return local.replace(tzinfo=datetime.timezone(offset))
+
+
+_FIRST, _LAST = datetime.datetime(1, 1, 1), datetime.datetime(9999, 12, 30, 22)
 
 
 class Envelope(NamedDatasets):
@@ -374,6 +406,27 @@ class Envelope(NamedDatasets):
     def id(self) -> Id:
         """The identifier: the service, the envelope number and the date sent."""
         return Id(self.service_identifier, self.envelope_number, self.date_sent)
+
+    @property
+    def sent(self) -> Optional[datetime.datetime]:
+        """When it was sent, 1:70 and 1:80, or `None` without a valid time or instant."""
+        return instant_of(self.date_sent, self.time_sent)
+
+    @property
+    def release(self) -> Optional[datetime.datetime]:
+        """When its copy may be used first, 2:30 and 2:35, or `None`.
+
+        Without a time it is the beginning of the day in UTC.
+        """
+        return instant_of(self.release_date, self.release_time or b"000000+0000")
+
+    @property
+    def expires(self) -> Optional[datetime.datetime]:
+        """When its copy may be used last, 2:37 and 2:38, or `None`.
+
+        Without a time it is the last second of the day in UTC.
+        """
+        return instant_of(self.expiration_date, self.expiration_time or b"235959+0000")
 
     @functools.cached_property
     def _message(self) -> _library.Message:

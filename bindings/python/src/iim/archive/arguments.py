@@ -4,15 +4,18 @@ from __future__ import annotations
 import argparse
 import datetime
 import re
-from typing import Any, List, Tuple
+from typing import Any, List, Optional, Tuple
 
 import iim
+from iim.archive.formats import FIELDS
 from iim.archive.output import write
+from iim.archive.query import WHERE
 from iim.archive.rows import LONGEST_TIME, seconds
+from iim.archive.texts import is_encoding
 from iim.program import add_limits, check_limits
 
 # The maximum number of processes.
-MOST_WORKERS = 1_000
+MOST_WORKERS = 256
 
 # The maximum time for a file: a year.
 MOST_SECONDS = 31_536_000
@@ -72,6 +75,47 @@ def dates(word: str) -> Tuple[str, str]:
     return first, last or first
 
 
+def day_or_instant(word: str) -> datetime.datetime:
+    """Parse an instant, or a day such as 2024-03-01, which begins at midnight in UTC."""
+    return instant(
+        f"{word}T00:00:00Z" if re.fullmatch("[0-9]{4}-[0-9]{2}-[0-9]{2}", word) else word
+    )
+
+
+def sample(word: str) -> Tuple[Optional[float], Optional[int]]:
+    """Parse a sample: a number of files, or a part of them such as 5%."""
+    if not word.endswith("%"):
+        return None, at_least_one(word)
+    part = float(word[:-1])
+    if not 0 < part <= 100:
+        raise argparse.ArgumentTypeError("must be more than 0% and at most 100%")
+    return part / 100, None
+
+
+def encoding(word: str) -> str:
+    """Parse the name of an encoding."""
+    if not is_encoding(word):
+        raise argparse.ArgumentTypeError(f"there is no encoding {word}")
+    return word
+
+
+def field_names(word: str) -> List[str]:
+    """Parse a list of columns, such as file,headline."""
+    names = word.split(",")
+    for name in names:
+        if name not in FIELDS:
+            raise argparse.ArgumentTypeError(f"there is no column {name}: {', '.join(FIELDS)}")
+    return names
+
+
+def condition(word: str) -> Tuple[str, str]:
+    """Parse a condition on a column, such as priority=4."""
+    name, equals, value = word.partition("=")
+    if not equals or name not in WHERE:
+        raise argparse.ArgumentTypeError(f"must be COLUMN=VALUE of {', '.join(WHERE)}")
+    return name, value
+
+
 def add_now(parser: argparse.ArgumentParser) -> None:
     """Add the option --now, which several commands have."""
     parser.add_argument(
@@ -97,13 +141,7 @@ def add_readers(parser: argparse.ArgumentParser) -> None:
 
 
 def add_tasks(parser: argparse.ArgumentParser) -> None:
-    """Add the options on the files to read, and on the tasks that they are read in."""
-    parser.add_argument(
-        "--name",
-        metavar="PATTERN",
-        default="*",
-        help="read only files whose names match, such as '*.iim' [default: all]",
-    )
+    """Add the options on the tasks that files are read in."""
     parser.add_argument(
         "--batch",
         metavar="N",
@@ -111,26 +149,6 @@ def add_tasks(parser: argparse.ArgumentParser) -> None:
         default=128,
         help="maximum number of files in one task [default: 128]",
     )
-
-
-def parse(words: List[str]) -> argparse.Namespace:
-    """Parse the arguments of a run."""
-    parser = Parser(
-        description="Check and audit a directory tree of files of envelopes, and print lines of"
-        " JSON.",
-        epilog="Other commands: `%(prog)s query` prints rows of an index, and `%(prog)s report`"
-        " summarizes an archive; see their `--help`.",
-    )
-    parser.add_argument("tree", metavar="TREE", nargs="+", help="directory or file to read")
-    parser.add_argument(
-        "--into",
-        metavar="INDEX",
-        help="store the rows in this database, and read only files that are new or changed",
-    )
-    add_readers(parser)
-    add_now(parser)
-    add_tasks(parser)
-    add_limits(parser)
     parser.add_argument(
         "--timeout",
         metavar="SECONDS",
@@ -141,8 +159,73 @@ def parse(words: List[str]) -> argparse.Namespace:
     parser.add_argument(
         "--verbose", action="store_true", help="log the steps of the run to standard error"
     )
+
+
+def add_root(parser: argparse.ArgumentParser) -> None:
+    """Add the option on the directory that names are relative to."""
+    parser.add_argument(
+        "--root",
+        metavar="DIR",
+        help="directory that the names in the index are relative to [default: that of the last"
+        " run; without one the names are absolute]",
+    )
+
+
+def add_index_rules(parser: argparse.ArgumentParser) -> None:
+    """Add the options on what an index has."""
+    parser.add_argument(
+        "--into",
+        metavar="INDEX",
+        help="store the rows in this database, and read only files that are new or changed",
+    )
+    add_root(parser)
+    parser.add_argument(
+        "--again",
+        action="store_true",
+        help="read also files that were read with other limits, another --text or --encoding or by"
+        " another release, and files that are damaged as `verify` found",
+    )
+    parser.add_argument(
+        "--text",
+        choices=("none", "fields", "all"),
+        help="words to index: none, those of the fields such as the headline, or all with those of"
+        " the story [default: as in the last run, or none]",
+    )
+    parser.add_argument(
+        "--encoding",
+        metavar="NAME",
+        type=encoding,
+        help="encoding of the words of envelopes without 1:90 [default: as in the last run, or"
+        " latin-1]",
+    )
+
+
+def parse(words: List[str]) -> argparse.Namespace:
+    """Parse the arguments of a run."""
+    parser = Parser(
+        description="Check and audit a directory tree of files of envelopes, and print lines of"
+        " JSON.",
+        epilog="Other commands, each with its own `--help`: `%(prog)s query` prints rows of an"
+        " index, `report` summarizes an archive, `verify` compares files with their checksums,"
+        " `manifest` prints or checks checksums, and `migrate` updates the form of an index.",
+    )
+    parser.add_argument("tree", metavar="TREE", nargs="+", help="directory or file to read")
+    add_index_rules(parser)
+    add_readers(parser)
+    add_now(parser)
+    parser.add_argument(
+        "--name",
+        metavar="PATTERN",
+        default="*",
+        help="read only files whose names match, such as '*.iim' [default: all]",
+    )
+    add_tasks(parser)
+    add_limits(parser)
     arguments = parser.parse_args(words)
     check_limits(parser, arguments.limits)
+    for name in "root", "text", "encoding", "again":
+        if arguments.into is None and getattr(arguments, name):
+            parser.error(f"--{name} is for a run with --into")
     return arguments
 
 
@@ -159,13 +242,37 @@ def add_selection(parser: argparse.ArgumentParser) -> None:
         "--cause", metavar="CAUSE", help="only refusals with this cause: its number or its name"
     )
     parser.add_argument(
+        "--words",
+        metavar="QUERY",
+        help="only envelopes with these words, such as 'headline: rates AND bank', as SQLite's FTS5"
+        " reads a query; the index must have been made with --text",
+    )
+    parser.add_argument(
+        "--where",
+        metavar="COLUMN=VALUE",
+        type=condition,
+        action="append",
+        default=[],
+        help=f"only rows with this value, or with this phrase in a column of the text; may be"
+        f" repeated; a column is one of {', '.join(WHERE)}",
+    )
+    parser.add_argument(
         "--repeats", action="store_true", help="only envelopes that repeat another one"
     )
     parser.add_argument(
         "--only",
         metavar="KIND",
-        choices=("envelope", "refused", "empty", "failed", "gone"),
-        help="only rows of this kind: envelope, refused, empty, failed or gone",
+        choices=("envelope", "refused", "empty", "failed", "linked", "gone"),
+        help="only rows of this kind: envelope, refused, empty, failed, linked or gone",
+    )
+
+
+def add_immutable(parser: argparse.ArgumentParser) -> None:
+    """Add the option on reading without locks."""
+    parser.add_argument(
+        "--immutable",
+        action="store_true",
+        help="read the index without locks, as a file that nobody changes",
     )
 
 
@@ -181,8 +288,19 @@ def parse_query(words: List[str]) -> argparse.Namespace:
     add_selection(parser)
     add_now(parser)
     parser.add_argument(
-        "--csv", action="store_true", help="print CSV with a header line [default: lines of JSON]"
+        "--fields",
+        metavar="COLUMN,..",
+        type=field_names,
+        help=f"print these columns: {', '.join(FIELDS)}",
     )
+    parser.add_argument(
+        "--format",
+        choices=("jsonl", "json", "csv"),
+        default="jsonl",
+        help="print lines of JSON, one array of JSON, or CSV with a header line [default: jsonl]",
+    )
+    parser.add_argument("--csv", action="store_true", help="the same as --format csv")
+    add_immutable(parser)
     return parser.parse_args(words)
 
 
@@ -202,4 +320,69 @@ def parse_report(words: List[str]) -> argparse.Namespace:
     )
     add_now(parser)
     add_limits(parser)
+    add_root(parser)
+    add_immutable(parser)
+    return parser.parse_args(words)
+
+
+def parse_verify(words: List[str]) -> argparse.Namespace:
+    """Parse the arguments of `verify`."""
+    parser = Parser(
+        "verify",
+        description="Compare the content of the files of an index with their checksums, print the"
+        " files that differ, and store the outcomes.",
+    )
+    parser.add_argument("index", metavar="INDEX", help="index written by a run with --into")
+    parser.add_argument(
+        "--sample",
+        metavar="N[%]",
+        type=sample,
+        default=(None, None),
+        help="only N files, or N percent of them, chosen at random [default: all]",
+    )
+    parser.add_argument(
+        "--not-since",
+        metavar="DATE",
+        type=day_or_instant,
+        help="only files that were not verified since then, such as 2024-03-01",
+    )
+    add_root(parser)
+    add_readers(parser)
+    add_tasks(parser)
+    return parser.parse_args(words)
+
+
+def parse_manifest(words: List[str]) -> argparse.Namespace:
+    """Parse the arguments of `manifest`."""
+    parser = Parser(
+        "manifest",
+        description="Print the checksums of the files of an index in the form of `sha256sum`, or"
+        " compare them with such a file.",
+    )
+    parser.add_argument("index", metavar="INDEX", help="index written by a run with --into")
+    parser.add_argument(
+        "--check",
+        metavar="FILE",
+        help="compare the index with this manifest, and print what differs",
+    )
+    parser.add_argument(
+        "--base",
+        metavar="DIR",
+        help="directory that the names in FILE are relative to [default: that of FILE]",
+    )
+    parser.add_argument(
+        "--bagit",
+        action="store_true",
+        help="in the form of manifest-sha256.txt of a bag (RFC 8493)",
+    )
+    add_immutable(parser)
+    return parser.parse_args(words)
+
+
+def parse_migrate(words: List[str]) -> argparse.Namespace:
+    """Parse the arguments of `migrate`."""
+    parser = Parser(
+        "migrate", description="Bring indexes of older releases to the form of this release."
+    )
+    parser.add_argument("index", metavar="INDEX", nargs="+", help="index to migrate")
     return parser.parse_args(words)

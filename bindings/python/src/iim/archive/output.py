@@ -21,6 +21,11 @@ class OutputFailed(Failure):
 
 
 def write(text: str) -> None:
+    """Write text to standard output, as `write_bytes` does."""
+    write_bytes(text.encode("utf-8", "surrogateescape"))
+
+
+def write_bytes(octets: bytes) -> None:
     """Write to standard output without a buffer.
 
     Raises:
@@ -31,7 +36,7 @@ def write(text: str) -> None:
     if sys.stdout is None:
         raise OutputFailed("standard output: closed")
     # (Python's own stream loses the rest of a long text if a signal arrives)
-    remaining = memoryview(text.encode("utf-8"))
+    remaining = memoryview(octets)
     try:
         while remaining:
             remaining = remaining[os.write(sys.stdout.fileno(), remaining) :]

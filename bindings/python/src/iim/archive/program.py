@@ -1,24 +1,27 @@
 """Check and audit a directory tree of files of envelopes, on one machine or several, and index it.
 
-    iim-archive [--workers N | --scheduler ADDRESS] [--now INSTANT] [--name PATTERN] [--batch N]
-                [--limits OCTETS FIELDS] [--timeout SECONDS] [--verbose] TREE..
-    iim-archive --into INDEX [the same options] TREE..
-    iim-archive report [--html OUT [--force]] [--now INSTANT] [--limits OCTETS FIELDS] INDEX
-    iim-archive query [--date DATE[..DATE]] [--service SERVICE] [--cause CAUSE] [--repeats]
-                [--only KIND] [--now INSTANT] [--csv] INDEX..
+    iim-archive [OPTION].. TREE..
+    iim-archive --into INDEX [OPTION].. TREE..
+    iim-archive query [OPTION].. INDEX..
+    iim-archive report [OPTION].. INDEX
+    iim-archive verify [OPTION].. INDEX
+    iim-archive manifest [OPTION].. INDEX
+    iim-archive migrate INDEX..
 
 TREE is a file, or a directory of which all files are read. Each line printed is a value of JSON.
 There is one for each envelope: its file and number, its id, sizes, words, age, whether its copy may
 be used, and which earlier envelope it repeats. An envelope repeats the first one of all files with
 the same service, number and date sent; files are ordered by the bytes of their names. There is a
 line for each rejected envelope with its position, its cause and what is known of it, for each empty
-file, and for each file that can't be read; the run continues after each. The last line has the
-totals.
+file, for each other name of a file, and for each file that can't be read; the run continues after
+each. The last line has the totals.
 
 With --into the rows are stored in INDEX, an SQLite database, and only the totals are printed. A
 later run reads only files that are new or changed, and marks files that are gone; it also continues
 a run that was interrupted. `query` prints the rows of one or several indexes. `report` summarizes
 an archive as text, or as a page with charts and links to explanations of the damaged files.
+`verify` compares the files with the checksums of an index. `manifest` prints the checksums, or
+compares them with a manifest.
 
 --workers N runs N processes on this machine. --scheduler ADDRESS runs on Dask distributed: each
 worker must have the same files under the same names, and this package. Without either option all
@@ -26,9 +29,9 @@ files are read in this process.
 
 Failures, and with --verbose the steps of a run, are logged to standard error.
 
-Exit status: 0 if all is accepted, 1 if input was rejected, 2 for a usage error, 3 if a file can't
-be read or the run failed, which prints one line `iim-archive: what: reason`, and 130 after Ctrl-C
-or SIGTERM.
+Exit status: 0 if all is accepted, 1 if input was rejected or a file differs from its checksum, 2
+for a usage error, 3 if a file can't be read or the run failed, which prints one line `iim-archive:
+what: reason`, and 130 after Ctrl-C or SIGTERM.
 """
 from __future__ import annotations
 
@@ -36,65 +39,41 @@ import argparse
 import contextlib
 import datetime
 import functools
-import itertools
 import json
 import logging
-import marshal
 import os
-import sqlite3
 import sys
-from typing import Any, Callable, Dict, Iterable, Iterator, List, NoReturn, Optional, Tuple
+from typing import Any, Callable, Dict, Iterator, List, Optional, Tuple
 
 import iim
-from iim.archive.arguments import parse, parse_query, parse_report
-from iim.archive.files import files_of
+from iim.archive import arguments as parsers
+from iim.archive import commands
+from iim.archive.files import Lister, distinct_trees
+from iim.archive.lines import Lines, lines_of, repeats_end
 from iim.archive.output import (
     LOGGER,
     OutputFailed,
     ReaderStopped,
     log_to_standard_error,
     write,
-    write_error,
 )
-from iim.archive.progress import Interrupt, Silence, progress_over
+from iim.archive.progress import Interrupt, Silence, progress_here
+from iim.archive.reading import STOPPED, end_early, in_index, read_blocks
 from iim.archive.rows import (
     FileRequest,
     Failure,
     Form,
-    Lines,
-    NoIndex,
-    interrupt_reads,
+    Reading,
     kept_rows,
-    lines_of,
     read_batch,
     read_files,
-    repeats_end,
     seconds,
 )
-from iim.safe_output import OutputRefused, replace_file
+from iim.archive.schema import RELEASE
+from iim.safe_output import OutputRefused
 
 # A function that runs a command, and returns its exit status.
 Command = Callable[[argparse.Namespace, Interrupt], int]
-
-# The size, in bytes, from which on a batch is full.
-BATCH_OCTETS = 2 << 20
-
-# The exit status after a signal.
-STOPPED = 130
-
-
-def batches_of(files: Iterable[FileRequest], most: int) -> Iterator[List[FileRequest]]:
-    """Yield the files in batches of at most `most`, and of fewer if they are long."""
-    batch: List[FileRequest] = []
-    octets = 0
-    for file in files:
-        batch.append(file)
-        octets += file.size
-        if len(batch) >= most or octets >= BATCH_OCTETS:
-            yield batch
-            batch, octets = [], 0
-    if batch:
-        yield batch
 
 
 def load_library(arguments: argparse.Namespace) -> None:
@@ -103,36 +82,13 @@ def load_library(arguments: argparse.Namespace) -> None:
         iim.cause_name(1)
 
 
-@contextlib.contextmanager
-def read_blocks(
-    files: Iterable[FileRequest], arguments: argparse.Namespace, form: Form
-) -> Iterator[Iterator[List[Any]]]:
-    """Yield the rows of the files, batch by batch, as the arguments specify.
-
-    The workers end with the context, also if an exception leaves it.
-    """
-    options = {
-        "limits": iim.Limits(*arguments.limits),
-        "now": arguments.now,
-        "form": form,
-        "most": arguments.timeout,
-    }
+def read_rows(
+    files: Iterator[FileRequest], arguments: argparse.Namespace, how: Reading, form: Form
+) -> "contextlib._GeneratorContextManager[Iterator[List[Any]]]":
+    """Return a context that yields the rows of the files, batch by batch."""
+    options: Dict[str, Any] = {"how": how, "form": form}
     reader = functools.partial(read_batch, **options)
-    batches = batches_of(files, arguments.batch)
-    if arguments.scheduler is not None:
-        from iim.archive.distributed import by_distributed
-
-        with contextlib.closing(by_distributed(batches, reader, arguments.scheduler)) as blocks:
-            yield map(marshal.loads, blocks)
-    elif arguments.workers is not None:
-        from iim.archive.workers import by_processes
-
-        count, most = arguments.workers, arguments.timeout
-        with contextlib.closing(by_processes(batches, reader, count, most)) as blocks:
-            yield map(marshal.loads, blocks)
-    else:
-        interrupt_reads()
-        yield map(functools.partial(read_files, **options), batches)
+    return read_blocks(files, arguments, reader, functools.partial(read_files, **options))
 
 
 class Report:
@@ -140,7 +96,7 @@ class Report:
 
     def __init__(self) -> None:
         """Create a report without rows."""
-        names = "files", "envelopes", "repeated", "held", "refused", "empty", "failed"
+        names = "files", "envelopes", "repeated", "held", "refused", "empty", "failed", "linked"
         self.sums = dict.fromkeys(names, 0)
         self._first: Dict[str, Tuple[str, int]] = {}
 
@@ -170,24 +126,24 @@ class Report:
 
 def print_trees(arguments: argparse.Namespace, interrupt: Interrupt) -> int:
     """Audit the trees that the arguments name, print the rows, and return the exit status."""
-    trees = [os.fsencode(tree) for tree in arguments.tree]
+    trees = distinct_trees(map(os.fsencode, arguments.tree))
     report = Report()
 
     def files() -> Iterator[FileRequest]:
         """Yield the files to read, and count them."""
-        found_files = (files_of(tree, arguments.name) for tree in trees)
-        for number, found in enumerate(itertools.chain.from_iterable(found_files)):
-            report.sums["files"] += not found.is_folder
+        for number, found in enumerate(Lister(trees, arguments.name).files()):
+            report.sums["files"] += not found.is_folder and found.target is None
             yield FileRequest(number, *found)
 
     write("")
     load_library(arguments)
     progress = Silence()
     status = STOPPED
+    how = Reading(iim.Limits(*arguments.limits), arguments.now, arguments.timeout)
     try:
         with contextlib.suppress(KeyboardInterrupt):
-            progress = progress_over(trees, arguments.name, interrupt)
-            with read_blocks(files(), arguments, lines_of) as blocks:
+            progress = progress_here()
+            with read_rows(files(), arguments, how, lines_of) as blocks:
                 for block in interrupt.each(blocks):
                     report.add(block, progress)
                     LOGGER.info("%d files are read and printed", report.sums["files"])
@@ -201,13 +157,6 @@ def print_trees(arguments: argparse.Namespace, interrupt: Interrupt) -> int:
     return status
 
 
-def end_early(fault: Exception, progress: Silence, sums: Dict[str, int]) -> NoReturn:
-    """Print the totals so far of a run that failed, and raise its exception."""
-    progress.end()
-    write(json.dumps(sums) + "\n")
-    raise fault from None
-
-
 def check_inputs(index: str, trees: List[str]) -> None:
     """Raise `Failure` if the index is one of the trees."""
     for tree in trees:
@@ -219,7 +168,6 @@ def check_inputs(index: str, trees: List[str]) -> None:
 def write_index(arguments: argparse.Namespace, interrupt: Interrupt) -> int:
     """Update an index from the trees given, print the totals, and return the exit status."""
     from iim.archive.index import Index
-    from iim.archive.updating import Update, separate_trees
 
     write("")
     load_library(arguments)
@@ -227,86 +175,67 @@ def write_index(arguments: argparse.Namespace, interrupt: Interrupt) -> int:
     now = seconds(arguments.now)
     with Index(arguments.into) as index:
         progress = Silence()
-        update = Update(index, arguments, progress)
+        trees, how, update = begin_run(index, arguments)
         stopped = True
         try:
             with contextlib.suppress(KeyboardInterrupt):
-                trees = separate_trees(arguments.tree)
-                update.progress = progress = progress_over(trees, arguments.name, interrupt)
-                with read_blocks(update.files(trees), arguments, kept_rows) as blocks:
+                update.progress = progress = progress_here()
+                with read_rows(update.files(trees), arguments, how, kept_rows) as blocks:
                     for block in interrupt.each(blocks):
                         update.add(block)
                         LOGGER.info("%d files are found, and their rows are stored", update.found)
                 stopped = False
             progress.end()
-            sums = index.end(now)
+            sums = {**update.totals(), **index.end(now)}
+            index.end_run(sums, not stopped)
         except Exception as fault:
             so_far = {**update.totals(), **index.sums_so_far(now)}
             end_early(in_index(fault, arguments.into), progress, so_far)
-        write(json.dumps({**update.totals(), **sums}) + "\n")
-        return STOPPED if stopped else 3 if sums["failed"] else 1 if sums["refused"] else 0
+    write(json.dumps(sums) + "\n")
+    return STOPPED if stopped else 3 if sums["failed"] else 1 if sums["refused"] else 0
 
 
-def in_index(fault: Exception, *names: str) -> Exception:
-    """Return the exception to raise for a fault.
+def begin_run(index: Any, arguments: argparse.Namespace) -> Tuple[List[bytes], Reading, Any]:
+    """Begin a run that updates an index, and return its trees, how it reads, and the update."""
+    from iim.archive.index import Rules
+    from iim.archive.updating import Update, check_root, separate_trees
 
-    An error of SQLite becomes one that names the indexes.
-    """
-    return NoIndex(f"{', '.join(names)}: {fault}") if isinstance(fault, sqlite3.Error) else fault
-
-
-def print_query(arguments: argparse.Namespace, interrupt: Interrupt) -> int:
-    """Print the rows of indexes that the arguments select, and return the exit status."""
-    from iim.archive import query
-
-    write("")
-    try:
-        for text in interrupt.each(query.lines(arguments)):
-            write(text)
-    except sqlite3.Error as fault:
-        raise in_index(fault, *arguments.index) from None
-    except KeyboardInterrupt:
-        return STOPPED
-    return 0
+    setting = index.setting()
+    root = setting.root if arguments.root is None else commands.absolute(arguments.root)
+    text, encoding = arguments.text or setting.text, arguments.encoding or setting.encoding
+    limits = iim.Limits(*arguments.limits)
+    trees = separate_trees(arguments.tree)
+    if root is not None:
+        check_root(root, trees)
+        if setting.root is None:
+            index.make_relative(root)
+    rules = Rules(RELEASE, *limits, text, encoding)
+    index.begin("index", rules, root, arguments.tree, arguments.name)
+    how = Reading(limits, arguments.now, arguments.timeout, True, text, encoding)
+    update = Update(index, arguments, Silence(), rules if arguments.again else None, root)
+    return trees, how, update
 
 
-def print_report(arguments: argparse.Namespace, interrupt: Interrupt) -> int:
-    """Print the report on an archive or write it as a page, and return the exit status."""
-    from iim.archive import report
-
-    if arguments.html is None:
-        write("")
-    parts: Dict[str, Any] = {}
-    try:
-        parts.update(interrupt.each(report.parts(arguments)))
-    except sqlite3.Error as fault:
-        raise in_index(fault, arguments.index) from None
-    except KeyboardInterrupt:
-        return STOPPED
-    content = report.Content(**parts)
-    if arguments.html is not None and report.can_draw():
-        from iim.archive import page
-
-        text = page.page(content)
-        with replace_file(arguments.html, arguments.inputs, force=arguments.force) as to:
-            to.write(text)
-        return 0
-    if arguments.html is not None:
-        write_error("no page is written: python3-matplotlib or python3-jinja2 is not installed\n")
-    write("\n".join([*report.lines(content), ""]))
-    return 0
+COMMANDS: Dict[str, Tuple[Command, Callable[[List[str]], argparse.Namespace]]] = {
+    "query": (commands.print_query, parsers.parse_query),
+    "report": (commands.print_report, parsers.parse_report),
+    "verify": (commands.verify, parsers.parse_verify),
+    "manifest": (commands.print_manifest, parsers.parse_manifest),
+    "migrate": (commands.migrate, parsers.parse_migrate),
+}
 
 
 def parse_command(words: List[str]) -> Tuple[Command, argparse.Namespace]:
     """Return the function that runs the command line, and its arguments."""
-    if words[:1] == ["query"]:
-        return print_query, parse_query(words[1:])
-    if words[:1] == ["report"]:
-        return print_report, parse_report(words[1:])
-    arguments = parse(words)
-    if arguments.verbose:
+    if words and words[0] in COMMANDS:
+        run, parse = COMMANDS[words[0]]
+        arguments = parse(words[1:])
+    else:
+        arguments = parsers.parse(words)
+        run = print_trees if arguments.into is None else write_index
+    if getattr(arguments, "verbose", False):
         log_to_standard_error(logging.INFO)
-    return (print_trees if arguments.into is None else write_index), arguments
+    return run, arguments
 
 
 def main(words: Optional[List[str]] = None) -> int:
@@ -321,7 +250,8 @@ def main(words: Optional[List[str]] = None) -> int:
     log_to_standard_error(logging.WARNING)
     try:
         run, arguments = parse_command(sys.argv[1:] if words is None else words)
-        arguments.now = arguments.now or datetime.datetime.now(datetime.timezone.utc)
+        if getattr(arguments, "now", None) is None:
+            arguments.now = datetime.datetime.now(datetime.timezone.utc)
         return run(arguments, Interrupt())
     except ReaderStopped:
         return 3

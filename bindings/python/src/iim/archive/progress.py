@@ -3,13 +3,11 @@ from __future__ import annotations
 
 import contextlib
 import datetime
-import itertools
 import signal
 import sys
 import time
-from typing import Any, Iterator, List, TypeVar
+from typing import Any, Iterator, TypeVar
 
-from iim.archive.files import files_of
 from iim.archive.output import write_error
 
 Item = TypeVar("Item")
@@ -60,14 +58,16 @@ class Silence:
 
 
 class Progress(Silence):
-    """Report progress on a terminal: by tqdm if installed, or else by a line every two seconds."""
+    """Report progress on a terminal: by tqdm if installed, or else by a line every two seconds.
+
+    How many files there are is not known before all are listed, and they are listed once.
+    """
 
     EVERY = 2.0
 
-    def __init__(self, files: int, octets: int) -> None:
-        """Create a report for a number of files, of this size together."""
+    def __init__(self) -> None:
+        """Create a report."""
         self.files = self.envelopes = self.refused = self.octets = 0
-        self._all_files, self._all_octets = files, octets
         self._start = self._reported = time.monotonic()
         # (tqdm has no types)
         self._bar: Any = None
@@ -75,9 +75,7 @@ class Progress(Silence):
             from tqdm import tqdm
 
             interval = min(self.EVERY, 0.1)
-            self._bar = tqdm(
-                total=octets, unit="B", unit_scale=True, leave=False, mininterval=interval
-            )
+            self._bar = tqdm(unit="B", unit_scale=True, leave=False, mininterval=interval)
 
     def add(self, files: int, octets: int, envelopes: int, refused: int) -> None:
         """Add to the counts, and report them."""
@@ -94,15 +92,14 @@ class Progress(Silence):
 
     def _counts(self) -> str:
         """Return the counts as text."""
-        files = f"{self.files:,} of {self._all_files:,} files"
-        return f"{files}, {self.envelopes:,} envelopes, {self.refused:,} refused"
+        counts = f"{self.files:,} files, {self.envelopes:,} envelopes"
+        return f"{counts}, {self.refused:,} refused"
 
     def _speed(self) -> str:
-        """Return the speed and the remaining time as text."""
-        a_second = self.octets / max(time.monotonic() - self._start, 0.001)
-        remaining = (self._all_octets - self.octets) / max(a_second, 1)
-        left = datetime.timedelta(seconds=round(remaining))
-        return f"{a_second / 1e6:.1f} MB/s, {left} left"
+        """Return the speed and the time as text."""
+        seconds = max(time.monotonic() - self._start, 0.001)
+        past = datetime.timedelta(seconds=round(seconds))
+        return f"{self.octets / seconds / 1e6:.1f} MB/s, {past}"
 
     def end(self) -> None:
         """End the report."""
@@ -110,17 +107,8 @@ class Progress(Silence):
             self._bar.close()
 
 
-def progress_over(trees: List[bytes], pattern: str, interrupt: Interrupt) -> Silence:
-    """Return an object that reports the progress. On a terminal all files are counted first.
-
-    Raises:
-        KeyboardInterrupt: A signal arrived while the files were counted.
-    """
+def progress_here() -> Silence:
+    """Return an object that reports the progress if standard error is a terminal."""
     if sys.stderr is None or not sys.stderr.isatty():
         return Silence()
-    files = octets = 0
-    all_files = itertools.chain.from_iterable(files_of(tree, pattern) for tree in trees)
-    for found in interrupt.each(all_files):
-        files += 1
-        octets += found.size
-    return Progress(files, octets)
+    return Progress()

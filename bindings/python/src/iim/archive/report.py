@@ -9,20 +9,24 @@ import argparse
 import contextlib
 import datetime
 import importlib
+import json
 import os
 from typing import Any, Callable, Iterator, List, NamedTuple, Optional, Tuple
 
 from iim import safe_output
-from iim.archive.query import open_indexes
+from iim.archive.opening import full_path, open_readonly, root_of
 from iim.archive.rows import ENDS, EPOCH, seconds
+from iim.archive.verifying import STATES as FIXITY
 from iim.explain import words
 
 # The maximum number of rows of a table, of bars of a chart, and of damaged files.
 ROWS, BARS, DAMAGED = 20, 40, 1_000
 
-HERE = "e.file NOT IN (SELECT file FROM part0.files WHERE gone = 1)"
-ENVELOPES = f"FROM part0.envelopes AS e WHERE {HERE}"
-REFUSALS = f"FROM part0.refusals AS e WHERE {HERE}"
+HERE = "e.file NOT IN (SELECT file FROM files WHERE gone = 1)"
+ENVELOPES = f"FROM envelopes AS e WHERE {HERE}"
+REFUSALS = f"FROM refusals AS e WHERE {HERE}"
+# The files that are there, each counted under one of its names.
+FILES = "FROM files AS e WHERE e.gone = 0 AND e.state <> 'linked' AND substr(e.path, -1) <> x'2F'"
 ID = "e.service || ' ' || e.number || ' ' || e.date_sent"
 
 AGES = [
@@ -92,6 +96,7 @@ class Content(NamedTuple):
         bars: The bar charts.
         tables: The tables.
         damaged: The damaged files.
+        more: The number of damaged files that are not listed.
     """
 
     name: str
@@ -100,24 +105,41 @@ class Content(NamedTuple):
     bars: List[Bars]
     tables: List[Table]
     damaged: List[Damaged]
+    more: int = 0
 
 
 class Queries:
     """The queries of a report on an index, as of one instant."""
 
-    def __init__(self, index: str, now: datetime.datetime) -> None:
+    def __init__(
+        self,
+        index: str,
+        now: datetime.datetime,
+        root: Optional[bytes] = None,
+        is_immutable: bool = False,
+    ) -> None:
         """Open an index.
+
+        Args:
+            index: The path of the index.
+            now: The instant of the report.
+            root: The directory that names are relative to, or `None` for that of the index.
+            is_immutable: Whether to read the index without locks.
 
         Raises:
             NoIndex: The path has no index, or can't be opened.
         """
-        self._database = open_indexes([index])
+        self._database = open_readonly(index, is_immutable)
         self._database.create_function("bits", 1, bits_of, deterministic=True)
+        self._root = root_of(self._database) if root is None else root
         self.now, self._second = now, seconds(now)
+        # (copy expires after its last second: with a part of that second over, it has)
+        self._expired = self._second + (now.microsecond > 0)
 
     def rows(self, text: str, *values: Any) -> List[Any]:
         """Return the rows of a query."""
-        return self._database.execute(text, values).fetchall()
+        found: List[Any] = self._database.execute(text, values).fetchall()
+        return found
 
     def number(self, text: str, *values: Any) -> int:
         """Return the single number of a query."""
@@ -130,25 +152,27 @@ class Queries:
         """
         inputs: List[safe_output.Input] = [index + end for end in ENDS]
         names = [os.fsencode(name) for name in (os.path.abspath(output), os.path.realpath(output))]
-        found = "SELECT path FROM part0.files WHERE path IN (?, ?)"
+        below = b"" if self._root is None else os.path.join(self._root, b"")
+        names = [name[len(below) :] if name.startswith(below) else name for name in names]
+        found = "SELECT path FROM files WHERE path IN (?, ?)"
         with contextlib.suppress(OSError):
             there = os.stat(output)
             found += f" OR size = {there.st_size} AND changed = {there.st_mtime_ns}"
-        return inputs + [path for path, in self.rows(found, *names)]
+        return inputs + [full_path(self._root, path) for path, in self.rows(found, *names)]
 
     def sums(self) -> Iterator[Tuple[str, int]]:
         """Yield the name and the value of each total."""
-        files = "SELECT count(*) FROM part0.files WHERE"
-        yield "files", self.number(f"{files} gone = 0 AND substr(path, -1) <> x'2F'")
-        yield "octets", self.number("SELECT sum(size) FROM part0.files WHERE gone = 0")
+        files = "SELECT count(*) FROM files WHERE"
+        yield "files", self.number(f"SELECT count(*) {FILES}")
+        yield "octets", self.number(f"SELECT sum(e.size) {FILES}")
         yield "envelopes", self.number(f"SELECT count(*) {ENVELOPES}")
         of_ids = f"SELECT count(*) AS n {ENVELOPES} GROUP BY {ID} HAVING n > 1"
         yield "repeated", self.number(f"SELECT sum(n - 1) FROM ({of_ids})")
         yield "held", self.number(f"SELECT count(*) {ENVELOPES} AND e.release > ?", self._second)
         late = "e.expires < ? AND (e.release IS NULL OR e.release <= ?)"
         expired = f"SELECT count(*) {ENVELOPES} AND {late}"
-        yield "expired", self.number(expired, self._second, self._second)
-        for state in "refused", "empty", "failed":
+        yield "expired", self.number(expired, self._expired, self._second)
+        for state in "refused", "empty", "failed", "linked":
             yield state, self.number(f"{files} gone = 0 AND state = ?", state)
         yield "gone", self.number(f"{files} gone = 1")
 
@@ -207,8 +231,8 @@ class Queries:
 
     def next(self, title: str, column: str) -> Table:
         """Return a table of the envelopes whose release or expiration is next."""
-        query = f"""SELECT f.path, e.envelope, {ID}, e.{column} FROM part0.envelopes AS e
-            JOIN part0.files AS f ON f.file = e.file AND f.gone = 0
+        query = f"""SELECT f.path, e.envelope, {ID}, e.{column} FROM envelopes AS e
+            JOIN files AS f ON f.file = e.file AND f.gone = 0
             WHERE e.{column} > ? ORDER BY e.{column}, f.path, e.envelope LIMIT {ROWS}"""
         cells = [
             [named(path), str(nth), shown(name), instant(second)]
@@ -223,10 +247,50 @@ class Queries:
                 json_extract(e.told, '$.refused.octet_in_file'),
                 json_extract(e.told, '$.refused.dataset'),
                 e.cause || ' ' || e.cause_name, {" || ' ' || ".join(parts_of_id)}
-            FROM part0.refusals AS e JOIN part0.files AS f ON f.file = e.file AND f.gone = 0
+            FROM refusals AS e JOIN files AS f ON f.file = e.file AND f.gone = 0
             ORDER BY f.path LIMIT {DAMAGED}"""
         for path, nth, at, dataset, cause, name in self.rows(query):
-            yield Damaged(path, nth, at, dataset, cause, shown(name), page_of(path))
+            link = page_of(full_path(self._root, path))
+            yield Damaged(path, nth, at, dataset, cause, shown(name), link)
+
+    def fixity(self) -> Bars:
+        """Return a bar chart of the files by the outcome of their last verification."""
+        what = "coalesce(e.fixity, CASE WHEN e.sha256 IS NULL THEN 'unknown' ELSE 'not yet' END)"
+        counts = dict(self.rows(f"SELECT {what}, count(*) {FILES} GROUP BY 1"))
+        titles = {state: state for state in FIXITY}
+        titles.update({"not yet": "not verified yet", "unknown": "without a checksum"})
+        return Bars(
+            "Files by their last verification",
+            [(title, counts[state]) for state, title in titles.items() if state in counts],
+        )
+
+    def not_intact(self) -> Table:
+        """Return a table of the files that were not intact when they were last verified."""
+        joined = FILES.replace("WHERE", "JOIN runs AS r ON r.run = e.verified WHERE")
+        query = f"""SELECT e.path, e.fixity, r.started {joined}
+            AND e.fixity <> 'intact' ORDER BY e.path LIMIT {ROWS}"""
+        cells = [[named(path), state, instant(second)] for path, state, second in self.rows(query)]
+        return Table("Not intact", ["file", "state", "verified at"], cells)
+
+    def runs(self) -> Table:
+        """Return a table of the last runs."""
+        query = f"""SELECT run, command, release, started, ended, sums, files FROM
+            (SELECT *, (SELECT count(*) FROM files AS f WHERE f.run = r.run) AS files
+            FROM runs AS r ORDER BY run DESC LIMIT {ROWS}) ORDER BY run"""
+        cells = [
+            [
+                str(run),
+                command,
+                release or "(not known)",
+                instant(started),
+                "(stopped)" if ended is None else instant(ended),
+                f"{files:,}",
+                ", ".join(f"{count:,} {name}" for name, count in json.loads(sums or "{}").items()),
+            ]
+            for run, command, release, started, ended, sums, files in self.rows(query)
+        ]
+        names = ["run", "command", "release", "started", "ended", "files read last", "totals"]
+        return Table("Runs", names, cells)
 
     def all(
         self, name: str, page_of: Callable[[bytes], Optional[str]]
@@ -239,10 +303,13 @@ class Queries:
         by_cause = self.of_each("Refusals by cause", cause, REFUSALS)
         by_service = self.of_each("Refusals by service", service, REFUSALS)
         of_envelopes = [self.by_day(), self.by_hour(), self.by_size(), self.by_age()]
-        yield "bars", [by_cause, by_service, *of_envelopes]
+        yield "bars", [by_cause, by_service, *of_envelopes, self.fixity()]
         held = self.next("Held, and released next", "release")
-        yield "tables", [self.repeats(), held, self.next("Expires next", "expires")]
-        yield "damaged", list(self.damaged(page_of))
+        following = [self.repeats(), held, self.next("Expires next", "expires")]
+        yield "tables", [*following, self.not_intact(), self.runs()]
+        damaged = list(self.damaged(page_of))
+        yield "damaged", damaged
+        yield "more", self.number(f"SELECT count(*) {REFUSALS}") - len(damaged)
 
 
 def bits_of(size: int) -> int:
@@ -286,6 +353,8 @@ def lines(content: Content) -> Iterator[str]:
     for each in content.damaged:
         where = f"envelope {each.envelope}, octet {each.at:,} of the file, {each.dataset}"
         yield f"  {named(each.path)}: {where}, cause {each.cause} ({each.id})"
+    if content.more:
+        yield f"  and {content.more:,} more, which `query --only refused` prints"
     if content.damaged:
         yield "`python3 -m iim explain FILE` shows the error in one of them."
 
@@ -310,7 +379,8 @@ def parts(arguments: argparse.Namespace) -> Iterator[Tuple[str, Any]]:
         NoIndex: The path has no index.
         OutputRefused: The report must not be written to its path.
     """
-    queries = Queries(arguments.index, arguments.now)
+    root = None if arguments.root is None else os.fsencode(os.path.abspath(arguments.root))
+    queries = Queries(arguments.index, arguments.now, root, arguments.immutable)
     page_of = no_page
     output, force = arguments.html, arguments.force
     if output is not None:

@@ -1,9 +1,10 @@
-"""Read a file of envelopes for iim-archive: its rows in the index, and their lines of JSON."""
+"""Read a file of envelopes for iim-archive: the rows that it has in the index."""
 from __future__ import annotations
 
 import contextlib
 import datetime
 import functools
+import hashlib
 import json
 import marshal
 import os
@@ -11,19 +12,30 @@ import signal
 import stat
 import threading
 import time
-from typing import Callable, Generator, Iterator, List, NamedTuple, Optional, Tuple, Union, cast
+from typing import (
+    Any,
+    Callable,
+    Generator,
+    Iterator,
+    List,
+    NamedTuple,
+    Optional,
+    Sequence,
+    Tuple,
+    Union,
+    cast,
+)
 
 import iim
+from iim.archive.texts import TextReader, TextRow
+from iim.receiver import BLOCK
 
 EPOCH = datetime.datetime(1970, 1, 1, tzinfo=datetime.timezone.utc)
 
 
-# Return a text as a string of JSON.
-quote: Callable[[str], str] = json.JSONEncoder().encode
-
-# The rows of the tables `files` (without `gone`), `envelopes` and `refusals` of the index, by
-# columns.
-FileRow = Tuple[int, bytes, int, int, int, str, Optional[str]]
+# The rows of the tables of an index, by columns. In a file's row each column that may be missing is
+# an empty text or no bytes then: file, path, size, changed, read, state, reason, sha256 and target.
+FileRow = Tuple[int, bytes, int, int, int, str, str, str, bytes]
 EnvelopeRow = Tuple[
     int,
     int,
@@ -47,6 +59,13 @@ RefusalRow = Tuple[int, int, int, int, str, Optional[str], Optional[str], Option
 # form.
 Cells = List[Union[int, str, None]]
 COLUMNS = 15
+
+# What is bound for a missing instant (`iim.archive.index`): a second before all instants.
+NEVER = -(1 << 62)
+
+# The columns of a plain row, which has a priority, and all instants but those of release and
+# expiration.
+PLAIN = 13
 
 
 def rows_in(cells: Cells) -> List[EnvelopeRow]:
@@ -105,13 +124,15 @@ class FileRequest(NamedTuple):
         size: Its size, in bytes.
         changed: The time of its last change, in nanoseconds since 1970.
         reason: Why it can't be read, or `None`.
+        target: Its other name if it is read under that, or `None`.
     """
 
     file: int
     path: bytes
     size: int
     changed: int
-    reason: Optional[str]
+    reason: Optional[str] = None
+    target: Optional[bytes] = None
 
 
 # A function that reads a batch of files and returns a block: the files' rows, encoded by marshal.
@@ -139,10 +160,13 @@ class FileRows(NamedTuple):
         size: Its size, in bytes.
         changed: The time of its last change, in nanoseconds since 1970.
         read: The size of its envelopes together, in bytes.
-        state: 'accepted', 'refused', 'empty' or 'failed'.
+        state: 'accepted', 'refused', 'empty', 'failed' or 'linked'.
         reason: Why it failed, or `None`.
         envelopes: The rows of its envelopes, as a flat list.
         refusal: The row of its refusal, or `None`.
+        sha256: The checksum of its content in hexadecimal, or `None`.
+        target: Its other name if it is linked, or `None`.
+        texts: The rows of its envelopes in the full-text index.
     """
 
     file: int
@@ -154,12 +178,55 @@ class FileRows(NamedTuple):
     reason: Optional[str]
     envelopes: Cells
     refusal: Optional[RefusalRow]
+    sha256: Optional[str] = None
+    target: Optional[bytes] = None
+    texts: Sequence[TextRow] = ()
 
 
 # The function that returns a file's part of a block at an instant: `lines_of` or `kept_rows`.
 Form = Callable[[FileRows, datetime.datetime], Tuple[object, ...]]
-Lines = Tuple[str, List[Tuple[str, str]], Optional[str], str, int, int]
-KeptRows = Tuple[int, bytes, int, int, int, str, Optional[str], Cells, Optional[RefusalRow]]
+
+# The rows of one file in the index: its own, those of its envelopes, which are plain or not, that
+# of its refusal, and those of its texts.
+KeptRows = Tuple[FileRow, Cells, Cells, Optional[RefusalRow], List[TextRow]]
+
+
+class Batch(NamedTuple):
+    """The rows of some files in the index.
+
+    Attributes:
+        files: The rows of the files.
+        plain: The plain rows of envelopes, as one flat list.
+        others: The other rows of envelopes, as one flat list without `None`.
+        refusals: The rows of refusals.
+        texts: The rows of the full-text index.
+    """
+
+    files: List[FileRow]
+    plain: Cells
+    others: Cells
+    refusals: List[RefusalRow]
+    texts: List[TextRow]
+
+
+class Reading(NamedTuple):
+    """How files are read.
+
+    Attributes:
+        limits: The limits on records 1 and 2.
+        now: The instant for ages.
+        most: The maximum time for a file, in seconds.
+        has_sums: Whether to compute checksums.
+        text: What the full-text index has: "none", "fields" or "all".
+        encoding: The encoding of envelopes without 1:90.
+    """
+
+    limits: iim.Limits
+    now: datetime.datetime
+    most: float = LONGEST_TIME
+    has_sums: bool = False
+    text: str = "none"
+    encoding: str = "latin-1"
 
 
 @functools.lru_cache(maxsize=1)
@@ -281,19 +348,34 @@ def open_regular(path: bytes) -> int:
     return file
 
 
+# A function that is called with each piece of a file that is read.
+Tap = Callable[[memoryview], object]
+
+
 def blocks_of(
-    path: bytes, limits: iim.Limits, now: datetime.datetime, timer: Timer
+    path: bytes, how: Reading, timer: Timer, taps: Sequence[Tap] = ()
 ) -> Generator[List[iim.RawRow], None, None]:
-    """Yield the rows of a file, many at a time."""
+    """Yield the rows of a file, many at a time.
+
+    After a refusal the rest of the file is read for the taps.
+    """
     file = open_regular(path)
 
     def fill(buffer: memoryview) -> int:
         """Read the next bytes of the file."""
         timer.check()
-        return os.readv(file, [buffer])
+        count = os.readv(file, [buffer])
+        for tap in taps:
+            tap(buffer[:count])
+        return count
 
     try:
-        yield from auditor_of_thread.for_run(limits, now).raw_blocks(fill)
+        yield from auditor_of_thread.for_run(how.limits, how.now).raw_blocks(fill)
+    except iim.RefusedError:
+        rest = memoryview(bytearray(BLOCK if taps else 0))
+        while taps and fill(rest):
+            pass
+        raise
     finally:
         os.close(file)
 
@@ -351,41 +433,53 @@ def watch_reads(before: Callable[[], object]) -> None:
     interrupt_reads()
 
 
-def read_file(
-    asked: FileRequest, limits: iim.Limits, now: datetime.datetime, most: float = LONGEST_TIME
-) -> FileRows:
-    """Read a file, for at most `most` seconds.
-
-    An exception becomes the reason why the file failed.
-    """
+def read_file(asked: FileRequest, how: Reading) -> FileRows:
+    """Read a file. An exception becomes the reason why the file failed."""
     before_file()
-    file, path, size, changed, fault_before = asked
+    file, path, size, changed, fault_before, target = asked
+    if target is not None:
+        return FileRows(file, path, size, changed, 0, "linked", None, [], None, target=target)
     if fault_before is not None:
         return FileRows(file, path, size, changed, 0, "failed", fault_before, [], None)
+    digest = hashlib.sha256() if how.has_sums else None
+    texts = TextReader(file, how.limits, how.text, how.encoding) if how.text != "none" else None
+    taps: List[Tap] = []
+    if digest is not None:
+        taps.append(digest.update)
+    if texts is not None:
+        taps.append(texts.feed)
     rows: Cells = []
     nth = 0
-    second = seconds(now)
+    second = seconds(how.now)
     read = 0
     state, reason, refusal = "accepted", None, None
     try:
-        with Timer(most) as timer, contextlib.ExitStack() as stack:
-            blocks = stack.enter_context(contextlib.closing(blocks_of(path, limits, now, timer)))
-            for block in blocks:
-                for nth, raw in enumerate(block, nth + 1):
-                    rows += envelope_row(file, nth, second, raw)
-                read = block[-1][0] + block[-1][1]
+        with Timer(how.most) as timer:
+            with contextlib.closing(blocks_of(path, how, timer, taps)) as blocks:
+                for block in blocks:
+                    for nth, raw in enumerate(block, nth + 1):
+                        rows += envelope_row(file, nth, second, raw)
+                    read = block[-1][0] + block[-1][1]
     except iim.RefusedError as refused:
         state, refusal = "refused", refusal_row(file, refused)
-    except OSError as fault:
-        state, reason = "failed", fault.strerror or str(fault)
-    except MemoryError:
-        state, reason = "failed", "out of memory"
     except Exception as fault:
-        # (such as a bug: it is reported, and the run continues with the other files)
-        state, reason = "failed", f"{type(fault).__name__}: {fault}"
+        state, reason, digest = "failed", reason_of(fault), None
     if state == "accepted" and not rows:
         state = "empty"
-    return FileRows(file, path, size, changed, read, state, reason, rows, refusal)
+    found = texts.rows[:nth] if texts is not None else []
+    sha256 = digest.hexdigest() if digest is not None else None
+    front = file, path, size, changed, read, state, reason
+    return FileRows(*front, rows, refusal, sha256, None, found)
+
+
+def reason_of(fault: Exception) -> str:
+    """Return why a file can't be read."""
+    if isinstance(fault, OSError):
+        return fault.strerror or str(fault)
+    if isinstance(fault, MemoryError):
+        return "out of memory"
+    # (such as a bug: it is reported, and the run continues with the other files)
+    return f"{type(fault).__name__}: {fault}"
 
 
 def refusal_row(file: int, refused: iim.RefusedError) -> RefusalRow:
@@ -396,101 +490,32 @@ def refusal_row(file: int, refused: iim.RefusedError) -> RefusalRow:
     return (file, *where, service, number, date, json.dumps(value))
 
 
-# --- Lines ---
-
-
-def name_of(path: bytes) -> str:
-    """Return the name of a file as a string of JSON."""
-    return quote(os.fsdecode(path))
-
-
-def file_line(name: str, state: str, reason: Optional[str]) -> str:
-    """Return the line of a file that is empty or gone, or that can't be read for a reason."""
-    if reason is not None:
-        return f'{{"file": {name}, "failed": {quote(reason)}}}\n'
-    return f'{{"file": {name}, "{state}": true}}\n'
-
-
-def refusal_line(name: str, refusal: str) -> str:
-    """Return the line of a refusal."""
-    return f'{{"file": {name}, {refusal[1:]}\n'
-
-
-def envelope_front(name: str, row: EnvelopeRow, now: datetime.datetime, second: int) -> str:
-    """Return the line of an envelope up to the envelope that it repeats."""
-    (
-        _,
-        nth,
-        at,
-        length,
-        service,
-        number,
-        date,
-        priority,
-        size,
-        subfiles,
-        announced,
-        counted,
-        sent,
-        release,
-        expires,
-    ) = row
-    copy = "free" if release is None and expires is None else copy_of(release, expires, now)
-    priority = "null" if priority is None else quote(priority)
-    age = "null" if sent is None else second - sent
-    return (
-        f'{{"file": {name}, "envelope": {nth}, "at": {at}, "length": {length}, '
-        f'"service": {quote(service)}, "number": "{number}", "date_sent": "{date}", '
-        f'"priority": {priority}, "size": {size}, "subfiles": {subfiles}, '
-        f'"announced": {announced}, "counted": {counted}, "age": {age}, "copy": "{copy}", '
-        '"repeats": '
-    )
-
-
-def repeats_end(first: Optional[Tuple[str, int]]) -> str:
-    """Return the end of an envelope's line: file and number of the envelope that it repeats."""
-    return "null}\n" if first is None else f'{{"file": {first[0]}, "envelope": {first[1]}}}}}\n'
-
-
-def lines_of(rows: FileRows, now: datetime.datetime) -> Lines:
-    """Return the lines of a file without the envelopes that its envelopes repeat.
-
-    Returns:
-        The file's name; the id of each envelope and its line up to what it repeats; the line after
-        these, or `None`; the file's state; its size, in bytes; and the number of held envelopes.
-    """
-    name = name_of(rows.path)
-    second = seconds(now)
-    envelopes = rows_in(rows.envelopes)
-    fronts = [
-        (row[5] + row[6] + row[4], envelope_front(name, row, now, second)) for row in envelopes
-    ]
-    held = sum(row[13] is not None and row[13] > second for row in envelopes)
-    last = None
-    if rows.refusal is not None:
-        last = refusal_line(name, rows.refusal[-1])
-    elif rows.state != "accepted":
-        last = file_line(name, rows.state, rows.reason)
-    return name, fronts, last, rows.state, rows.size, held
-
-
 # --- Batches ---
+
+
+def or_never(second: Optional[int]) -> int:
+    """Return an instant, or what is bound for a missing one."""
+    return NEVER if second is None else second
 
 
 def kept_rows(rows: FileRows, now: datetime.datetime) -> KeptRows:
     """Return the rows of a file that the index stores."""
-    return (*rows,)
+    plain: Cells = []
+    others: Cells = []
+    for row in rows_in(rows.envelopes):
+        if row[13] is None and row[14] is None and row[12] is not None and row[7] is not None:
+            plain += row[:PLAIN]
+        else:
+            others += (*row[:7], row[7] or "", *row[8:12], *map(or_never, row[12:]))
+    file: FileRow = (*rows[:6], rows.reason or "", rows.sha256 or "", rows.target or b"")
+    return file, plain, others, rows.refusal, list(rows.texts)
 
 
-def read_files(
-    files: List[FileRequest], limits: iim.Limits, now: datetime.datetime, form: Form, most: float
-) -> List[Tuple[object, ...]]:
-    """Read some files, each for at most `most` seconds."""
-    return [form(read_file(file, limits, now, most), now) for file in files]
+def read_files(files: List[FileRequest], how: Reading, form: Form) -> List[Tuple[Any, ...]]:
+    """Read some files, each within the time limit."""
+    return [form(read_file(file, how), how.now) for file in files]
 
 
-def read_batch(
-    files: List[FileRequest], limits: iim.Limits, now: datetime.datetime, form: Form, most: float
-) -> bytes:
+def read_batch(files: List[FileRequest], how: Reading, form: Form) -> bytes:
     """Read some files, and return their rows as a block. A worker runs this."""
-    return marshal.dumps(read_files(files, limits, now, form, most), FORM)
+    return marshal.dumps(read_files(files, how, form), FORM)

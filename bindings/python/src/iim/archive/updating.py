@@ -2,77 +2,27 @@
 from __future__ import annotations
 
 import argparse
-import fnmatch
 import os
-import re
-from typing import Dict, Iterable, Iterator, List, NamedTuple, Optional, Tuple
+from typing import Dict, FrozenSet, Iterable, Iterator, List, Optional
 
-from iim.archive.files import Found, files_of
-from iim.archive.index import Index, IndexedFile
+from iim.archive.files import Found, Lister, distinct_trees, matcher_of
+from iim.archive.index import Entry, Index, Rules
 from iim.archive.progress import Silence
-from iim.archive.rows import COLUMNS, ENDS, FileRequest, Cells, FileRow, KeptRows, RefusalRow
+from iim.archive.rows import COLUMNS, PLAIN, Batch, Failure, FileRequest, KeptRows
 
 
 def separate_trees(trees: Iterable[str]) -> List[bytes]:
     """Return the absolute paths of the trees, in order, without those inside others."""
     absolute = {os.fsencode(os.path.abspath(tree)) for tree in trees}
-    names: List[bytes] = []
-    for name in sorted(absolute, key=lambda name: name + b"/"):
-        if not (names and name.startswith(os.path.join(names[-1], b""))):
-            names.append(name)
-    return names
+    return distinct_trees(sorted(absolute, key=lambda name: name + b"/"))
 
 
-class Entry(NamedTuple):
-    """An entry of the index, or the end of the entries.
-
-    Attributes:
-        path: The path of the file.
-        file: What the index has of it, or `None` at the end.
-    """
-
-    path: bytes
-    file: Optional[IndexedFile]
-
-
-class Entries:
-    """The entries of the index for a tree, one after another."""
-
-    def __init__(self, entries: Iterator[Tuple[bytes, IndexedFile]]) -> None:
-        """Begin with the first of the entries, which are ordered by name."""
-        self._entries = entries
-        self._next = self._advance()
-
-    def _advance(self) -> Entry:
-        """Return the next entry of the index."""
-        path, file = next(self._entries, (b"", None))
-        return Entry(path, file)
-
-    def _take(self) -> Tuple[bytes, IndexedFile]:
-        """Return the next entry, which must be there, and go on to the one after it."""
-        path, file = self._next
-        assert file is not None
-        self._next = self._advance()
-        return path, file
-
-    def before(self, path: bytes) -> Iterator[Tuple[bytes, IndexedFile]]:
-        """Yield the entries whose names sort before a path."""
-        while self._next.file is not None and self._next.path < path:
-            yield self._take()
-
-    def at(self, path: bytes) -> Optional[IndexedFile]:
-        """Return the entry of a path, or `None`."""
-        return self._take()[1] if self._next.file is not None and self._next.path == path else None
-
-    def skip_below(self, folder: bytes) -> None:
-        """Skip the entries of the files in a directory."""
-        while self._next.file is not None and self._next.path.startswith(folder):
-            self._take()
-
-    def rest(self) -> Iterator[Tuple[bytes, IndexedFile]]:
-        """Yield all further entries."""
-        while self._next.file is not None:
-            yield self._take()
+def check_root(root: bytes, trees: Iterable[bytes]) -> None:
+    """Raise `Failure` if a tree is not the root, or below it."""
+    below = os.path.join(root, b"")
+    for tree in trees:
+        if tree != root and not tree.startswith(below):
+            raise Failure(f"{os.fsdecode(tree)}: is not below the root {os.fsdecode(root)}")
 
 
 class Update:
@@ -88,12 +38,30 @@ class Update:
     # The number of files that are marked at a time.
     MARKS = 1_000
 
-    def __init__(self, index: Index, arguments: argparse.Namespace, progress: Silence) -> None:
-        """Create a run that updates an index as the arguments specify."""
+    def __init__(
+        self,
+        index: Index,
+        arguments: argparse.Namespace,
+        progress: Silence,
+        rules: Optional[Rules] = None,
+        root: Optional[bytes] = None,
+    ) -> None:
+        """Create a run that updates an index as the arguments specify.
+
+        Args:
+            index: The index.
+            arguments: The arguments of the command line.
+            progress: The report of the progress.
+            rules: With `--again` the rules of the run. A file that other rules read is read again.
+            root: The directory that names are relative to, or `None`.
+        """
         self._index, self._pattern, self.progress = index, arguments.name, progress
         self.found = self.unchanged = self.gone = 0
-        self._matches = re.compile(fnmatch.translate(arguments.name)).match
-        self._own = {os.fsencode(os.path.abspath(arguments.into) + end) for end in ENDS}
+        self._matches = matcher_of(arguments.name)
+        self._own = index.own_files()
+        # The number of bytes of a path before the name that the index has.
+        self._cut = 0 if root is None else len(os.path.join(root, b""))
+        self._runs: Optional[FrozenSet[int]] = None if rules is None else index.runs_by(rules)
         self._marks: Dict[bool, List[int]] = {True: [], False: []}
 
     def totals(self) -> Dict[str, int]:
@@ -102,57 +70,76 @@ class Update:
 
     def files(self, trees: List[bytes]) -> Iterator[FileRequest]:
         """Yield the files to read."""
+        lister = Lister(trees, self._pattern, self._own)
         for tree in trees:
-            if os.path.isdir(tree):
-                below = os.path.join(tree, b"")
+            name = tree[self._cut :]
+            if not os.path.isdir(tree):
+                entries = self._index.entries(name, name + b"\0")
+            elif name:
+                below = os.path.join(name, b"")
                 entries = self._index.entries(below, below[:-1] + b"0")
             else:
-                entries = self._index.entries(tree, tree + b"\0")
-            yield from self._changes(files_of(tree, self._pattern), Entries(entries))
+                entries = self._index.entries(b"", None)
+            yield from self._changes(lister.files_of(tree), entries)
         for gone in self._marks:
             self._mark(gone, 1)
 
-    def _changes(self, files: Iterator[Found], entries: Entries) -> Iterator[FileRequest]:
+    def _changes(self, files: Iterator[Found], entries: Iterator[Entry]) -> Iterator[FileRequest]:
         """Yield the files of a tree to read.
 
         Args:
             files: The files of the tree, ordered by name.
-            entries: The entries of the index for the tree.
+            entries: The entries of the index for the tree, ordered by name.
         """
+        cut, runs, progress = self._cut, self._runs, self.progress
+        entry = next(entries, None)
         for found in files:
-            for path, file in entries.before(found.path):
-                self._miss(path, file)
-            if found.path in self._own:
-                continue
-            self.found += not found.is_folder
-            entry = entries.at(found.path)
-            if found.is_folder:
-                # (it can't be determined which of its files are gone)
-                entries.skip_below(found.path)
-            if entry is None:
+            path, size, changed, reason, target = found
+            name = path[cut:] if cut else path
+            while entry is not None and entry[0] < name:
+                self._miss(entry)
+                entry = next(entries, None)
+            is_known = entry is not None and entry[0] == name
+            is_folder = path[-1] == 0x2F
+            self.found += not is_folder and target is None
+            if not is_known:
                 yield FileRequest(self._index.new_number(), *found)
-            elif is_unchanged(entry, found):
-                self._meet(entry, found)
-            else:
-                yield FileRequest(entry.file, *found)
-        for path, file in entries.rest():
-            self._miss(path, file)
+            elif entry is not None:
+                _, file, old_size, old_changed, state, gone, run, fixity, linked = entry
+                if (
+                    old_size == size
+                    and old_changed == changed
+                    and reason is None
+                    and state != "failed"
+                    and linked == (target and target[cut:])
+                    and (runs is None or target or (run in runs and fixity != "damaged"))
+                ):
+                    self.unchanged += target is None
+                    progress.add(1, size, 0, 0)
+                    if gone:
+                        self._marks[False].append(file)
+                        self._mark(False, self.MARKS)
+                else:
+                    yield FileRequest(file, *found)
+                entry = next(entries, None)
+            if is_folder:
+                # (it can't be determined which of its files are gone)
+                while entry is not None and entry[0].startswith(name):
+                    entry = next(entries, None)
+        while entry is not None:
+            self._miss(entry)
+            entry = next(entries, None)
 
-    def _miss(self, path: bytes, entry: IndexedFile) -> None:
+    def _miss(self, entry: Entry) -> None:
         """Mark a file as gone if its name matches the pattern."""
-        if self._matches(os.fsdecode(os.path.basename(path))) or path.endswith(b"/"):
+        path, file, gone = entry[0], entry[1], entry[5]
+        matches = self._matches
+        name = os.fsdecode(os.path.basename(path))
+        if matches is None or matches(name) or path.endswith(b"/"):
             self.gone += 1
-            if not entry.gone:
-                self._marks[True].append(entry.file)
+            if not gone:
+                self._marks[True].append(file)
                 self._mark(True, self.MARKS)
-
-    def _meet(self, entry: IndexedFile, found: Found) -> None:
-        """Count a file that is unchanged, and mark it as present."""
-        self.unchanged += 1
-        self.progress.add(1, found.size, 0, 0)
-        if entry.gone:
-            self._marks[False].append(entry.file)
-            self._mark(False, self.MARKS)
 
     def _mark(self, gone: bool, least: int) -> None:
         """Write the marks to the index if there are at least `least`."""
@@ -162,19 +149,17 @@ class Update:
 
     def add(self, block: List[KeptRows]) -> None:
         """Write the rows of some files to the index."""
-        files: List[FileRow] = []
-        envelopes: Cells = []
-        refusals: List[RefusalRow] = []
-        for file, path, size, changed, read, state, reason, rows, refusal in block:
-            files.append((file, path, size, changed, read, state, reason))
-            envelopes += rows
+        batch, cut = Batch([], [], [], [], []), self._cut
+        for file, plain, others, refusal, texts in block:
+            if cut:
+                number, path, *columns, target = file
+                file = (number, path[cut:], *columns, target[cut:])  # type: ignore[assignment]
+            batch.files.append(file)
+            batch.plain.extend(plain)
+            batch.others.extend(others)
+            batch.texts.extend(texts)
             if refusal is not None:
-                refusals.append(refusal)
-            self.progress.add(1, size, len(rows) // COLUMNS, state == "refused")
-        self._index.write(files, envelopes, refusals)
-
-
-def is_unchanged(entry: IndexedFile, found: Found) -> bool:
-    """Check whether a file is as it was when it was read for the index."""
-    as_before = (entry.size, entry.changed) == (found.size, found.changed)
-    return found.reason is None and entry.state != "failed" and as_before
+                batch.refusals.append(refusal)
+            count = len(plain) // PLAIN + len(others) // COLUMNS
+            self.progress.add(1, file[2], count, file[5] == "refused")
+        self._index.write(batch)

@@ -4,17 +4,21 @@ The page has no script and loads nothing.
 """
 from __future__ import annotations
 
+import datetime
 import html
 import itertools
+import re
 from pathlib import Path
-from typing import Iterable, Iterator, List, NamedTuple, Optional, Tuple
+from typing import Iterable, Iterator, List, NamedTuple, Optional, Sequence, Tuple
 
 import iim
 from iim.explain.case import Case, Whole
+from iim.explain.causes import CAUSES, sentence
+from iim.explain.release import release
 from iim.explain.sections import Section, sections
-from iim.explain.text import listing as lines_of_listing
-from iim.explain.walk import Item
-from iim.explain.words import counted, plain, printable
+from iim.explain.text import FIRST
+from iim.explain.walk import TEXT_OCTETS, Item
+from iim.explain.words import counted, plain, printable, shown
 from iim.safe_output import PAGE_HEAD
 
 # The number of items, story lines and bytes shown at each end of all envelopes; and of bytes of a
@@ -26,6 +30,11 @@ TOGETHER = 64
 # The number of bytes shown before the rejected one and after it.
 BEFORE, AFTER = 64, 48
 
+# The reference: in a clone, and as a package installs it.
+REFERENCES = [
+    *(top / "docs" / "reference" for top in [*Path(__file__).resolve().parents][5:6]),
+    Path("/usr/share/doc/iimwire/docs/reference"),
+]
 # The style of the page.
 STYLE = Path(__file__).with_name("page.css")
 LIGHT = "{ background: var(--lit) }"
@@ -61,16 +70,24 @@ class Group(NamedTuple):
     spans: List[Span]
 
 
-def page(case: Case) -> str:
-    """Return the page of a file."""
-    name, verdict = html.escape(printable(case.source.name)), html.escape(case.verdict())
-    cards = "".join(card(section) for section in sections(case))
+def page(case: Case, notes: Sequence[str] = ()) -> str:
+    """Return the page of a file.
+
+    Args:
+        case: The file.
+        notes: Sentences that are shown under the verdict.
+    """
+    name = html.escape(printable(case.source.name))
+    explained = list(sections(case))
+    first = "".join(card(case, each) for each in explained if each.title in FIRST)
+    later = "".join(card(case, each) for each in explained if each.title not in FIRST)
     near = ""
     if case.refusal:
         near = f"<section><h2>Bytes around the error</h2><pre>{around(case)}</pre></section>"
     wholes = "".join(article(case, whole) for whole in case.wholes)
     lit = ",".join(f".part:has(.{key}:hover) .{key}" for key in map(key_of, range(TOGETHER)))
-    explanation = f"<section class=told>{cards}</section>" if cards else ""
+    explanation = f"<section class=told>{first}</section>" if first else ""
+    more = f"<section class=told>{later}</section>" if later else ""
     style = STYLE.read_text(encoding="utf-8")
     policy = "default-src 'none'; style-src 'unsafe-inline'"
     return (
@@ -78,10 +95,27 @@ def page(case: Case) -> str:
         f'<meta http-equiv="Content-Security-Policy" content="{policy}">'
         '<meta name="viewport" content="width=device-width">'
         f"<style>{style}{lit}{LIGHT}</style></head>\n"
-        f"<body><header><h1>{name}</h1><p>{verdict}</p></header>\n<main>"
-        f"{near}{explanation}{listing(case)}{wholes}"
-        "</main></body></html>\n"
+        f"<body>{skip_link(case)}<header><h1>{name}</h1>{verdict(case, notes)}</header>\n"
+        f"<main id=main>{explanation}{near}{listing(case)}{more}{of_cause(case)}{wholes}"
+        f"</main>{footer(case)}</body></html>\n"
     )
+
+
+def skip_link(case: Case) -> str:
+    """Return the link to the bytes, which is the first that the keyboard reaches."""
+    if not case.wholes:
+        return "<a class=skip href=#main>Skip to the content</a>"
+    nth = case.wholes[-1].found.nth
+    return f"<a class=skip href=#envelope{nth}>Skip to the bytes of envelope {nth:,}</a>"
+
+
+def verdict(case: Case, notes: Sequence[str]) -> str:
+    """Return the verdict, as the largest line, and the notes."""
+    kind = "bad" if case.refusal else "good"
+    badge = "Refused" if case.refusal else "Accepted" if case.count else "Empty"
+    lines = "".join(f"<p class=note>{html.escape(note)}</p>" for note in notes)
+    text = html.escape(case.verdict())
+    return f"<p class=verdict><strong class={kind}>{badge}</strong> {text}</p>{lines}"
 
 
 def key_of(nth: int) -> str:
@@ -89,24 +123,94 @@ def key_of(nth: int) -> str:
     return f"k{nth % TOGETHER}"
 
 
-def card(section: Section) -> str:
+def card(case: Case, section: Section) -> str:
     """Return a section of the explanation of a refusal."""
     parts: List[str] = []
     for line in section.lines:
-        text = html.escape(line[2:] if line[:2] == "* " else line)
+        number, _, rest = line.partition(". ")
+        if number.isdigit():
+            parts.append(f"<ol class=fixes><li>{html.escape(rest)}</li></ol>")
+            continue
+        text = html.escape(line)
         if "&gt;" in text and "&lt;" in text and line.count(">") == 1:
             marked = text.replace("&gt;", "<b>&gt;").replace("&lt;", "&lt;</b>")
             parts.append(f"<p class=bar>{marked}</p>")
         else:
-            parts.append(f"<ul><li>{text}</li></ul>" if line[:2] == "* " else f"<p>{text}</p>")
-    body = "".join(parts).replace("</ul><ul>", "")
+            is_ask = section.title == "What to do" and line == case.ask
+            parts.append(f"<p{' class=ask' * is_ask}>{linked(case, text)}</p>")
+    body = "".join(parts).replace("</ol><ol class=fixes>", "")
     return f"<div><h2>{html.escape(section.title)}</h2>{body}</div>"
 
 
+def linked(case: Case, text: str) -> str:
+    """Return a text of HTML in which the name of the cause, and of a document, is a link."""
+    refusal = case.refusal
+    if refusal is not None:
+        named = f"Cause {refusal.cause} {refusal.cause_name}"
+        link = f"<a href=#cause{refusal.cause}>{named}</a>"
+        text = text.replace(named, link, 1)
+    return re.sub(r"`(format[.]md)`", f'<a href="{document("format.md")}">\\1</a>', text)
+
+
+def document(name: str) -> str:
+    """Return the link to a page of the reference: where it is installed, or in a clone."""
+    for folder in REFERENCES:
+        if (folder / name).is_file():
+            return html.escape((folder / name).as_uri())
+    return f"docs/reference/{name}"
+
+
+def of_cause(case: Case) -> str:
+    """Return what the page of causes has of the cause of a refusal."""
+    if case.refusal is None:
+        return ""
+    number, name = case.refusal.cause, case.refusal.cause_name
+    entry = CAUSES[number]
+    link = f"{document('causes.md')}#{number}-{name.lower()}"
+    return (
+        f"<section id=cause{number}><h2>Cause {number} {name}</h2>"
+        f"<p>{html.escape(sentence(number))}</p>"
+        f"<p>Likely reasons in general: {html.escape(entry.reason)}.</p>"
+        f"<p>What to do: {html.escape(entry.advice)}.</p>"
+        f'<p><a href="{link}">All causes</a></p></section>'
+    )
+
+
 def listing(case: Case) -> str:
-    """Return the list of the envelopes, or nothing if the file has one."""
-    rows = html.escape("\n".join(lines_of_listing(case)))
-    return f"<section><h2>Envelopes</h2><pre>{rows}</pre></section>" if rows else ""
+    """Return the table of the envelopes, or nothing if none was accepted."""
+    if not case.count:
+        return ""
+    heads = "Envelope", "At octet", "Octets", "Service", "Number", "Date sent", "Result"
+    head = "".join(f"<th scope=col>{each}</th>" for each in heads)
+    body, before = [], 0
+    for found in case.listed():
+        if found.nth > before + 1:
+            more = counted(found.nth - before - 1, "envelope")
+            body.append(f"<tr><td colspan=7>... {more} between them</td></tr>")
+        before = found.nth
+        is_refused = case.refusal is not None and found.nth == case.refusal.nth
+        parts = ["?" if part is None else shown(part) for part in found.id]
+        cells = [f"{found.at:,}", f"{found.length:,}", *parts]
+        cells.append("REFUSED" if is_refused else "accepted")
+        row = "".join(f"<td>{html.escape(cell)}</td>" for cell in cells)
+        body.append(f"<tr><th scope=row>{found.nth:,}</th>{row}</tr>")
+    rows = "".join(body)
+    return (
+        "<section><h2>Envelopes</h2><table><thead><tr>"
+        f"{head}</tr></thead><tbody>{rows}</tbody></table></section>"
+    )
+
+
+def footer(case: Case) -> str:
+    """Return what makes the page evidence: the file, its size and checksum, the release, when."""
+    now = datetime.datetime.now(datetime.timezone.utc)
+    name = html.escape(printable(Path(case.source.name).name))
+    return (
+        "<footer class=evidence>"
+        f"<p>File <b>{name}</b>, {counted(case.source.size, 'octet')}</p>"
+        f"<p>SHA-256 <code>{case.sha_256}</code></p>"
+        f"<p>iim-explain, release {release()}, at {now:%Y-%m-%dT%H:%M:%SZ}</p></footer>"
+    )
 
 
 def around(case: Case) -> str:
@@ -132,10 +236,13 @@ def article(case: Case, whole: Whole) -> str:
     nth, at = whole.found.nth, whole.found.at
     numbers = range(1 + max(0, len(items) - 1) // TOGETHER)
     parts = "".join(part_of(case, whole, items, groups, part) for part in numbers)
-    footer = "".join(f"<p>{html.escape(text)}</p>" for text in texts)
+    notes = "".join(f"<p>{html.escape(text)}</p>" for text in texts)
+    encoding = ""
+    if any(item.text is not None for item in whole.walk.items):
+        encoding = f"<p class=note>{html.escape(str(whole.encoding))}</p>"
     return (
-        f"<article id=envelope{nth}><h2>Envelope {nth:,}, at octet {at:,} of the file</h2>{parts}"
-        f"<footer>{footer}</footer></article>\n"
+        f"<article id=envelope{nth}><h2>Envelope {nth:,}, at octet {at:,} of the file</h2>"
+        f"{encoding}{parts}<div class=notes>{notes}</div></article>\n"
     )
 
 
@@ -147,7 +254,7 @@ def part_of(
     own = (group for group in groups if group.spans[0].part == part)
     octets = "".join(rows(case, whole.found.at, own, prefix))
     return (
-        '<div class=part><pre tabindex=0 aria-label="Bytes; the list after them has their meaning">'
+        '<div class=part><pre role=group aria-label="Bytes; the list after them has their meaning">'
         f'{octets}</pre><ol aria-label="Meaning of the bytes">'
         f'{"".join(meaning(whole, together, prefix))}</ol></div>'
     )
@@ -248,7 +355,7 @@ def row_of(
         last = names
     ends_marked = mark == row + 15 and begin <= mark < begin + len(owned)
     close = "</span>" * bool(last) + ("]" if ends_marked else " ")
-    return f"<b>{at + row:08X}</b>{''.join(cells)}{close} {''.join(texts)}\n"
+    return f"<i><b>{at + row:08X}</b>{''.join(cells)}{close} {''.join(texts)}\n</i>"
 
 
 def cell_of(value: int, is_marked: bool, prefix: str) -> Tuple[str, str]:
@@ -278,9 +385,12 @@ def meaning(whole: Whole, items: List[Optional[Item]], prefix: str) -> Iterator[
         if item.size is not None:
             label += f", {counted(item.size, 'octet')}"
         refused = " <b class=here>refused here</b>" if here else ""
+        value = html.escape(whole.value(item, TEXT_OCTETS))
+        shown_value = f"<bdi>{value}</bdi>" if value else ""
         yield (
-            f'<li class="{key_of(nth)}"><a href=#{prefix}o{item.at}><small>{item.at:,}</small>'
-            f"<span>{html.escape(label)}</span><i>{html.escape(item.value)}</i>{refused}</a></li>"
+            f'<li class="{key_of(nth)}"><a tabindex=-1 href=#{prefix}o{item.at}>'
+            f"<small>{item.at:,}</small><span>{html.escape(label)}</span>{shown_value}{refused}"
+            "</a></li>"
         )
     if inside:
         yield "</ol></li>"

@@ -1,11 +1,12 @@
 """Explain what the bytes of a file of envelopes are and, if one is rejected, why.
 
-    python3 -m iim explain FILE [--envelope N] [--html OUT [--force]] [--limits OCTETS FIELDS]
+    python3 -m iim explain FILE [--envelope N | --all] [--encoding NAME] [--json]
+        [--html OUT [--force]] [--limits OCTETS FIELDS]
 
-FILE is `-` for standard input. The explanation is printed as text, and with --html also written as
-a page. A file of few envelopes is shown byte by byte; --envelope selects one. Nothing is repaired,
-and nothing after a rejected byte is interpreted. Each change that is suggested was tried: the
-changed bytes were passed to the library.
+FILE is `-` for standard input. The explanation is printed as text, or as JSON with --json, and with
+--html also written as a page. The rejected envelope is shown byte by byte, and accepted ones with
+--envelope or --all. Nothing is repaired, and nothing after a rejected byte is interpreted. Each
+change that is suggested was tried: the changed bytes were passed to the library.
 
 Prose has at most 80 columns. Rows are as wide as the terminal, or 120 columns if the output is no
 terminal; a longer value ends in `...`, but an id never does.
@@ -20,10 +21,13 @@ import errno
 import os
 import shutil
 import sys
-from typing import List, NamedTuple, Optional
+from typing import Any, List, NamedTuple, Optional
 
 import iim
 from iim.explain.case import Case
+from iim.explain.charsets import known_encoding
+from iim.explain.progress import Progress
+from iim.explain.release import release
 from iim.explain.text import Paint, lines
 from iim.explain.walk import Source
 from iim.explain.words import printable
@@ -110,13 +114,12 @@ def explain(source: Source, name: str, arguments: argparse.Namespace) -> Optiona
     try:
         if arguments.html is not None:
             check_output(arguments.html, [source.given], force=arguments.force)
-        case = Case(source, iim.Limits(*arguments.limits), arguments.envelope)
+        case = read_case(source, arguments)
         if arguments.envelope is not None and not case.wholes:
             missing = f"there is no envelope {arguments.envelope}: the file has {case.count}"
             complain(f"{program_name(True)}: {name}: {missing}")
             return None
-        paint = Paint(sys.stdout.isatty() and not os.environ.get("NO_COLOR"))
-        text = "\n".join([*lines(case, paint, width()), ""])
+        text = text_of(case, arguments.json)
         page = page_of(case) if arguments.html is not None else ""
     except iim.RefusedError:
         # (bytes that were accepted a moment ago)
@@ -124,6 +127,29 @@ def explain(source: Source, name: str, arguments: argparse.Namespace) -> Optiona
     except OutputRefused as fault:
         raise Failed(printable(str(fault))) from None
     return Explanation(text, page, case.refusal is not None)
+
+
+def read_case(source: Source, arguments: argparse.Namespace) -> Case:
+    """Read the file, and report the progress on a terminal."""
+    with Progress(source.size) as report:
+        return Case(
+            source,
+            iim.Limits(*arguments.limits),
+            arguments.envelope,
+            shows_all=arguments.all,
+            encoding=arguments.encoding,
+            report=report,
+        )
+
+
+def text_of(case: Case, is_json: bool) -> str:
+    """Return what is printed, as text or as JSON."""
+    if is_json:
+        from iim.explain.as_json import as_json
+
+        return as_json(case) + "\n"
+    paint = Paint(sys.stdout.isatty() and not os.environ.get("NO_COLOR"))
+    return "\n".join([*lines(case, paint, width()), ""])
 
 
 def page_of(case: Case) -> str:
@@ -143,6 +169,24 @@ def write_page(path: str, page: str, source: Source, force: bool) -> None:
             raise Failed(printable(str(fault))) from None
 
 
+def encoding_named(name: str) -> str:
+    """Return the normal name of an encoding. Raise an error for the parser if there is none."""
+    known = known_encoding(name)
+    if known is None:
+        reason = "no encoding of text with ASCII is known by this name"
+        raise argparse.ArgumentTypeError(f"{name!r}: {reason}")
+    return known
+
+
+class Version(argparse.Action):
+    """Print the release, and exit."""
+
+    def __call__(self, parser: argparse.ArgumentParser, *_: Any) -> None:
+        """Print the release of the library."""
+        print_text(f"iim-explain {release()}\n")
+        parser.exit()
+
+
 def parse(words: List[str]) -> argparse.Namespace:
     """Parse the arguments of `explain`."""
     description = (
@@ -157,6 +201,19 @@ def parse(words: List[str]) -> argparse.Namespace:
         type=int,
         help="show envelope N byte by byte, and read no further",
     )
+    parser.add_argument(
+        "--all",
+        action="store_true",
+        help="show accepted envelopes byte by byte, too, and all changes that help",
+    )
+    parser.add_argument(
+        "--encoding",
+        metavar="NAME",
+        type=encoding_named,
+        help="show text in this encoding, such as utf-8, latin-1 or koi8-r [default: what 1:90"
+        " declares, or else a guess]",
+    )
+    parser.add_argument("--json", action="store_true", help="print one JSON object")
     parser.add_argument("--html", metavar="OUT", help="also write the explanation as an HTML page")
     parser.add_argument(
         "--force",
@@ -165,6 +222,13 @@ def parse(words: List[str]) -> argparse.Namespace:
         " input",
     )
     add_limits(parser)
+    parser.add_argument(
+        "-V",
+        "--version",
+        action=Version,
+        nargs=0,
+        help="print the release, and exit",
+    )
     arguments = parser.parse_args(words)
     check_limits(parser, arguments.limits)
     if arguments.envelope is not None and arguments.envelope < 1:

@@ -1,19 +1,21 @@
-"""Explain a refusal: where it is, why, and which changes would help."""
+"""Explain a refusal: where it is, why, what to do, and which bytes are accepted."""
 from __future__ import annotations
 
-from typing import FrozenSet, Iterator, List, NamedTuple
+from typing import TYPE_CHECKING, FrozenSet, Iterator, List, NamedTuple, Optional
 
 import iim
-from iim.explain import words
-from iim.explain.case import Case, Whole
-from iim.explain.causes import CAUSES, sentence
-from iim.explain.hints import Hints
-from iim.explain.tries import Tries
+from iim.explain import recognition, words
+from iim.explain.causes import sentence
+from iim.explain.tries import Fix, Tries
 from iim.explain.walk import BLOCK, Item
 from iim.explain.words import counted, fitted, name, names, shown, titled
 
+if TYPE_CHECKING:
+    from iim.explain.case import Case, Whole
+    from iim.explain.findings import Finding
+
 # The number of changes that are shown.
-CHANGES = 16
+CHANGES = 5
 
 NOTE = (
     "Nothing was repaired, and nothing after the refused octet was interpreted. Each change named"
@@ -32,7 +34,7 @@ class Section(NamedTuple):
 
     Attributes:
         title: The heading.
-        lines: The paragraphs. One that begins with `* ` is an item of a list.
+        lines: The paragraphs. One that begins with a number and a point is an item of a list.
     """
 
     title: str
@@ -43,23 +45,20 @@ def sections(case: Case) -> Iterator[Section]:
     """Yield the sections that explain a refusal or an empty file."""
     if not case.source.size:
         yield Section("Empty file", [EMPTY])
-    if case.refusal is None or not case.wholes or case.wholes[-1].tries is None:
+    refused = case.refused
+    if refused is None or refused.tries is None or refused.refusal is None:
         return
-    refusal, tries = case.refusal, case.wholes[-1].tries
-    yield Section("Where", list(where(refusal, tries, case.wholes[-1])))
-    yield Section("Why", list(why(refusal, tries, case.wholes[-1])))
-    title = "Bytes accepted next" if tries.ends else "Bytes accepted there"
-    yield Section(title, list(accepted(tries)))
-    fixes = list(single_byte_fixes(tries))
-    if fixes:
-        yield Section("Single-byte fixes", fixes)
-    hints = list(Hints(tries).all())
-    if hints:
-        yield Section("Other findings", [f"* {hint}" for hint in hints])
+    refusal, tries = refused.refusal, refused.tries
+    yield Section("Where", list(where(refusal, tries)))
+    yield Section("Why", list(why(case, refusal, tries, refused)))
+    yield Section("What to do", list(what_to_do(case)))
+    if case.findings is None or not case.findings.is_foreign:
+        title = "Bytes accepted next" if tries.ends else "Bytes accepted there"
+        yield Section(title, list(accepted(tries)))
     yield Section("Note", [NOTE])
 
 
-def where(refusal: iim.RefusedError, tries: Tries, whole: Whole) -> Iterator[str]:
+def where(refusal: iim.RefusedError, tries: Tries) -> Iterator[str]:
     """Yield sentences on the position of the rejected byte."""
     at, here = tries.octet, tries.here
     what = "The file ends after octet" if tries.ends else "Octet"
@@ -87,11 +86,15 @@ def where(refusal: iim.RefusedError, tries: Tries, whole: Whole) -> Iterator[str
         yield " ".join(f">{part}<" if nth == row else part for nth, part in enumerate(words.ROW))
 
 
-def why(refusal: iim.RefusedError, tries: Tries, whole: Whole) -> Iterator[str]:
-    """Yield sentences on the cause, its likely reason, and what to do."""
-    cause, here = CAUSES[refusal.cause], tries.here
+def why(case: Case, refusal: iim.RefusedError, tries: Tries, whole: Whole) -> Iterator[str]:
+    """Yield sentences on the cause, the numbers seen, and the likely reason."""
+    here = tries.here
     named = f"Cause {refusal.cause} {refusal.cause_name}"
     on = f"on {titled(refusal.record, refusal.number)}, layer {refusal.layer}"
+    kind = case.findings.kind if case.findings else None
+    if kind is not None:
+        detail = recognition.described(case.findings.octets) if case.findings else ""
+        yield f"The file is {kind.name}{f' ({detail})' if detail else ''}. It is no IIM."
     yield f"{sentence(refusal.cause)} ({named} {on}.)"
     rule = iim.row(refusal.record, refusal.number)
     if refusal.cause == 13 and rule and here and here.size is not None:
@@ -99,30 +102,60 @@ def why(refusal: iim.RefusedError, tries: Tries, whole: Whole) -> Iterator[str]:
         if rule.least < rule.greatest:
             valid = f"sizes are {rule.least:,} to {rule.greatest:,}"
         yield f"Its count is {here.size:,}; the valid {valid}."
-    if refusal.cause == 15 and rule and here and here.size is not None:
+    if refusal.cause in (13, 15) and rule and here and here.size is not None:
         yield from value_at_fault(tries, here, here.size, rule)
     if refusal.layer == "object":
         yield from whole.sizes()
     if refusal.cause == 25 and here and here.size is not None:
         yield f"9:10 confirms {int.from_bytes(tries.take(tries.begin, here.size), 'big'):,}."
-    yield f"Likely reason: {cause.reason}."
-    yield f"What to do: {cause.advice}."
+    if refusal.cause in (50, 51):
+        yield from over_limit(case, tries)
+    yield f"Likely reason: {case.reason.reason}."
+
+
+def over_limit(case: Case, tries: Tries) -> Iterator[str]:
+    """Yield a sentence on the datasets and bytes that exceed a limit."""
+    items = [item for item in tries.datasets if item.record in (1, 2) and item.size is not None]
+    octets = sum(item.size or 0 for item in items)
+    limits = case.limits
+    if tries.refusal.cause == 50:
+        yield f"With it, records 1 and 2 have {octets:,} octets of data; at most {limits.octets:,}."
+    else:
+        yield f"With it, records 1 and 2 have {len(items):,} datasets; at most {limits.fields:,}."
 
 
 def value_at_fault(tries: Tries, here: Item, size: int, rule: iim.Rule) -> Iterator[str]:
     """Yield sentences on an invalid value."""
-    value = tries.take(tries.begin, min(size, BLOCK))
+    begin = here.at + here.head
+    value = tries.take(begin, min(size, BLOCK))
+    if not value:
+        return
     raw = value[:16].hex(" ").upper() + " ..." * (size > 16)
     yield f"It must be {words.KINDS[rule.kind]}. It is {raw}, '{fitted(shown(value, 24), 60)}'."
-    if rule.kind in words.TEXTS and here.number is not None:
+    if tries.refusal.cause == 15 and rule.kind in words.TEXTS and here.number is not None:
         of_octets = {octet: bytes([octet]) * max(1, rule.least) for octet in set(value)}
         bad = [
-            f"octet {tries.begin + nth:,} ({name(octet)})"
+            f"octet {begin + nth:,} ({name(octet)})"
             for nth, octet in enumerate(value)
             if not iim.admits(here.record, here.number, of_octets[octet])
         ]
         if bad:
-            yield f"Invalid: {', '.join(bad[:6])}{' and others' * (len(bad) > 6)}."
+            more = f" and {counted(len(bad) - 6, 'other')}" * (len(bad) > 6)
+            yield f"Invalid: {', '.join(bad[:6])}{more}."
+
+
+def what_to_do(case: Case) -> Iterator[str]:
+    """Yield the advice, the findings with their numbers, and which envelope to ask for again."""
+    if case.reason.advice:
+        advice = case.reason.advice
+        yield f"First: {advice}."
+    findings = case.findings.all if case.findings else []
+    shown_first = findings if case.shows_all else findings[:CHANGES]
+    for nth, each in enumerate(shown_first):
+        yield f"{nth + 1}. {each.text}"
+    if len(findings) > len(shown_first):
+        yield f"These are {len(shown_first)} of {len(findings)}: --all prints all."
+    yield case.ask
 
 
 def present(tries: Tries, octet: int) -> str:
@@ -141,16 +174,13 @@ def accepted(tries: Tries) -> Iterator[str]:
         yield f"With {'any of these' if len(fix.whole) > 1 else 'it'} the envelope is accepted."
 
 
-def single_byte_fixes(tries: Tries) -> Iterator[str]:
-    """Yield the single-byte changes that fix the envelope or make more of it valid."""
-    fixes = tries.reported_fixes()
-    for first, last, octets, whole, far in (each[1:] for each in fixes[:CHANGES]):
-        which = f"Octet {first:,}" if first == last else f"One of the octets {first:,} to {last:,}"
-        so = "the envelope is accepted" if whole else f"it is valid up to octet {far:,}"
-        now = present(tries, first) if first == last else ""
-        yield f"* {which}{now} as {in_place(tries, first, octets)}: {so}."
-    if len(fixes) > CHANGES:
-        yield f"And {counted(len(fixes) - CHANGES, 'other change')}."
+def fix_in_words(tries: Tries, fix: Fix) -> str:
+    """Return a sentence on a single-byte change."""
+    first, last = fix.first, fix.last
+    which = f"Octet {first:,}" if first == last else f"One of the octets {first:,} to {last:,}"
+    so = "the envelope is accepted" if fix.whole else f"it is valid up to octet {fix.far:,}"
+    now = present(tries, first) if first == last else ""
+    return f"{which}{now} as {in_place(tries, first, fix.octets)}: {so}."
 
 
 def is_raw(tries: Tries, octet: int) -> bool:
@@ -190,3 +220,12 @@ def in_number(item: Item, named: str, octets: FrozenSet[int]) -> str:
     if len(octets) > 8:
         return f"one of {len(octets)} other numbers" + f", such as {first}" * bool(titles)
     return f"{named}, dataset {first}" if titles else named
+
+
+def ask_of(finding: Optional[Finding]) -> bool:
+    """Check whether nothing has to be sent again, since the file has all octets in another form."""
+    return (
+        finding is not None
+        and finding.kind == "inside"
+        and bool(finding.outcome and finding.outcome.is_all)
+    )

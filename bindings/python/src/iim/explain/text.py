@@ -7,7 +7,8 @@ from typing import Iterator, List, Optional
 
 import iim
 from iim.explain.case import Case, Found, Whole
-from iim.explain.sections import sections
+from iim.explain.charsets import columns_of, isolated
+from iim.explain.sections import Section, sections
 from iim.explain.walk import Item
 from iim.explain.words import counted, fitted, plain, printable, shown
 
@@ -17,6 +18,8 @@ ITEMS, LINES = 80, 20
 COLUMNS = 80
 # The datasets of an id, which is never truncated.
 OF_ID = (1, 30), (1, 40), (1, 70)
+# The sections that come first: the others follow the list of the envelopes.
+FIRST = "Empty file", "Where", "Why", "What to do"
 
 
 class Paint:
@@ -44,7 +47,7 @@ def heading(case: Case, paint: Paint, columns: int) -> Iterator[str]:
     """Yield the name of the file and the verdict, in one line if they fit."""
     verdict, kind = case.verdict(), "bad" if case.refusal else "good"
     called = printable(case.source.name), printable(Path(case.source.name).name)
-    fits = [each for each in called if len(each) + len(verdict) + 2 <= columns]
+    fits = [each for each in called if columns_of(each) + len(verdict) + 2 <= columns]
     if fits:
         yield paint("title", fits[0]) + ": " + paint(kind, verdict)
         return
@@ -56,26 +59,40 @@ def lines(case: Case, paint: Paint, columns: int = COLUMNS) -> Iterator[str]:
     """Yield the output: prose in at most 80 columns, and rows in at most `columns`."""
     prose = min(columns, COLUMNS)
     yield from heading(case, paint, prose)
-    yield from listing(case)
-    for section in sections(case):
-        yield from ("", paint("title", section.title.upper()))
-        for line in section.lines:
-            yield from wrapped(line, prose - 2, hanging="    " if line[:2] == "* " else "  ")
-        if section.title == "Where":
-            yield from dump(case, paint)
+    explained = list(sections(case))
+    for section in explained:
+        if section.title in FIRST:
+            yield from of_section(case, section, paint, prose)
+    yield from listing(case, paint)
+    for section in explained:
+        if section.title not in FIRST:
+            yield from of_section(case, section, paint, prose)
     for whole in case.wholes:
-        yield from (
-            "",
-            paint("title", f"ENVELOPE {whole.found.nth:,}")
-            + f"  at octet {whole.found.at:,} of the file",
-        )
-        yield from of_items(whole, paint, columns)
-        yield from (
-            line
-            for text in (whole.instants(), whole.sizes())
-            for each in text
-            for line in wrapped(each, prose)
-        )
+        yield from of_envelope(whole, paint, columns)
+    if case.refusal is not None and case.wholes:
+        yield from ("", *wrapped(case.ask, prose, "", ""))
+
+
+def of_section(case: Case, section: Section, paint: Paint, prose: int) -> Iterator[str]:
+    """Yield a section."""
+    yield from ("", paint("title", section.title.upper()))
+    for line in section.lines:
+        is_item = line.partition(". ")[0].isdigit()
+        yield from wrapped(line, prose - 2, hanging="     " if is_item else "  ")
+    if section.title == "Where":
+        yield from dump(case, paint)
+
+
+def of_envelope(whole: Whole, paint: Paint, columns: int) -> Iterator[str]:
+    """Yield the items of an envelope, and what they mean together."""
+    prose = min(columns, COLUMNS)
+    title = paint("title", f"ENVELOPE {whole.found.nth:,}")
+    yield from ("", f"{title}  at octet {whole.found.at:,} of the file")
+    if any(item.text is not None for item in whole.walk.items):
+        yield from wrapped(str(whole.encoding), prose)
+    yield from of_items(whole, paint, columns)
+    for text in (*whole.instants(), *whole.sizes()):
+        yield from wrapped(text, prose)
 
 
 def id_of(found: Found) -> str:
@@ -83,16 +100,26 @@ def id_of(found: Found) -> str:
     return " ".join("?" if part is None else shown(part) for part in found.id)
 
 
-def listing(case: Case) -> Iterator[str]:
-    """Yield a line for each listed envelope if there are several.
+def listing(case: Case, paint: Paint) -> Iterator[str]:
+    """Yield a line for each listed envelope, if there is another than the rejected one."""
+    rows = list(rows_of_listing(case))
+    if rows:
+        yield from ("", paint("title", "ENVELOPES"))
+        yield from rows
+
+
+def rows_of_listing(case: Case) -> Iterator[str]:
+    """Yield a line for each listed envelope.
 
     It is never truncated, since it ends in an id.
     """
     listed = case.listed()
+    if not case.count:
+        return
     rows = [(f"{found.nth:,}", f"{found.at:,}", f"{found.length:,}") for found in listed]
-    nth, at, length = (max(map(len, column)) for column in zip(*rows)) if rows else (0, 0, 0)
+    nth, at, length = (max(map(len, column)) for column in zip(*rows))
     before = 0
-    for found, row in zip(listed, rows) if len(listed) > 1 else ():
+    for found, row in zip(listed, rows):
         if found.nth > before + 1:
             more = counted(found.nth - before - 1, "envelope")
             yield f"  ... {more}: --envelope N shows one of them"
@@ -100,6 +127,8 @@ def listing(case: Case) -> Iterator[str]:
         refused = "  REFUSED" if case.refusal and found.nth == case.refusal.nth else ""
         size = f"{row[2]:>{length}} octets"
         yield f"  {row[0]:>{nth}}  at {row[1]:<{at}}  {size}  {id_of(found)}{refused}"
+    if not case.shows_all and case.wanted is None:
+        yield "  (--all shows their octets, and --envelope N those of one)"
 
 
 def dump(case: Case, paint: Paint) -> Iterator[str]:
@@ -135,17 +164,25 @@ def of_items(whole: Whole, paint: Paint, columns: int) -> Iterator[str]:
             continue
         if before and (skipped or item.at > before.at + before.length and before.kind != "dataset"):
             yield f"  ... octets up to {item.at:,} are left out"
-        yield row_of(item, whole.tries is not None and item is whole.tries.here, paint, columns)
+        yield from rows_of(whole, item, paint, columns)
         before, skipped = item, False
 
 
-def row_of(item: Item, is_refused: bool, paint: Paint, columns: int) -> str:
-    """Return the line of an item. A value that is too long for it ends in `...`."""
+def rows_of(whole: Whole, item: Item, paint: Paint, columns: int) -> Iterator[str]:
+    """Yield the line of an item. A value that is too long for it ends in `...`.
+
+    Text that is not plain ASCII is followed by its bytes, in brackets.
+    """
+    is_refused = whole.tries is not None and item is whole.tries.here
     size = "" if item.size is None else f", {item.size:,}"
     front = f"  {item.at:>10,}  {'    ' * (item.kind != 'dataset') + item.label + size:<34} "
     mark = "  <-- here" if is_refused else ""
+    most = columns - columns_of(front) - len(mark)
     is_whole = (item.record, item.number) in OF_ID
-    text = (
-        front + (item.value if is_whole else fitted(item.value, columns - len(front) - len(mark)))
-    ).rstrip() + mark
-    return paint("bad", text) if is_refused else text
+    value = item.value if is_whole else fitted(whole.value(item, 256), most)
+    octets = "" if item.text is None or value.isascii() else f"[{item.value}]"
+    fits = octets and columns_of(value) + 2 + len(octets) <= most
+    text = (front + isolated(value) + f"  {octets}" * bool(fits)).rstrip() + mark
+    yield paint("bad", text) if is_refused else text
+    if octets and not fits:
+        yield " " * min(columns_of(front), 47) + fitted(octets, most)

@@ -10,12 +10,13 @@ import tempfile
 from typing import Iterator, List, NamedTuple, Optional, cast
 
 import iim
-from iim.explain.words import counted, shown, titled, value_in_words
+from iim.explain.words import counted, is_text, shown, titled, value_in_words
 
 # The size of a block; the number of bytes at the beginning and the end of an envelope that become
-# items.
+# items; and the number of bytes of a text that are stored.
 BLOCK = 65_536
 HEAD, TAIL = 98_304, 16_384
+TEXT_OCTETS = 2_048
 
 # The part of the message that is its text; the name of the byte that enters each part, and of a
 # byte after which the part is the same.
@@ -73,6 +74,16 @@ class Source:
         self._spool.close()
         self._input.close()
 
+    def read_into(self, at: int, buffer: memoryview) -> int:
+        """Read bytes from an offset on into a buffer, and return their number."""
+        count = min(len(buffer), self.size - at)
+        if count <= 0:
+            return 0
+        got = os.preadv(self._file, [buffer[:count]], self._begin + at)
+        if not got:
+            raise OSError(errno.EIO, "the file became shorter while it was read")
+        return got
+
     def take(self, at: int, count: int) -> bytes:
         """Return `count` bytes from an offset on, or fewer at the end of the file."""
         parts: List[bytes] = []
@@ -121,6 +132,8 @@ class Item(NamedTuple):
         number: The dataset number, or `None` if it was not received.
         head: The size of a dataset's tag, in bytes.
         size: The size of a dataset's data by its count, or `None` if it was not received.
+        text: The first bytes of a value that is text, or `None`.
+        text_size: The number of all bytes of that value.
     """
 
     at: int
@@ -132,6 +145,8 @@ class Item(NamedTuple):
     number: Optional[int] = None
     head: int = 0
     size: Optional[int] = None
+    text: Optional[bytes] = None
+    text_size: int = 0
 
 
 def count_of(tag: bytes) -> Optional[int]:
@@ -217,11 +232,11 @@ class Walk:
             return
         record, number = self.take(at + 1, 2)
         count = place.size if place.size is not None and place.begun == "data" else 0
-        value = (
-            ""
-            if record == 8
-            else value_in_words(record, number, self.take(at + head, min(count, 81)), count)
-        )
+        value, text = "", None
+        if record != 8:
+            value = value_in_words(record, number, self.take(at + head, min(count, 81)), count)
+            if is_text(record, number):
+                text = self.take(at + head, min(count, TEXT_OCTETS))
         self._data(
             record,
             number,
@@ -235,6 +250,8 @@ class Walk:
                 record,
                 number,
                 head,
+                count,
+                text,
                 count,
             ),
         )
@@ -298,7 +315,11 @@ class Walk:
             if label in ("gap", "filler")
             else shown(octets, 64)
         )
-        self.items.append(Item(at, self.octets - at, "part", label, value))
+        is_shown = value and label not in ("gap", "filler")
+        text = octets[:TEXT_OCTETS] if is_shown else None
+        self.items.append(
+            Item(at, self.octets - at, "part", label, value, text=text, text_size=len(octets))
+        )
 
     def _line(self, to: int) -> bool:
         """Add the item of the next line of the text.
@@ -329,8 +350,10 @@ class Walk:
         at = self.octets
         self._go(len(line))
         body = line.rstrip(b"\r\n") if ends else line
+        label = "line" + f", {ends.strip()}" * bool(ends)
+        text = body[:TEXT_OCTETS]
         self.items.append(
-            Item(at, len(line), "line", "line" + f", {ends.strip()}" * bool(ends), shown(body, 64))
+            Item(at, len(line), "line", label, shown(body, 64), text=text, text_size=len(body))
         )
         return True
 

@@ -6,6 +6,7 @@ import re
 from typing import AbstractSet, Iterable, List, Optional, Tuple
 
 import iim
+from iim.explain.charsets import columns_of, encoding_of
 
 NAMED = {
     0: "NUL",
@@ -58,7 +59,7 @@ KINDS = [
     "a binary number below 2^63",
     "a binary number from 1 to 2^63 - 1",
 ]
-DIGITS = 5
+LETTERS, DIGITS = 4, 5
 TEXTS = range(1, DIGITS + 1)
 DATE, PART_DATE, TIME, BINARY, OCTETS, MODE, SIZE, SIZE_FROM_ONE = range(6, 14)
 
@@ -109,9 +110,12 @@ def fitted(text: str, most: int) -> str:
 
     A longer one ends in `...` after a complete character or escape.
     """
-    if len(text) <= most:
+    if columns_of(text) <= most:
         return text
-    return PART_OF_ESCAPE.sub("", text[: max(0, most - 3)]) + "..."
+    kept = text[: max(0, most - 3)]
+    while columns_of(kept) > max(0, most - 3):
+        kept = kept[:-1]
+    return PART_OF_ESCAPE.sub("", kept) + "..."
 
 
 def plain(octets: bytes) -> str:
@@ -239,6 +243,12 @@ def instant_in_words(date: Optional[bytes], time: Optional[bytes]) -> Optional[s
     return f"{instant.year:04}-{instant:%m-%dT%H:%M:%SZ}"
 
 
+def is_text(record: int, number: int) -> bool:
+    """Check whether the value of a dataset is text."""
+    rule = iim.row(record, number)
+    return rule is not None and rule.kind in range(1, DIGITS)
+
+
 def value_in_words(record: int, number: int, octets: bytes, count: int) -> str:
     """Return the value of a dataset as text.
 
@@ -262,6 +272,8 @@ def value_in_words(record: int, number: int, octets: bytes, count: int) -> str:
     if admitted and (record, number) in ((1, 60), (2, 10)):
         digit = int(octets)
         return f"{digit}" + (f", {PRIORITIES[digit]}" if digit in PRIORITIES else "")
+    if (record, number) == (1, 90) and encoding_of(octets):
+        return f"{shown(octets, 64)}, {encoding_of(octets)}"
     if kind in (BINARY, MODE, SIZE, SIZE_FROM_ONE):
         return octets[:13].hex(" ").upper() + " ..." * (count > 13)
     return shown(octets, 64)

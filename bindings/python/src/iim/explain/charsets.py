@@ -1,0 +1,214 @@
+"""Decode the text of an envelope, and make it safe to show.
+
+1:90 Coded Character Set declares the character set by escape sequences of ISO 2022 (ECMA-35). The
+final bytes are those of the register ISO-IR (the International Register of Coded Character Sets).
+"""
+from __future__ import annotations
+
+import codecs
+import re
+import unicodedata
+from typing import Dict, List, NamedTuple, Optional, Tuple
+
+ESC = b"\x1b"
+
+# The sets of 96 characters, by the final byte of ESC - (and of ESC . and ESC /): each with the
+# name of its part of ISO 8859, and its number in the register.
+OF_96: Dict[int, Tuple[str, int]] = {
+    0x41: ("iso8859-1", 100),
+    0x42: ("iso8859-2", 101),
+    0x43: ("iso8859-3", 109),
+    0x44: ("iso8859-4", 110),
+    0x46: ("iso8859-7", 126),
+    0x47: ("iso8859-6", 127),
+    0x48: ("iso8859-8", 138),
+    0x4C: ("iso8859-5", 144),
+    0x4D: ("iso8859-9", 148),
+    0x54: ("iso8859-11", 166),
+    0x56: ("iso8859-10", 157),
+    0x59: ("iso8859-13", 179),
+    0x5F: ("iso8859-14", 199),
+    0x62: ("iso8859-15", 203),
+    0x66: ("iso8859-16", 226),
+}
+# The sets of 94 x 94 characters, by the final byte of ESC $ ): each with the encoding that has the
+# set in its right half, and its number in the register.
+OF_94_BY_94: Dict[int, Tuple[str, int]] = {
+    0x41: ("gb2312", 58),
+    0x42: ("euc_jp", 87),
+    0x43: ("euc_kr", 149),
+}
+# The other coding systems, by the bytes after ESC %: each with its number in the register.
+OTHERS: Dict[bytes, Tuple[str, int]] = {
+    b"G": ("utf-8", 196),
+    b"/G": ("utf-8", 190),
+    b"/H": ("utf-8", 191),
+    b"/I": ("utf-8", 192),
+}
+# The sets of the left half, which have ASCII, by the final byte of ESC (.
+ASCII_SETS: Dict[int, int] = {0x42: 6}
+
+# An escape sequence of ISO 2022: intermediate bytes, and a final byte.
+SEQUENCE = re.compile(rb"\x1b([\x20-\x2f]*)([\x30-\x7e])")
+
+
+class Encoding(NamedTuple):
+    """The encoding of the text of an envelope.
+
+    Attributes:
+        name: The name, as Python has it.
+        source: How it is known: "given", "declared" or "guessed".
+    """
+
+    name: str
+    source: str
+
+    def __str__(self) -> str:
+        """Return a sentence about the encoding."""
+        known = {
+            "given": "as --encoding gives it",
+            "declared": "as 1:90 declares it",
+            "guessed": "a guess, since 1:90 does not declare it: --encoding NAME sets another",
+        }
+        return f"Text is shown in {self.name}, {known[self.source]}."
+
+
+def encoding_of(designations: bytes) -> Optional[str]:
+    """Return the encoding that the value of 1:90 declares, or `None` if it is not in the table."""
+    found: Optional[str] = None
+    rest = designations
+    while rest:
+        match = SEQUENCE.match(rest)
+        if match is None:
+            return None
+        between, last = match[1], match[2][0]
+        if between[:1] == b"%":
+            found = OTHERS.get(between[1:] + match[2], (None, 0))[0]
+        elif between in (b"-", b".", b"/"):
+            found = OF_96.get(last, (None, 0))[0]
+        elif between in (b"$)", b"$*", b"$+"):
+            found = OF_94_BY_94.get(last, (None, 0))[0]
+        elif between == b"(" and last in ASCII_SETS:
+            found = found or "ascii"
+        else:
+            return None
+        if found is None:
+            return None
+        rest = rest[match.end() :]
+    return found
+
+
+def known_encoding(name: str) -> Optional[str]:
+    """Return the normal name of a text encoding in which ASCII is ASCII, or `None`."""
+    try:
+        info = codecs.lookup(name)
+        is_text = "\x1cA~".encode(info.name) == b"\x1cA~"
+        return info.name if is_text and b"A~".decode(info.name) == "A~" else None
+    except (LookupError, ValueError, TypeError):
+        return None
+
+
+def guess_of(text: bytes) -> str:
+    """Return the likely encoding of text that does not declare one."""
+    try:
+        # (an incomplete last character is left out)
+        codecs.getincrementaldecoder("utf-8")().decode(text)
+    except UnicodeDecodeError:
+        return "cp1252" if any(0x80 <= octet < 0xA0 for octet in text) else "iso8859-1"
+    return "utf-8" if any(octet >= 0x80 for octet in text) else "ascii"
+
+
+def choose(given: Optional[str], designations: Optional[bytes], text: bytes) -> Encoding:
+    """Choose the encoding of the text of an envelope.
+
+    Args:
+        given: The encoding that the user gave, or `None`.
+        designations: The value of 1:90, or `None`.
+        text: The values and the story, or their beginning.
+    """
+    if given is not None:
+        return Encoding(given, "given")
+    declared = encoding_of(designations) if designations else None
+    if declared is not None:
+        return Encoding(declared, "declared")
+    return Encoding(guess_of(text), "guessed")
+
+
+def parts_of(octets: bytes, name: str) -> List[Tuple[str, bool]]:
+    """Decode bytes, and return texts with whether each was decoded: others are escapes."""
+    parts: List[Tuple[str, bool]] = []
+    at = 0
+    while at < len(octets):
+        try:
+            parts.append((octets[at:].decode(name), True))
+            break
+        except UnicodeDecodeError as fault:
+            if fault.start:
+                parts.append((octets[at : at + fault.start].decode(name), True))
+            end = at + max(fault.end, fault.start + 1)
+            wrong = octets[at + fault.start : end]
+            parts.append(("".join(f"\\x{octet:02X}" for octet in wrong), False))
+            at = end
+    return parts
+
+
+def safe(text: str) -> str:
+    """Return a text with escapes for characters that are invisible or would reorder others."""
+    return "".join(each if each.isprintable() and each != "\\" else _escape(each) for each in text)
+
+
+def _escape(character: str) -> str:
+    """Return the escape of a character."""
+    number = ord(character)
+    if number < 256:
+        return f"\\x{number:02X}"
+    return f"\\u{number:04X}" if number < 65_536 else f"\\U{number:08X}"
+
+
+def decoded(octets: bytes, name: str, most: int = 64) -> str:
+    """Return bytes as text that is safe to show, at most about `most` bytes of them.
+
+    Bytes that are no text of the encoding are escaped. The last character is not split.
+    """
+    kept = octets if len(octets) <= most else octets[:most]
+    if len(kept) < len(octets):
+        kept = kept[: _end_of_text(kept, name)]
+    texts = (safe(text) if is_text else text for text, is_text in parts_of(kept, name))
+    return "".join(texts) + "..." * (len(kept) < len(octets))
+
+
+def _end_of_text(octets: bytes, name: str) -> int:
+    """Return the size of bytes without an incomplete last character."""
+    for back in range(min(4, len(octets))):
+        try:
+            octets[: len(octets) - back].decode(name)
+        except UnicodeDecodeError as fault:
+            if fault.end < len(octets) - back:
+                break
+            continue
+        return len(octets) - back
+    return len(octets)
+
+
+def is_plain(octets: bytes) -> bool:
+    """Check whether bytes are printable ASCII, so that they are the same in any encoding."""
+    return all(32 <= octet < 127 and octet != 92 for octet in octets)
+
+
+def columns_of(text: str) -> int:
+    """Return the number of columns of a text on a terminal."""
+    return sum(
+        0
+        if unicodedata.combining(each) or unicodedata.category(each) in ("Mn", "Me", "Cf")
+        else 2
+        if unicodedata.east_asian_width(each) in ("W", "F")
+        else 1
+        for each in text
+    )
+
+
+def isolated(text: str) -> str:
+    """Return a text for a terminal: one with right-to-left letters does not reorder others."""
+    if any(unicodedata.bidirectional(each) in ("R", "AL", "AN") for each in text):
+        return f"\u2068{text}\u2069"
+    return text
