@@ -1,4 +1,4 @@
-"""Envelopes for tests: two worked ones, and random ones that are right, or wrong in one place."""
+"""Envelopes for tests: two fixed ones, and random ones, valid or invalid in one place."""
 
 from __future__ import annotations
 
@@ -53,7 +53,7 @@ STORY = rules.packed(STORY_FIELDS, STORY_OBJECT, 1024)
 
 
 def counted(each: Field, size: int) -> bytes:
-    """A dataset with a count of this number of octets behind its tag, or in it if that is 0."""
+    """Return a dataset whose count has this number of octets, or is in the tag if that is 0."""
     record, dataset, data = each
     if size == 0:
         return dataset_of(record, dataset, data)
@@ -61,7 +61,7 @@ def counted(each: Field, size: int) -> bytes:
 
 
 def as_asked(record: int, number: int, octets: bytes) -> Field:
-    """A dataset with these octets, or with the one value that is right there."""
+    """Return a dataset with these octets, or with the only value that is valid for it."""
     return record, number, rules.ASKED.get((record, number), (octets, 0))[0]
 
 
@@ -125,7 +125,7 @@ SETS = {
 
 
 def some(random: Random, octets: Collection[int], least: int, most: int) -> bytes:
-    """A number of the octets: often the fewest, and now and then the most."""
+    """Return a random number of octets: often the least, and sometimes the greatest."""
     few = min(most, least + 12)
     many = most if most <= 64 or random.random() < 0.05 else few
     size = random.choice([least, random.randint(least, few), random.randint(least, few), many])
@@ -143,7 +143,7 @@ def date(random: Random) -> bytes:
 
 
 def part_date(random: Random) -> bytes:
-    """Return a date whose month, or day, or both may be unknown."""
+    """Return a date whose month, day, or both may be unknown."""
     whole = date(random)
     return random.choice(
         [whole, whole[:6] + b"00", whole[:4] + b"0000", whole[:4] + b"0001", whole[:4] + b"0031"]
@@ -167,7 +167,7 @@ def time(random: Random) -> bytes:
 
 
 def value(random: Random, row: Row) -> bytes:
-    """Octets that a row of records 1 and 2 admits."""
+    """Return octets that a row of records 1 and 2 accepts."""
     if row.kind in SETS:
         return some(random, SETS[row.kind], row.least, row.most)
     if row.kind in ("Date", "PartDate", "Time"):
@@ -176,7 +176,7 @@ def value(random: Random, row: Row) -> bytes:
 
 
 def wrong_value(random: Random, record: int, dataset: int) -> bytes:
-    """Octets that are wrong, or may be: too few, too many, or with one octet changed."""
+    """Return octets that are probably invalid: too few, too many, or with one octet changed."""
     row = rules.row_of(record, dataset) or rules.OTHER
     octets = value(random, row._replace(most=min(row.most, 2000)))
     how = random.randrange(4)
@@ -190,13 +190,13 @@ def wrong_value(random: Random, record: int, dataset: int) -> bytes:
 
 
 def digits_of(random: Random, number: int) -> bytes:
-    """A number of 1 to 8 octets: the fewest that hold it, or more."""
+    """Encode a number in 1 to 8 octets: the fewest that hold it, or more."""
     least = max(1, (number.bit_length() + 7) // 8)
     return number.to_bytes(random.choice([least, random.randint(least, 8), max(least, 4)]), "big")
 
 
 def fields(random: Random, record: int, others: int) -> List[Field]:
-    """The datasets of record 1 or 2 in any order: the mandatory ones and some others."""
+    """Return the datasets of record 1 or 2 in any order: all mandatory ones and some others."""
     known = [key[1] for key in ROWS if key[0] == record]
     numbers = list(rules.MANDATORY[record])
     for each in random.sample(known, random.randint(0, 4)):
@@ -216,7 +216,7 @@ def line_end(random: Random) -> bytes:
 
 
 def head(random: Random) -> List[bytes]:
-    """The parts of a message's header, the info often empty."""
+    """Return the parts of a message's header. The info is often empty."""
     texts = (LETTERS, 8), (DIGITS, 8), (DIGITS, 1), (LETTERS | DIGITS, 8), (DIGITS, 6)
     return [
         *(some(random, kind, 1, most) for kind, most in texts),
@@ -225,7 +225,7 @@ def head(random: Random) -> List[bytes]:
 
 
 def text(random: Random) -> bytes:
-    """Lines and their ends."""
+    """Return lines with their line ends."""
     lines = [
         some(random, random.choice([LINE, b"ab \t"]), 0, 30)
         for _ in range(random.choice([1, 1, 2, 3, 6]))
@@ -245,7 +245,7 @@ def parts(random: Random) -> List[bytes]:
 
 
 def story(random: Random) -> bytes:
-    """The octets of a message."""
+    """Return the octets of a message."""
     return b"".join(parts(random))
 
 
@@ -289,14 +289,14 @@ OTHERS = [
 
 
 def wrong_story(random: Random) -> bytes:
-    """The octets of a message with one part that is wrong, or may be."""
+    """Return the octets of a message with one part that is probably invalid."""
     made, at = parts(random), random.randrange(len(OTHERS))
     made[at] = random.choice(OTHERS[at])
     return b"".join(made)
 
 
 def subfiles(random: Random, octets: bytes, most: int) -> List[bytes]:
-    """The object in subfiles of any size up to `most`, and a few empty ones."""
+    """Return the object in subfiles of any size up to `most`, and a few empty subfiles."""
     made: List[bytes] = []
     at = 0
     while at < len(octets) or not made:
@@ -311,7 +311,7 @@ def subfiles(random: Random, octets: bytes, most: int) -> List[bytes]:
 
 
 def datasets(random: Random, octets: bytes) -> List[Field]:
-    """The datasets of a right envelope of this object."""
+    """Return the datasets of a valid envelope with this object."""
     most = random.choice([1, 7, len(octets) or 1, 1024, 2**31, 2**40, GREATEST])
     numbers = [(20, digits_of(random, most))]
     is_known = random.random() < 0.6
@@ -335,7 +335,7 @@ def datasets(random: Random, octets: bytes) -> List[Field]:
 
 
 def spelled(random: Random, each: Field) -> bytes:
-    """A dataset with a count of any form."""
+    """Return a dataset with a count of any form."""
     size = len(each[2])
     if size <= 0x7FFF and random.random() < 0.8:
         return counted(each, 0)
@@ -348,7 +348,7 @@ def joined(random: Random, made: Sequence[Field]) -> bytes:
 
 
 def wrong_size(random: Random, data: bytes) -> bytes:
-    """A number near another, or octets of no such number."""
+    """Return a number near another one, or octets that do not encode a number."""
     if random.random() < 0.3:
         return random.choice([b"\xff" * random.randint(1, 9), b"\0", b"", b"\0" + data])
     size = max(0, rules.number(data) + random.choice([-1, 1, -2, 256]))
@@ -356,7 +356,7 @@ def wrong_size(random: Random, data: bytes) -> bytes:
 
 
 def spoiled(random: Random, made: Sequence[Field]) -> List[Field]:
-    """Return datasets with one missing, doubled, moved, or changed: most of them invalid."""
+    """Return datasets with one missing, doubled, moved or changed. Most results are invalid."""
     made, at = list(made), random.randrange(len(made))
     sizes = [place for place, each in enumerate(made) if each[0] in (7, 9)]
     if sizes and random.random() < 0.4:
@@ -383,7 +383,7 @@ def spoiled(random: Random, made: Sequence[Field]) -> List[Field]:
 
 
 def damaged(random: Random, octets: bytes) -> bytes:
-    """The octets with some changed, cut out, doubled or put in, in one place or two."""
+    """Return the octets with some changed, removed, doubled or inserted, in one or two places."""
     for _ in range(random.choice([1, 1, 1, 2])):
         at = random.randrange(len(octets) + 1)
         end = min(len(octets), at + random.choice([1, 1, 2, 5, random.randint(1, 60)]))

@@ -1,7 +1,8 @@
 """The rules of the format a second time, in plain Python, independent of the crates.
 
-`read` parses one envelope, as far as its octets go; `packed` is what the packer writes, `report`
-what the audit prints. docs/reference/format.md states the same rules in words.
+`read` parses one envelope, up to its end or the end of the octets; `packed` returns the packed form
+of an envelope, and `report` the output of an audit. docs/reference/format.md states the same rules
+in words.
 """
 from __future__ import annotations
 
@@ -121,7 +122,7 @@ class Refused(Exception):
     """A refusal: its octet, layer, record, dataset and cause."""
 
     def __init__(self, octet: int, layer: str, record: int, dataset: int, cause: int) -> None:
-        """Store what was rejected."""
+        """Create a refusal."""
         super().__init__(
             f"refused at octet {octet} by layer {layer} on {record}:{dataset:02},"
             f" cause {cause} {CAUSES[cause]}"
@@ -130,7 +131,7 @@ class Refused(Exception):
 
 
 class Envelope:
-    """An envelope, as far as its octets have been read."""
+    """A reader of one envelope, and what it has read so far."""
 
     def __init__(self, limits: Limits = LIMITS) -> None:
         """Begin before the first octet."""
@@ -152,7 +153,7 @@ class Envelope:
         self.message = Message()
 
     def copy(self) -> Envelope:
-        """An envelope between two datasets, to be read on apart from this one."""
+        """Return an independent copy. No dataset may be in progress."""
         other = copy.copy(self)
         other.fields, other.seen, other.numbers = (
             list(self.fields),
@@ -163,13 +164,13 @@ class Envelope:
         return other
 
     def read(self, octets: bytes) -> Envelope:
-        """Reads up to the end of the envelope, of the octets, or to the first refusal."""
+        """Read up to the end of the envelope, the end of the octets, or the first refusal."""
         while not self.is_done and self.refusal is None and self.at < len(octets):
             self.read_one(octets)
         return self
 
     def read_one(self, octets: bytes) -> Envelope:
-        """Reads a dataset, or up to its refusal."""
+        """Read one dataset, or up to its refusal."""
         try:
             self.dataset(octets)
         except Refused as refusal:
@@ -177,7 +178,7 @@ class Envelope:
         return self
 
     def dataset(self, octets: bytes) -> None:
-        """Read a dataset, or the part of it that is there."""
+        """Read a dataset, or the received part of it."""
         tag = self.tag_of(octets[self.at : self.at + 5 + COUNT_OCTETS])
         if tag is None:
             self.tag, self.at = octets[self.at :], len(octets)
@@ -196,7 +197,7 @@ class Envelope:
             self.value(record, dataset, data, self.at - 1)
 
     def tag_of(self, octets: bytes) -> Optional[bytes]:
-        """The tag at the front of at most 13 octets, or None where they end inside it."""
+        """Return the tag at the start of at most 13 octets, or None if it is incomplete."""
         record, dataset = [*octets[1:3], 0, 0][:2]
         if octets[0] != 0x1C:
             raise Refused(self.at, "dataset", 0, 0, 1)
@@ -212,7 +213,7 @@ class Envelope:
         return octets[:size] if len(octets) >= size else None
 
     def head(self, record: int, dataset: int, count: int, octet: int) -> None:
-        """A complete tag, at each layer in turn."""
+        """Check a complete tag by the rules of each layer in turn."""
         self.head_in_record(record, dataset, count, octet)
         self.section = record
         if record in (1, 2):
@@ -224,7 +225,7 @@ class Envelope:
             self.head_of_total(octet)
 
     def head_in_record(self, record: int, dataset: int, count: int, octet: int) -> None:
-        """Check a tag against the rules of its record."""
+        """Check a tag by the rules of its record."""
 
         def refuse(cause: int, of: int = dataset, within: int = record) -> NoReturn:
             """Reject the tag."""
@@ -245,7 +246,7 @@ class Envelope:
                 refuse(14, missing[0], self.section)
 
     def has(self, record: int, dataset: int) -> bool:
-        """Return whether such a dataset was read."""
+        """Return whether a dataset with these numbers was read."""
         if record == 7:
             return dataset in self.numbers
         return self.subfiles > 0 if record == 8 else (record, dataset) in self.seen
@@ -259,7 +260,7 @@ class Envelope:
         self.kept += count
 
     def bound(self) -> int:
-        """The most octets that the object may have."""
+        """Return the greatest number of octets that the object may have."""
         return min(GREATEST, self.numbers.get(90, GREATEST), self.numbers.get(95, GREATEST))
 
     def head_of_subfile(self, count: int, octet: int) -> None:
@@ -283,7 +284,7 @@ class Envelope:
             raise Refused(octet, "message", 9, 10, 32)
 
     def run(self, data: bytes) -> None:
-        """Octets of the object."""
+        """Read octets of the object."""
         for at, octet in enumerate(data):
             cause = self.message.take(octet)
             if cause:
@@ -291,7 +292,7 @@ class Envelope:
         self.total += len(data)
 
     def value(self, record: int, dataset: int, data: bytes, octet: int) -> None:
-        """A complete value."""
+        """Check a complete value."""
         if record == 8:
             return
         row = row_of(record, dataset)
@@ -311,7 +312,7 @@ class Envelope:
             self.is_done = True
 
     def check_numbers(self, dataset: int, octet: int) -> None:
-        """Check the mode and the announced size, and this and the greatest, at the later one."""
+        """Check the numbers of record 7 against each other, each pair at the later one."""
         mode, announced, most = (self.numbers.get(each) for each in (10, 90, 95))
         if dataset in (10, 90) and mode == 0 and announced is not None:
             raise Refused(octet, "object", 7, dataset, 20)
@@ -321,13 +322,13 @@ class Envelope:
     # What is answered
 
     def answer(self) -> str:
-        """What `feed` answers that has been given all octets in one piece."""
+        """Return the result of `feed` for all octets in one chunk."""
         if self.refusal:
             return str(self.refusal)
         return f"done {self.at}" if self.is_done else "more"
 
     def end(self) -> Optional[str]:
-        """What is answered where the octets end here, or None."""
+        """Return the refusal if the input ends here, or None."""
         if self.refusal:
             return str(Refused(self.refusal.octet, "outside", 0, 0, 61))
         if self.is_done:
@@ -339,14 +340,14 @@ class Envelope:
 
 
 def read(octets: bytes, limits: Limits = LIMITS) -> Envelope:
-    """Read one envelope, as far as the octets go."""
+    """Read one envelope, up to its end or the end of the octets."""
     return Envelope(limits).read(octets)
 
 
 def read_changes(octets: bytes, limits: Limits = LIMITS) -> Iterator[Tuple[bytes, Envelope]]:
-    """Yield octets of an envelope with each one changed to each octet, and how far they are read.
+    """Yield each one-octet change of an envelope, with the result of reading it.
 
-    What is before the dataset of the change is read once.
+    The datasets before the change are read only once.
     """
     before = Envelope(limits)
     for at in range(len(octets)):
@@ -361,7 +362,7 @@ def read_changes(octets: bytes, limits: Limits = LIMITS) -> Iterator[Tuple[bytes
 
 
 def head_bytes(record: int, dataset: int, count: int) -> bytes:
-    """A tag as the packer writes it."""
+    """Return the tag as the packer writes it."""
     if count <= 0x7FFF:
         return bytes([0x1C, record, dataset]) + count.to_bytes(2, "big")
     size = 4 if count <= 0xFFFFFFFF else 8
@@ -374,7 +375,7 @@ def dataset_of(record: int, dataset: int, data: bytes) -> bytes:
 
 
 def sized(record: int, dataset: int, size: int) -> bytes:
-    """A dataset with a number, of four octets where they hold it."""
+    """Return a dataset with a number, in four octets if it fits, otherwise in eight."""
     return dataset_of(record, dataset, size.to_bytes(4 if size <= 0xFFFFFFFF else 8, "big"))
 
 
@@ -397,7 +398,7 @@ def packed(
     known: bool = True,
     most: Optional[int] = None,
 ) -> bytes:
-    """The envelope of the fields and of an object, in subfiles of this size."""
+    """Return the packed envelope of the fields and an object, in subfiles of this size."""
     parts = [dataset_of(*field) for field in fields]
     parts += [dataset_of(7, 10, b"\1" if known else b"\0"), sized(7, 20, subfile)]
     if known:
@@ -412,7 +413,7 @@ def packed(
 
 
 def words_of(lines: Sequence[Union[bytes, bytearray]]) -> int:
-    """How many runs of octets other than a space and a tab there are in the lines."""
+    """Return the number of words in the lines: maximal runs without a space or a tab."""
     return sum(
         len([word for word in bytes(line).replace(b"\t", b" ").split(b" ") if word])
         for line in lines
@@ -420,7 +421,7 @@ def words_of(lines: Sequence[Union[bytes, bytearray]]) -> int:
 
 
 def shown(octets: bytes) -> str:
-    """Octets as text: printable ones but a backslash as they are, others in hexadecimal."""
+    """Return octets as text: printable ASCII as itself, a backslash and others in hexadecimal."""
     return "".join(
         chr(octet) if 0x20 <= octet <= 0x7E and octet != 0x5C else f"\\x{octet:02X}"
         for octet in octets
@@ -428,7 +429,7 @@ def shown(octets: bytes) -> str:
 
 
 def first(fields: Sequence[Field], record: int, dataset: int) -> Optional[bytes]:
-    """The octets of the first such dataset, or None."""
+    """Return the octets of the first dataset with these numbers, or None."""
     for field in fields:
         if field[:2] == (record, dataset):
             return field[2]
@@ -436,13 +437,13 @@ def first(fields: Sequence[Field], record: int, dataset: int) -> Optional[bytes]
 
 
 def instant_in(fields: Sequence[Field], dataset: int, time: bytes) -> Optional[int]:
-    """Return the instant of a date of record 2 and a time; None if there is no such date."""
+    """Return the instant of a date and a time of record 2, or None if the date is invalid."""
     date = first(fields, 2, dataset)
     return None if date is None else instant_of(date, time)
 
 
 def copy_of(fields: Sequence[Field], now: int) -> str:
-    """Whether the copy is held, expired or free at the instant `now`, in seconds from 1970 on."""
+    """Return whether the copy is held, expired or free at `now`, in seconds since 1970."""
     released = instant_in(fields, 30, first(fields, 2, 35) or b"000000+0000")
     expires = instant_in(fields, 37, first(fields, 2, 38) or b"235959+0000")
     if released is not None and released > now:
@@ -451,7 +452,7 @@ def copy_of(fields: Sequence[Field], now: int) -> str:
 
 
 def report(envelopes: Sequence[Envelope], now: int) -> List[str]:
-    """The lines of the audit of whole envelopes at the instant `now`."""
+    """Return the lines of the audit of complete envelopes at the instant `now`."""
     made: List[str] = []
     names: Dict[Tuple[bytes, ...], int] = {}
     for at, envelope in enumerate(envelopes, 1):

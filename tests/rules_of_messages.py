@@ -8,7 +8,7 @@ from rules_of_values import DIGITS, FILLER, LETTERS, SPACED, TRAILER
 
 
 class Message:
-    """The message, octet by octet: `take` answers a cause where an octet is refused, else 0."""
+    """A reader of a message. `take` reads one octet and returns the cause of its refusal, or 0."""
 
     # The parts, and the texts of each part.
     BEFORE, SOURCE, NUMBER, SPACE, PRIORITY, CATEGORY, WORDS, INFO, GAP, TEXT, TAIL, AFTER = range(
@@ -31,13 +31,13 @@ class Message:
         self.lines = [bytearray()]
 
     def copy(self) -> Message:
-        """Return a copy that is read on apart from this one."""
+        """Return an independent copy."""
         other = copy.copy(self)
         other.texts, other.lines = dict(self.texts), [line[:] for line in self.lines]
         return other
 
     def take(self, octet: int) -> int:
-        """Read an octet; return the cause for which it is rejected, or 0."""
+        """Read an octet. Return the cause of its refusal, or 0."""
         if self.part == self.TEXT:
             return self.text(octet)
         before = self.part
@@ -48,7 +48,7 @@ class Message:
         return 0
 
     def goes_on(self, octet: int) -> bool:
-        """Consume an octet outside of the text; return whether it is valid there."""
+        """Read an octet outside of the text. Return whether it is valid there."""
         if self.part == self.BEFORE:
             return self.turns(octet, b"\1", self.SOURCE) or self.fills(octet)
         if self.part == self.SOURCE:
@@ -76,12 +76,15 @@ class Message:
         return self.fills(octet)
 
     def fills(self, octet: int) -> bool:
-        """Count an octet of filler; return whether it is one."""
+        """Count an octet of filler. Return whether the octet is filler."""
         self.counter += 1
         return octet in FILLER and self.counter <= 32
 
     def grows(self, octet: int, kind: Collection[int], most: int) -> bool:
-        """Adds an octet to the text of this part."""
+        """Append an octet to the current part if it is of the part's class.
+
+        Return whether it is.
+        """
         text = self.texts[self.part]
         if octet not in kind or len(text) >= most:
             return False
@@ -89,7 +92,7 @@ class Message:
         return True
 
     def turns(self, octet: int, marks: Collection[int], part: int) -> bool:
-        """Goes to the next part, where the octet is a mark."""
+        """Begin the next part if the octet is the mark before it. Return whether it is."""
         if octet not in marks:
             return False
         self.part = part
@@ -98,15 +101,15 @@ class Message:
         return True
 
     def ends(self, octet: int, marks: Collection[int], part: int) -> bool:
-        """As `turns`, behind a text that may not be empty."""
+        """Do the same as `turns` if the current part is not empty. Return whether it was done."""
         return len(self.texts[self.part]) > 0 and self.turns(octet, marks, part)
 
     def begins(self, octet: int, kind: Collection[int], part: int) -> bool:
-        """Goes to the next part with the first octet of its text."""
+        """Begin the next part with its first octet. Return whether the octet may begin it."""
         return self.ends(octet, kind, part) and self.grows(octet, kind, 1)
 
     def gap(self, octet: int) -> bool:
-        """The gap has an LF among its 32 octets at most."""
+        """Read an octet of the gap, which has an LF and at most 32 octets."""
         if octet == 0x02:
             return self.flag == 1 and self.turns(octet, b"\2", self.TEXT)
         self.counter += 1
@@ -114,7 +117,7 @@ class Message:
         return octet in FILLER and self.counter <= (32 if self.flag else 31)
 
     def text(self, octet: int) -> int:
-        """The flag counts the CRs that are held until it is known whether an LF follows."""
+        """Read an octet of the text. The flag counts CRs that may still belong to a line end."""
         if octet == 0x0A:
             self.flag = 0
             self.lines.append(bytearray())
@@ -131,5 +134,5 @@ class Message:
         return 0
 
     def head(self) -> List[bytes]:
-        """Source, number, priority, category, words and info."""
+        """Return source, number, priority, category, words and info."""
         return [self.texts[part] for part in sorted(self.texts) if part != self.TAIL]

@@ -63,7 +63,7 @@ OTHER_CAUSES = {
 
 
 def named_causes(*numbers: int) -> List[str]:
-    """The number and the name of each of these causes."""
+    """Return the number and the name of each of these causes."""
     return [f"{number} {CAUSES.get(number) or OTHER_CAUSES[number]}" for number in numbers]
 
 
@@ -80,7 +80,7 @@ TRAILER = SPACED_LINES
 
 
 def is_day(year: int, month: int, day: int) -> bool:
-    """Return whether there is such a day."""
+    """Return whether the calendar has this day."""
     try:
         datetime.date(year, month, day)
     except ValueError:
@@ -89,7 +89,7 @@ def is_day(year: int, month: int, day: int) -> bool:
 
 
 def date_parts(octets: bytes) -> Optional[Tuple[int, int, int]]:
-    """Year, month and day of eight digits, else None."""
+    """Return the year, month and day in eight digits, or None."""
     if len(octets) != 8 or not DIGITS.issuperset(octets):
         return None
     return int(octets[:4]), int(octets[4:6]), int(octets[6:])
@@ -102,7 +102,10 @@ def is_date(octets: bytes) -> bool:
 
 
 def is_part_date(octets: bytes) -> bool:
-    """A date whose month, or day, or both are unknown; without a month any day up to 31."""
+    """Return whether octets are a date whose month, day, or both may be unknown.
+
+    If the month is unknown, any day up to 31 is valid.
+    """
     parts = date_parts(octets)
     if parts is None or parts[0] == 0:
         return False
@@ -158,7 +161,7 @@ def number(octets: bytes) -> int:
 
 
 def number_of(octets: bytes) -> Optional[int]:
-    """A number of 1 to 8 octets, else None."""
+    """Return the number that 1 to 8 octets encode, or None for another count of octets."""
     return number(octets) if 1 <= len(octets) <= COUNT_OCTETS else None
 
 
@@ -168,7 +171,7 @@ EPOCH = datetime.date(1970, 1, 1).toordinal()
 
 
 def instant_of(date: bytes, time: bytes) -> Optional[int]:
-    """The seconds from 1970 on of a local time less its offset, or None."""
+    """Return the seconds since 1970 of a local time minus its offset, or None."""
     if not is_date(date) or not is_time(time):
         return None
     year, month, day_of_month = date_parts(date) or (1, 1, 1)
@@ -185,7 +188,7 @@ def instant_of(date: bytes, time: bytes) -> Optional[int]:
 
 
 def instant_text(seconds: Optional[int]) -> str:
-    """An instant as it is printed."""
+    """Return an instant as it is printed."""
     if seconds is None:
         return "none"
     day, second = EPOCH + seconds // 86400, seconds % 86400
@@ -198,7 +201,7 @@ def instant_text(seconds: Optional[int]) -> str:
 
 
 class Row(NamedTuple):
-    """A row of the table: least and most octets, kind, whether it is mandatory, or repeats."""
+    """A row of the tables: its bounds, its kind, and whether it is mandatory and repeatable."""
 
     least: int
     most: int
@@ -208,7 +211,7 @@ class Row(NamedTuple):
 
 
 def rows(record: int, text: str) -> Dict[Key, Row]:
-    """Return rows that are written a line each: number, bounds, kind, `mandatory`, `repeats`."""
+    """Return rows that are written one per line: number, bounds, kind, `mandatory`, `repeats`."""
     made = {}
     for line in text.strip().splitlines():
         dataset, bounds, kind, *words = line.split()
@@ -287,7 +290,7 @@ NEXT = {0: 1, 1: 2, 2: 7, 7: 8, 8: 9}
 
 
 def row_of(record: int, dataset: int) -> Optional[Row]:
-    """Return the row of a dataset; None if it is undefined."""
+    """Return the row of a dataset, or None if the dataset is undefined."""
     return ROWS.get((record, dataset), OTHER if record in (1, 2) else None)
 
 

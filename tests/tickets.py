@@ -1,4 +1,4 @@
-"""Tickets a second time, in plain Python: the ticket of a state, and the reply to any octets."""
+"""Tickets a second time, in plain Python: the ticket of a state, and the result for any octets."""
 from __future__ import annotations
 
 from typing import Dict, List, NamedTuple, Optional, Tuple
@@ -40,7 +40,7 @@ class Place(NamedTuple):
 
 
 def place(envelope: Envelope) -> Place:
-    """Where an envelope stands."""
+    """Return the position in the envelope."""
     message, begun = envelope.message, None
     if envelope.begun:
         dataset, count, data = envelope.begun
@@ -53,7 +53,7 @@ def place(envelope: Envelope) -> Place:
 
 
 def ticket(envelope: Envelope, version: int = 2) -> Optional[bytes]:
-    """The ticket of the place, or None if it is not of this version."""
+    """Return the ticket of a position, or None if this version cannot encode it."""
     found = place(envelope)
     if version == 1 and not is_place(found, EARLIER_GREATEST, EARLIER_OCTETS):
         return None
@@ -61,7 +61,7 @@ def ticket(envelope: Envelope, version: int = 2) -> Optional[bytes]:
 
 
 def spelled(place: Place, version: int = 2) -> bytes:
-    """The octets of a ticket."""
+    """Encode a ticket."""
     wide = COUNT_OCTETS if version == 2 else EARLIER_OCTETS
     parts = [b"IIMT", bytes([version, place.section, place.phase])]
     if place.phase == 0:
@@ -82,12 +82,12 @@ def spelled(place: Place, version: int = 2) -> bytes:
 
 
 def widened(octets: bytes) -> bytes:
-    """The ticket of version 2 for the place of a ticket."""
+    """Return the ticket of version 2 for the position that a ticket encodes."""
     return spelled(place_of(octets)[1])
 
 
 def narrowed(place: Place) -> Optional[bytes]:
-    """The ticket of version 1 with the parts of a place, or None where they do not fit."""
+    """Return the ticket of version 1 for the parts of a position, or None if they do not fit."""
     try:
         return spelled(place, 1)
     except OverflowError:
@@ -95,11 +95,11 @@ def narrowed(place: Place) -> Optional[bytes]:
 
 
 class Unreadable(Exception):
-    """Octets that are no ticket, and what is answered to them."""
+    """Raised for octets that are not a ticket, with the result that is expected for them."""
 
 
 class Cutter:
-    """Octets that are cut up from the front."""
+    """A reader of the parts of some octets, from the first octet on."""
 
     def __init__(self, octets: bytes) -> None:
         """Begin at the first octet."""
@@ -118,7 +118,7 @@ class Cutter:
 
 
 def place_of(octets: bytes) -> Tuple[int, Place]:
-    """The version and the place that a ticket encodes, whether or not there is such a place."""
+    """Return the version and the position that a ticket encodes, even an impossible position."""
     if len(octets) < 5 or octets[:4] != b"IIMT":
         raise Unreadable("100 TicketForm")
     version = octets[4]
@@ -166,7 +166,7 @@ def place_of(octets: bytes) -> Tuple[int, Place]:
 
 
 def judged(octets: bytes, limits: Limits) -> str:
-    """What `restore` answers to a ticket."""
+    """Return the expected result of `restore` for a ticket."""
     try:
         version, place = place_of(octets)
     except Unreadable as why:
@@ -202,7 +202,7 @@ def is_place(place: Place, greatest: int, wide: int) -> bool:
 
 
 def is_begun_tag(tag: bytes, wide: int) -> bool:
-    """Whether a tag begins with the octets, and continues."""
+    """Return whether the octets are a proper prefix of a tag."""
     if tag[:1] not in (b"", b"\x1c") or tag[3:4] > b"\x80":
         return False
     if len(tag) < 5:
@@ -229,7 +229,7 @@ def are_fields(place: Place) -> bool:
 
 
 def are_numbers(place: Place, greatest: int, wide: int) -> bool:
-    """Whether the numbers of record 7 may stand so."""
+    """Return whether the numbers of record 7 are consistent."""
     numbers = place.numbers
     mode, size, announced, most = (numbers.get(each) for each in (10, 20, 90, 95))
     if mode not in (None, 0, 1) or size == 0 or any(each > greatest for each in numbers.values()):
@@ -253,7 +253,7 @@ def are_numbers(place: Place, greatest: int, wide: int) -> bool:
 
 
 def is_object(place: Place, greatest: int, wide: int) -> bool:
-    """Whether the subfiles may hold this number of octets."""
+    """Return whether the subfiles can hold this number of octets."""
     numbers = place.numbers
     bound = min(greatest, numbers.get(90, greatest), numbers.get(95, greatest))
     whole, ended, least = place.total, place.subfiles, 0
@@ -277,7 +277,7 @@ def is_object(place: Place, greatest: int, wide: int) -> bool:
 
 
 def is_message(place: Place) -> bool:
-    """Whether the message may have come so far with the octets of the object."""
+    """Return whether a message can be at this position after the octets of the object."""
     texts, part, counter, flag = place.texts, place.part, place.counter, place.flag
     if part > Message.AFTER:
         return False
@@ -309,7 +309,7 @@ def is_message(place: Place) -> bool:
 
 
 def is_counted(part: int, counter: int, flag: int) -> bool:
-    """Whether the counter and the flag may be such in a part."""
+    """Return whether the counter and the flag are possible in a part."""
     if part in (Message.BEFORE, Message.AFTER):
         return counter <= 32 and flag == 0
     if part == Message.GAP:
@@ -318,7 +318,10 @@ def is_counted(part: int, counter: int, flag: int) -> bool:
 
 
 def lengths(place: Place) -> Tuple[int, Optional[int]]:
-    """The fewest and the most octets of a message that lead there; no most from the text on."""
+    """Return the least and the greatest number of octets of a message up to a position.
+
+    From the text on there is no greatest number.
+    """
     part = place.part
     if part == Message.BEFORE:
         return place.counter, place.counter

@@ -1,7 +1,7 @@
-"""Worked envelopes for tests of the independent reading of the rules, and not of the product.
+"""Worked envelopes, which test tests/rules.py and tests/tickets.py instead of the product.
 
-Each group yields what tests/rules.py and tests/tickets.py say of envelopes that were worked out by
-hand, and what is right.
+Each group yields pairs: the result of the rules for an envelope, and the correct result, which was
+worked out by hand.
 """
 from __future__ import annotations
 
@@ -60,37 +60,37 @@ def refused(octet: int, layer: str, name: str, cause: int) -> str:
 
 
 def put(at: int, end: int, octets: str, whole: bytes = SMALLEST) -> bytes:
-    """An envelope with other octets from one place to another."""
+    """Return an envelope with the octets from `at` up to `end` replaced."""
     return whole[:at] + bytes.fromhex(octets) + whole[end:]
 
 
 def of(story: bytes, subfile: int = 1024, fields: Optional[Sequence[Field]] = None) -> bytes:
-    """The smallest envelope with another object."""
+    """Return the smallest envelope with another object."""
     return packed(SMALLEST_FIELDS if fields is None else fields, story, subfile)
 
 
 def textual(text: bytes) -> bytes:
-    """The smallest envelope with another text."""
+    """Return the smallest envelope with another text."""
     return of(b"\x01X1 4 N 0\r\n\x02" + text + b"\3\4")
 
 
 def answer(octets: bytes, limits: Limits = rules.LIMITS) -> str:
-    """Return the reply to octets in one chunk."""
+    """Return the result for octets in one chunk."""
     return read(octets, limits).answer()
 
 
 def released(date: bytes) -> bytes:
-    """Return the smallest envelope with a date of release."""
+    """Return the smallest envelope with a release date."""
     return SMALLEST[:62] + dataset_of(2, 30, date) + SMALLEST[62:]
 
 
 def judge(octets: Optional[bytes], limits: Limits = rules.LIMITS) -> str:
-    """Return the reply to a ticket; None is no ticket."""
+    """Return the result for a ticket. None stands for octets that are not a ticket."""
     return tickets.judged(octets or b"", limits)
 
 
 def dated(*more: Tuple[int, bytes]) -> Sequence[Field]:
-    """Return the smallest records 1 and 2 with some datasets of record 2."""
+    """Return the smallest records 1 and 2, with some datasets of record 2."""
     return [*SMALLEST_FIELDS, *((2, dataset, octets) for dataset, octets in more)]
 
 
@@ -208,7 +208,7 @@ def wrong_messages() -> Rows:
 
 
 def limits() -> Rows:
-    """Yield envelopes under limits."""
+    """Yield envelopes that are read with limits."""
     yield answer(STORY, (78, 16)), "done 246"
     yield answer(STORY, (77, 16)), refused(155, "limits", "2:250", 50)
     yield answer(STORY, (78, 15)), refused(155, "limits", "2:250", 51)
@@ -279,7 +279,7 @@ def saved() -> Rows:
 
 
 def packing() -> Rows:
-    """Yield what is packed."""
+    """Yield packed envelopes."""
     yield object_of(
         STORY_HEAD, STORY_LINES, b""
     ), b"\x01TST0007 4 ECO 5 rates\r\n\x02Rates stay.\r\nNo change.\x03\x04"

@@ -35,7 +35,7 @@ def test_audits_a_stream(run: Command, tmp_path: Path) -> None:
 
 def test_audits_the_samples(run: Command) -> None:
     text = (TOP / "samples/README.md").read_text()
-    for name, before in ("audit", "which prints"), ("release", "`audit` of it prints"):
+    for name, before in ("audit", "\nprints"), ("release", "`audit` prints"):
         report = text.split(f"{before}\n\n```\n")[1].split("```")[0]
         got = run(["audit", TOP / f"samples/{name}.iim", *NOON])
         assert got == (0, report.encode(), b"")

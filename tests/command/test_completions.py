@@ -1,9 +1,11 @@
 """The completions of bash and zsh, against the help of the command."""
 from __future__ import annotations
 
+import os
 import re
 import shutil
 import subprocess
+import sys
 from pathlib import Path
 
 import pytest
@@ -67,8 +69,43 @@ def test_zsh_completes_what_help_lists(run: Command) -> None:
         assert options == {option: it for option, it in want.items() if option != "--help"}, name
 
 
-def test_zsh_completions_have_no_syntax_error() -> None:
+@pytest.mark.parametrize("name", ["_iimwire", "_iim-explain"])
+def test_zsh_completions_have_no_syntax_error(name: str) -> None:
     if not shutil.which("zsh"):
         pytest.skip("zsh is not there")
-    arguments = ["zsh", "-n", f"{TOP}/completions/_iimwire"]
+    arguments = ["zsh", "-n", f"{TOP}/completions/{name}"]
     assert subprocess.run(arguments, capture_output=True, timeout=SECONDS).stderr == b""
+
+
+def options_of_explain() -> list[str]:
+    """Return the options that the help of iim-explain lists."""
+    words = [sys.executable, "-m", "iim", "explain", "--help"]
+    environment = {**os.environ, "PYTHONPATH": f"{TOP}/bindings/python/src", "COLUMNS": "200"}
+    ran = subprocess.run(words, capture_output=True, text=True, timeout=SECONDS, env=environment)
+    assert ran.returncode == 0, ran.stderr
+    found = re.findall(r"^  (?:(-\w), )?(--[a-z]+)", ran.stdout, re.M)
+    return sorted({option for pair in found for option in pair if option})
+
+
+def test_completes_the_options_of_iim_explain(tmp_path: Path) -> None:
+    listed = options_of_explain()
+    assert {"-h", "-V", "--encoding", "--json"} <= set(listed)
+    write(tmp_path / "a b.iim", b"")
+    bash = COMPLETE.replace("_iimwire", "_iim_explain")
+
+    def offered(*words: str) -> list[str]:
+        """Return what bash offers for the last of these words."""
+        arguments = ["bash", "-c", bash, f"{TOP}/completions/iim-explain.bash", "iim-explain"]
+        ran = subprocess.run(
+            [*arguments, *words], cwd=tmp_path, capture_output=True, text=True, timeout=SECONDS
+        )
+        assert (ran.stderr, ran.returncode) == ("", 0), words
+        return sorted(ran.stdout.split("\n")[:-1])
+
+    assert offered("-") == listed
+    assert offered("a") == offered("--html", "a") == ["a b.iim"]
+    assert "koi8-r" in offered("--encoding", "k")
+    zsh = (TOP / "completions/_iim-explain").read_text()
+    assert set(re.findall(r"(--[a-z]+)[=}\[]", zsh)) == {
+        option for option in listed if option[:2] == "--"
+    }

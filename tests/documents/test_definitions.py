@@ -36,13 +36,13 @@ def definition_tests(path: str) -> Iterator[Tuple[List[str], str]]:
 
 
 def holds_a_value(words: str) -> bool:
-    """Return whether a definition holds a text, or a number other than 0 and 1."""
+    """Return whether a definition contains a text, or a number other than 0 and 1."""
     numbers = re.findall(r"(?<![\w.'])(0x[0-9a-fA-F]+|[0-9][0-9_]*)(?![\w'])", words)
     return 'codes "' in words or any(int(number.replace("_", ""), 0) > 1 for number in numbers)
 
 
 def test_names_tests_of_definitions_with_a_value() -> None:
-    """Check that the list of their tests has each definition that holds a value."""
+    """Check that the list of tests names each definition that contains a value."""
     for path in (path for crate in sorted(os.listdir(f"{TOP}/crates")) for path in rooms_of(crate)):
         known, named = list(definitions(path)), {
             name for names, _ in definition_tests(path) for name in names
@@ -86,7 +86,7 @@ def item_of_laws(name: str) -> str:
 
 
 def test_names_tests_of_definitions_that_are_there() -> None:
-    """Look up what detects a change of each definition."""
+    """Check that the list of tests names only definitions that exist."""
     known, headings = laws_and_tests(), headings_of_vectors()
     for path in (path for crate in sorted(os.listdir(f"{TOP}/crates")) for path in rooms_of(crate)):
         for names, finds in definition_tests(path):
@@ -108,7 +108,7 @@ def test_names_tests_of_definitions_that_are_there() -> None:
 
 
 def test_lists_each_file_of_definitions_once() -> None:
-    """Check that the list of their tests has each file of definitions once, in order."""
+    """Check that the list of tests has each file of definitions once, in order."""
     there = [
         os.path.relpath(path, f"{TOP}/crates").replace("/specs", "")[:-5]
         for crate in sorted(os.listdir(f"{TOP}/crates"))
@@ -134,7 +134,7 @@ def test_has_a_name_for_each_file_of_definitions() -> None:
 
 
 def test_cites_no_private_definition_in_a_room() -> None:
-    """Check that public definitions cite public ones alone."""
+    """Check that public definitions cite only public definitions."""
     crates, public = os.listdir(f"{TOP}/crates"), (*ROOMS, "declared")
     for path in (path for crate in crates for path in rooms_of(crate)):
         cited = [(crate, above[0]) for crate, above, *_ in imported(text_of(path))]

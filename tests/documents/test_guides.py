@@ -16,7 +16,7 @@ SECTIONS = ["Added", "Changed", "Deprecated", "Removed", "Fixed", "Security"]
 
 
 def test_has_the_tables_that_are_measured() -> None:
-    """Check the tables of SPEED.md."""
+    """Check that the tables of SPEED.md have the form that the script writes."""
     assert list(tables.faults(text_of(tables.PAGE))) == []
 
 
@@ -42,8 +42,8 @@ def test_shows_the_relay_that_is_proved() -> None:
     invariants = first_match(r"^  ```\n(  use .*?)^  ```", page, re.M | re.S)[1]
     kept = re.sub(r"^(?=.)", "  ", text_of(f"{relay}/proofs/relay/Invariants.antt"), flags=re.M)
     assert invariants == kept.replace("relay_copy", "my_relay")
-    # (what it says that the prover refuses is a wrong body of the example)
-    wrong = first_match(r"put `(.*?)` in the place", page)[1]
+    # The change that the prover rejects is a mutant of the example.
+    wrong = first_match(r"put `(.*?)` in place", page)[1]
     assert f"new:             {wrong}" in text_of(f"{relay}/wrong-bodies.edits")
 
 
@@ -139,7 +139,7 @@ def test_gives_each_decision_its_three_parts() -> None:
     decisions = re.split(r"^### ", text_of(f"{TOP}/docs/DECISIONS.md"), flags=re.M)[1:]
     parts = {each.split("\n")[0]: re.findall(r"^- \*(\w+)\*: \S", each, re.M) for each in decisions}
     assert (
-        len(parts) == len(decisions) > 50,
+        len(parts) == len(decisions) > 20,
         {name for name in parts if parts[name] != ["Context", "Decision", "Consequence"]},
     ) == (True, set())
 

@@ -139,7 +139,7 @@ def test_names_calls_that_are_there() -> None:
 
 
 def test_cites_public_definitions_alone() -> None:
-    """Check that contracts of libraries cite public definitions alone."""
+    """Check that contracts of libraries cite only public definitions."""
     outside = []
     for crate in items.libraries():
         for item in items.functions(crate):

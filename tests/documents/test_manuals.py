@@ -14,7 +14,7 @@ from pages.items import TOP, cells_of, text_of
 
 
 def listed_in_the_manual(section: str) -> Iterator[Tuple[str, str]]:
-    """The items of a list of the manual page: of each its tag, and the lines under it, joined."""
+    """Return the items of a list of the manual page, each with its tag and its text."""
     lines = text_of(f"{TOP}/docs/iimwire.1").split(f".SH {section}\n")[1].split(".PD\n")[0]
     for item in re.split(r"^\.TP \d+\n", lines, flags=re.M)[1:]:
         tag, *rest = read_roff(item).strip("\n").split("\n")
@@ -79,13 +79,14 @@ def options_of(module: str, *words: str) -> List[str]:
 
 
 def options_in_the_page(name: str, section: str) -> List[str]:
-    """The options that have an entry in a section of a manual page of packages/python."""
+    """Return the options that have an entry in a section of a manual page of packages/python."""
     text = (
         read_roff(text_of(f"{TOP}/packages/python/{name}.1"))
         .split(f"\n.SH {section}\n")[1]
         .split("\n.SH ")[0]
     )
-    return sorted(set(re.findall(r"--[a-z]+", " ".join(re.findall(r"^\.TP\n(.*)$", text, re.M)))))
+    tags = re.findall(r"^\.T[PQ]\n(.*)$", text, re.M)
+    return sorted(set(re.findall(r"--[a-z]+", " ".join(tags))))
 
 
 def test_names_all_options_in_the_manuals() -> None:
@@ -94,9 +95,11 @@ def test_names_all_options_in_the_manuals() -> None:
         (): '"OPTIONS OF A RUN"',
         ("query",): '"OPTIONS OF QUERY"',
         ("report",): '"OPTIONS OF REPORT"',
+        ("verify",): '"OPTIONS OF VERIFY"',
+        ("manifest",): '"OPTIONS OF MANIFEST"',
     }
     for words, section in sections.items():
-        # (of the three, the page has --help once)
+        # (of all of them, the page has --help once)
         named = {*options_in_the_page("iim-archive", section), "--help"}
         assert (words, sorted(named)) == (words, options_of("iim.archive", *words))
     explain = read_roff(text_of(f"{TOP}/packages/python/iim-explain.1"))

@@ -80,7 +80,7 @@ def test_rejects_a_clause_that_no_contract_has() -> None:
 
 
 def test_judges_a_right_body_in_its_copy_alone() -> None:
-    """Check that a correct body is judged in its copy of the function alone."""
+    """Check that a correct body is judged only in the copy of its function."""
     body = next(
         body
         for body in wrong_bodies.bodies("iim_dataset")

@@ -64,8 +64,6 @@ def test_cites_only_lemmas_that_are_named_as_cited() -> None:
             each for each in files if each[0] in crates and each[0] not in (own, "iim_places")
         }
     assert cited == named
-    decision = decision_on("Shared lemmas are in the lowest crate")
-    assert sorted(file for _, file in named if f"`{file}`" not in decision) == []
 
 
 def uncited(text: str, words: Counter[str]) -> Iterator[str]:

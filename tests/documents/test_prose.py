@@ -8,7 +8,7 @@ GOOD = "# Title\n\nThe command prints a line.\n\n| A | B |\n|---|---|\n| one | t
 
 
 def test_words_the_pages_in_the_terms_of_the_field() -> None:
-    """No page has a retired word, a long line, paragraph or cell, or another duration."""
+    """No page has a retired word, a wide line, a long paragraph or cell, or a changed duration."""
     assert len(prose.pages()) > 25
     assert prose.faults() == []
 
@@ -29,7 +29,7 @@ def test_words_the_pages_in_the_terms_of_the_field() -> None:
     ],
 )
 def test_rejects_each_fault_of_a_page(fault: str) -> None:
-    """A planted fault is found, and nothing is wrong with the page without it."""
+    """Each planted fault is found. The same page without it has no fault."""
     assert list(prose.faults_of(prose.Page("docs/page.md", GOOD))) == []
     assert len(list(prose.faults_of(prose.Page("docs/page.md", f"{GOOD}\n{fault}\n")))) == 1
 
@@ -47,12 +47,12 @@ def test_rejects_each_fault_of_a_page(fault: str) -> None:
     ],
 )
 def test_accepts_fixed_uses(allowed: str) -> None:
-    """Code, headings of the vectors, meanings of causes and fixed terms are as they are."""
+    """Code, headings of the vectors, meanings of causes and fixed terms may have retired words."""
     assert list(prose.faults_of(prose.Page("docs/page.md", f"{GOOD}\n{allowed}\n"))) == []
 
 
 def test_states_each_duration_on_its_page() -> None:
-    """A duration that its page no longer states, or states by another number, is found."""
+    """A missing or changed duration is found."""
     texts = {path: prose.text_of(path) for path in prose.pages()}
     assert list(prose.lost_durations(texts)) == []
     changed = {**texts, "README.md": texts["README.md"].replace("16 minutes", "17 minutes")}

@@ -6,7 +6,20 @@ from faults.fault import PACKAGES, PYTHON_TESTS, C, Fault
 HEADER = f"{C}/iim.h"
 GUIDES, MANUALS = "tests/documents/test_guides.py", "tests/documents/test_manuals.py"
 DECLARED = f"{PYTHON_TESTS}/test_header.py"
+BUFFERS = f"{C}/test_harness.py::test_passes_the_checks_of_its_buffers"
+KILLS = f"{C}/test_programs.py::test_receiver_survives_kills"
 FAULTS = [
+    Fault(HEADER, "IIM_TICKET_SIZE (65536 + 6 *", "IIM_TICKET_SIZE (65536 + 5 *", BUFFERS),
+    Fault(f"{C}/iim_strerror.h", '"a buffer is too short"', '"an allocation failed"', BUFFERS),
+    Fault(f"{C}/receiver.c", "ftruncate(output, (off_t)now.written) != 0 || ", "", KILLS),
+    Fault(f"{C}/receiver.c", "now->offset += answer.used;", "now->offset += 1;", KILLS),
+    Fault(f"{C}/receiver.c", "            now->at = 0;\n", "", KILLS),
+    Fault(
+        f"{C}/sender.c",
+        "write(receiver, stream + offset,",
+        "write(receiver, stream,",
+        f"{C}/test_programs.py::test_sender_sends_from_the_offset",
+    ),
     Fault(
         HEADER,
         "    uint64_t mode;      /**",

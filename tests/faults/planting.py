@@ -62,7 +62,7 @@ def status_without_fault(test: str) -> int:
 
 
 def verdict_of(copy: Copy, fault: Fault) -> str:
-    """Return what is wrong, or nothing if the test finds the fault and passes without it."""
+    """Return what is wrong, or nothing if the test fails with the fault and passes without it."""
     with LOCKS.setdefault(fault.test, threading.Lock()):
         without = status_without_fault(fault.test)
     # (a test that is skipped finds nothing: then the run with the fault passes, too)

@@ -67,7 +67,7 @@ DEPENDS = {
     "iimwire": r"libc6 \(>= 2[.\d]+\)",
     "libiim1": r"libc6 \(>= 2[.\d]+\)",
     "libiim-dev": rf"libiim1 \(= {RELEASE}\)",
-    "python3-iim": rf"python3:any, libiim1 \(>= {RELEASE}\)",
+    "python3-iim": rf"python3 .*, python3:any, libc6 \(>= 2[.\d]+\), libiim1 \(>= {RELEASE}\)",
     "iim-doc": "",
 }
 

@@ -95,11 +95,11 @@ def test_archives_the_samples(root: Root) -> None:
 
 def test_explains_a_file(root: Root) -> None:
     # What README.md names, of the sample that docs/guide/explain.md shows.
-    (words,) = re.findall(r"`(iim-explain FILE --html page\.html)`", text_of("README.md"))
+    (words,) = re.findall(r"^\$ (iim-explain samples/\S+ --html .*)$", text_of("README.md"), re.M)
     guide = text_of("docs/guide/explain.md")
     (begins,) = re.findall(r"It begins\n\n```\n(.*?)```", guide, re.S)
     with root.installed("python3-iim", "iimwire"), root.folder(ROOM) as folder:
-        explain = words.replace("FILE", f"{SAMPLES}/damaged/bad_value.iim")
+        explain = words.replace("samples", str(SAMPLES))
         text = root.run(f"cd {ROOM} && {explain} || [ $? -eq 1 ]")
         assert text[: len(begins)] == begins
         assert "<mark" in (folder / "page.html").read_text()

@@ -124,6 +124,7 @@ TAGS = "2.5", "2.12", "2.17", "2.28", "2.34", "2.39"
 
 
 def test_tags_the_wheel_by_its_symbols(packages: Packages) -> None:
-    needed = newest_symbol(packages.of_wheel() / "iim/libiim.so")
+    files = "iim/libiim.so", "iim/_iim.abi3.so"
+    needed = max((newest_symbol(packages.of_wheel() / it) for it in files), key=by_number)
     oldest = next(tag for tag in TAGS if by_number(tag) >= by_number(needed))
     assert f"manylinux_{oldest.replace('.', '_')}_x86_64" == WHEEL_TAG

@@ -41,7 +41,7 @@ def test_states_what_the_wheel_needs(packages: Packages) -> None:
     text = (about / "METADATA").read_text() + (about / "WHEEL").read_text()
     names = "Version|Requires-Python|Requires-Dist|Tag|Root-Is-Purelib"
     values = re.findall(rf"^(?:{names}): (.*)$", text, re.M)
-    assert values == [RELEASE, ">=3.8", "false", f"py3-none-{WHEEL_TAG}"]
+    assert values == [RELEASE, ">=3.8", "false", f"cp38-abi3-{WHEEL_TAG}"]
     commands = re.findall(r"^([\w-]+) = ", (about / "entry_points.txt").read_text(), re.M)
     assert sorted(commands) == sorted(COMMANDS)
 

@@ -1,8 +1,8 @@
-"""The pages for callers, crates/CRATE/CALLING.md, as they are written from the sources.
+"""The pages for callers, crates/CRATE/CALLING.md, which are generated from the sources.
 
-A page has what the root of the crate says of it, what docs/CALLING.md says for its callers, the
-caller that is named there, cut out of its source, and then all that a caller can name, with its doc
-comments, a part for each file.
+A page has the comment at the root of the crate, the text of docs/CALLING.md for its callers, an
+example that `CALLERS` names, which is cut out of its source, and all public items with their doc
+comments, file by file.
 """
 from __future__ import annotations
 
@@ -27,12 +27,68 @@ LAW = (
     "A call makes its clauses available to the proof."
 )
 LAWS = "The clause of `{}` is a record: each lemma is a field of it."
-# A line of docs/CALLING.md that names a caller: what is shown, its file, and what else is said.
-CALLER = re.compile(r"Caller: ((?:`\w+`(?:, | and )?)+) of `(crates/[\w/.]+\.rt)`(.*)")
+# An item of docs/CALLING.md: the libraries that it is about, and its text.
+ITEM = re.compile(r"^- ((?:`\w+`(?:, )?)+): ((?:.|\n  )+)", re.M)
+# The caller that the page of each library shows: the names, their file, and what else is said.
+EXPORTS = "crates/iim_exports/src/lib.rt"
+WITH_PROOF = ", with a few lines of proof in the same crate"
+CALLERS: Dict[str, Tuple[str, str, str]] = {
+    "iim_dataset": ("pass_on", "crates/caller_tests/src/devices.rt", ""),
+    "iim_tables": ("is_good", "crates/caller_tests/src/tables.rt", ""),
+    "iim_fields": ("LIMITS FIELDS build", "crates/examples/src/send.rt", ""),
+    "iim_object": ("known_plan", "crates/caller_tests/src/objects.rt", ""),
+    "wire_story": ("count_words", "crates/caller_tests/src/stories.rt", WITH_PROOF),
+    "wire_message": ("urgent_head", "crates/caller_tests/src/messages.rt", ""),
+    "iim_places": ("octets_of_object", "crates/caller_tests/src/places.rt", WITH_PROOF),
+    "iim_unpack": (
+        "receive",
+        "crates/receive_copy/src/main.rt",
+        ", a complete program. `crates/examples/src/resume.rt` feeds chunks, saves and restores",
+    ),
+    "iim_pack": (
+        "pack_line",
+        "crates/caller_tests/src/packing.rt",
+        f"{WITH_PROOF}. `crates/examples/src/send.rt` is a complete program, which packs the "
+        "lines of its input while it reads them",
+    ),
+    "iim_audit": ("report_of", "crates/caller_tests/src/audits.rt", ""),
+    "iim_round_trip": ("unpacked", "crates/caller_tests/src/round_trips.rt", ""),
+    "iim_script": ("read_script", "crates/iim_pack_script/src/script.rt", ""),
+    "iim_request": (
+        "escaped_argument escaped_arguments printed_fault",
+        "crates/iimwire/src/words.rt",
+        "",
+    ),
+    "iim_output": ("flush_after_failure", "crates/iim_listing/src/list.rt", ""),
+    "iim_listing": ("run_listing", "crates/iim_commands/src/running.rt", ""),
+    "iim_pack_script": ("packed_form", "crates/iim_c/src/pack.rt", ""),
+    "iim_commands": (
+        "serve",
+        "crates/iimwire/src/serve.rt",
+        ". `crates/iimwire` is the program",
+    ),
+    "iim_files": ("run_next_file", "crates/iimwire/src/main.rt", ""),
+    "iim_c": ("iim_check iim_cause_text iim_audit", EXPORTS, ", which exports them to C"),
+    "iim_handle": (
+        "iim_unpacker_open iim_unpacker_feed iim_unpacker_close",
+        EXPORTS,
+        ", which exports them to C",
+    ),
+    "trials": (
+        "a_failing_reader_gives_what_came_before",
+        "crates/layer_tests/src/datasets.rt",
+        ". It prints `Ok(1) a`, and then `Err(Failed)`",
+    ),
+    "worked": (
+        "sink_receives_two_lines_in_three_calls",
+        "crates/envelope_tests/src/unpacking/calls.rt",
+        ", a fault-injection test",
+    ),
+}
 
 
 def wrapped(text: str, first: str = "", rest: str = "") -> List[str]:
-    """A text in lines of the page's width."""
+    """Wrap a text at the width of the page."""
     return textwrap.wrap(
         text,
         WIDTH,
@@ -43,15 +99,20 @@ def wrapped(text: str, first: str = "", rest: str = "") -> List[str]:
     )
 
 
+def joined(words: List[str]) -> str:
+    """Join words into a list for a sentence."""
+    return " and ".join([", ".join(words[:-1]), words[-1]] if words[1:] else words)
+
+
 def without_links(text: str) -> str:
-    """A doc comment's text with the names of code in the place of links to code."""
+    """Return the text of a doc comment with each link to code replaced by its code."""
     return re.sub(
         r"\[(`[^`\]]+`)\](?:\([\w:]+\))?", lambda link: link[1].replace("crate::", ""), text
     )
 
 
 def paragraphs(doc: Sequence[str]) -> List[str]:
-    """The paragraphs of a doc comment."""
+    """Return the paragraphs of a doc comment."""
     return [
         without_links(" ".join(part.split("\n")))
         for part in "\n".join(doc).strip().split("\n\n")
@@ -60,14 +121,12 @@ def paragraphs(doc: Sequence[str]) -> List[str]:
 
 
 def said_of_file(path: str) -> List[str]:
-    """What the comment at the top of a file says, as lines."""
+    """Return the lines of the comment at the top of a file."""
     return [line[3:].strip() for line in items.text_of(path).split("\n") if line.startswith("//!")]
 
 
 def told(item: items.Item) -> Iterator[str]:
-    """The lines of an item of a list: what is said of a part or a constant is beside it where
-    there is room.
-    """
+    """Return the lines of an item of a list. A short comment stands on the line of the item."""
     said = paragraphs(item.doc)
     beside = f"- `{item.code}`: {said[0]}" if len(said) == 1 and item.kind != "fn" else ""
     if beside and len(beside) <= WIDTH:
@@ -82,7 +141,10 @@ def told(item: items.Item) -> Iterator[str]:
 
 
 def trait_of(code: str) -> str:
-    """A trait that a type has, by the first line of its block: its name, and what it needs."""
+    """Return the name of a trait that a type implements, and its bounds.
+
+    Both are in the first line of the block.
+    """
     head = re.match(r"impl(?:<(.*?)>)? (.*) for ", code)
     assert head is not None, code
     needs, name = head.groups()
@@ -90,7 +152,7 @@ def trait_of(code: str) -> str:
 
 
 def traits_of(found: Sequence[items.Item]) -> Iterator[str]:
-    """The lines on the traits that a type has, and on what its calls need."""
+    """Return the lines on the traits that a type implements, and on the bounds of its calls."""
     needs = list(
         dict.fromkeys(
             re.sub(r"^impl<(.*?)> (?s:.*)", r"\1", item.code)
@@ -109,7 +171,7 @@ def traits_of(found: Sequence[items.Item]) -> Iterator[str]:
 
 
 def part_of_type(found: Sequence[items.Item]) -> Iterator[str]:
-    """The lines on a type or a trait, with its parts, its calls and its traits."""
+    """Return the lines on a type or a trait, with its parts, its calls and its traits."""
     (head,) = [item for item in found if item.kind in items.BLOCKS]
     yield from ["", f"### `{head.code}`"]
     for part in paragraphs(head.doc):
@@ -128,7 +190,7 @@ def part_of_type(found: Sequence[items.Item]) -> Iterator[str]:
 
 
 def part_of_file(path: str, found: Sequence[items.Item], modules: set[str]) -> Iterator[str]:
-    """The lines on what a file has: its types and traits, its functions, and its constants."""
+    """Return the lines on a file: its types and traits, its functions, and its constants."""
     said = paragraphs(said_of_file(f"{TOP}/{path}"))
     title = re.split(r"\.(?: |$)", said[0])[0] if said else ""
     place = found[0].place
@@ -149,18 +211,20 @@ def part_of_file(path: str, found: Sequence[items.Item], modules: set[str]) -> I
 
 
 def is_laws(path: str) -> bool:
-    """Whether a file has laws."""
+    """Return whether a file has laws."""
     return path.removesuffix(".rt").endswith("laws")
 
 
 def files_of(crate: str) -> Iterator[Tuple[str, List[items.Item]]]:
-    """What a caller can name, file by file: first what the front of the page names, in its order,
-    and the laws last. What is of a type stands where the type does.
+    """Return the public items of a library, file by file.
+
+    The files named on the front of the page come first, in that order, and the laws last. The calls
+    of a type are in the file of the type.
     """
     front = " ".join(
         [
             *paragraphs(said_of_file(f"{TOP}/crates/{crate}/src/lib.rt")),
-            by_hand().get(crate, ("", ""))[0],
+            by_hand().get(crate, ""),
         ]
     )
     found = items.items(crate)
@@ -183,7 +247,7 @@ def files_of(crate: str) -> Iterator[Tuple[str, List[items.Item]]]:
 
 
 def parts_of_page(crate: str) -> Iterator[str]:
-    """The lines on all that a caller can name, file by file."""
+    """Return the lines on all public items, file by file."""
     _, modules = items.handed_on(crate)
     files = list(files_of(crate))
     laws = [path for path, _ in files if is_laws(path)]
@@ -196,7 +260,7 @@ def parts_of_page(crate: str) -> Iterator[str]:
 
 
 def names_of(crate: str) -> Iterator[str]:
-    """The lines on where names stand, and on those of other crates."""
+    """Return the lines on the paths of public items, and on those of other crates."""
     names, modules = items.handed_on(crate)
     own = ", ".join(
         f"`{module}`"
@@ -231,20 +295,17 @@ def names_of(crate: str) -> Iterator[str]:
 
 
 @functools.cache
-def by_hand() -> Dict[str, Tuple[str, str]]:
-    """What docs/CALLING.md says of each library, and the line on its caller."""
-    parts = re.split(r"^## `(\w+)`\n", items.text_of(HAND), flags=re.M)
+def by_hand() -> Dict[str, str]:
+    """Return the text of docs/CALLING.md for each library."""
     return {
-        crate: (above, caller)
-        for crate, text in zip(parts[1::2], parts[2::2])
-        for above, _, caller in [text.strip().partition("Caller: ")]
+        crate: " ".join(text.split())
+        for crates, text in ITEM.findall(items.text_of(HAND))
+        for crate in re.findall(r"`(\w+)`", crates)
     }
 
 
 def from_here(text: str) -> str:
-    """A text of docs/CALLING.md as it is in the directory of a crate: with links that lead to the
-    same.
-    """
+    """Return a text of docs/CALLING.md with its links relative to the directory of a crate."""
     return re.sub(
         r"\]\(([^):]+)\)",
         lambda link: f"]({os.path.relpath(os.path.join('docs', link[1]), 'crates/any')})",
@@ -252,27 +313,24 @@ def from_here(text: str) -> str:
     )
 
 
-def named_caller(crate: str) -> Tuple[str, str, str]:
-    """What the page of a library shows: the names as they are shown, their file, and what else is
-    said.
-    """
-    line = CALLER.fullmatch("Caller: " + " ".join(by_hand()[crate][1].split()))
-    assert line is not None, crate
-    return line[1], line[2], line[3]
+def named_caller(crate: str) -> Tuple[List[str], str, str]:
+    """Return the example of a library: its names, its file, and the text about it."""
+    names, path, rest = CALLERS[crate]
+    return names.split(), path, rest
 
 
 def caller_of(crate: str) -> str:
-    """The file whose code the page of a library shows."""
+    """Return the file with the example of a library."""
     return named_caller(crate)[1]
 
 
 def page(crate: str) -> str:
-    """The page for the callers of a library."""
+    """Return the page for the callers of a library."""
     names, path, rest = named_caller(crate)
     root = paragraphs(said_of_file(f"{TOP}/crates/{crate}/src/lib.rt"))
-    said = [" ".join(part.split()) for part in from_here(by_hand()[crate][0]).strip().split("\n\n")]
+    said = from_here(by_hand()[crate])
     lines = [f"# Calling `{crate}`", "", MADE]
-    for part in root + said:
+    for part in [*root, said[0].upper() + said[1:]]:
         lines += ["", *wrapped(part)]
     lines += [
         "",
@@ -280,14 +338,14 @@ def page(crate: str) -> str:
         "",
         "## Example",
         "",
-        *wrapped(f"{names} of `{path}`{from_here(rest)}"),
+        *wrapped(f"{joined([f'`{name}`' for name in names])} of `{path}`{rest}."),
         "",
     ]
-    lines += ["```rust", shown.shown(path, re.findall(r"`(\w+)`", names)), "```"]
+    lines += ["```rust", shown.shown(path, names), "```"]
     lines += parts_of_page(crate)
     return "\n".join(lines) + "\n"
 
 
 def wanted() -> Dict[str, str]:
-    """Each page with its text."""
+    """Return each page with its text."""
     return {f"crates/{crate}/CALLING.md": page(crate) for crate in by_hand()}

@@ -30,10 +30,10 @@ BEGINS = r"^(?:abbrev |unfoldable )?pub (?=(?:record |data )?([^\s({:]+))"
 def imported(
     text: str, side: str = "specs"
 ) -> Iterator[Tuple[str, List[str], Optional[str], Optional[str]]]:
-    """Yield what a text imports from `specs` or `proofs`: the crate, the modules (and the type)
-    above the name, the name, and its word.
+    """Yield the imports of a text from `specs` or `proofs`.
 
-    A module has no name, and no word if it keeps its own.
+    Each import has the crate, the modules (and the type) above the name, the name, and the word
+    that the text uses for it. A module has no name, and no word if it is not renamed.
     """
     uses = (
         rf"^ *(?:ghost |pub )?use Rattle\.(\w+)\.{side}\.([\w.]*?)"
@@ -67,8 +67,9 @@ def path_of(file: str) -> str:
 
 @functools.lru_cache(maxsize=None)
 def public_file(file: str) -> Tuple[Words, Dict[str, str], Dict[str, str]]:
-    """Return what a file imports, the code of its definitions, and of each name the definition that
-    it belongs to: itself, or its type.
+    """Return the imports of a file, the code of its definitions, and the owner of each name.
+
+    The owner of a name is the definition of that name, or the type whose part it is.
     """
     text = re.sub(" *--.*", "", text_of(f"{TOP}/{path_of(file)}"))
     parts = re.split(BEGINS, text, flags=re.M)
@@ -83,17 +84,16 @@ def public_file(file: str) -> Tuple[Words, Dict[str, str], Dict[str, str]]:
 
 
 def names_bound(code: str) -> Set[str]:
-    """Return the names that a definition binds: of its parameters, and on the left of its
-    equations.
-    """
+    """Return the names that a definition binds: its parameters, and names in its patterns."""
     groups = re.findall(r"[({]([\w' ]+?) :", code) + re.findall(r"λ ([\w' ]+)\.", code)
     left = " ".join(re.findall(r"^\w+ (.*?) =(?: |$)", code, re.M))
     return {*" ".join(groups).split(), *re.findall(r"(?<![\w'])[a-z][\w']*", left)}
 
 
 def source_of(file: str, name: str) -> Optional[Definition]:
-    """Return the definition that a name of a file refers to: one of the file, or one that the file
-    exports from another; or None.
+    """Return the definition that a name in a file refers to, or None.
+
+    It is in the file itself, or the file exports it from another file.
     """
     words, _, owners = public_file(file)
     if name in owners:
@@ -105,8 +105,9 @@ def source_of(file: str, name: str) -> Optional[Definition]:
 def cites(
     words: Words, file: Optional[str], code: str, bound: Collection[str] = ()
 ) -> Iterator[Tuple[str, Definition]]:
-    """Yield the public definitions that code cites, in a file of definitions or in none, each after
-    the word that cites it.
+    """Yield the public definitions that code cites, each after the word that cites it.
+
+    The code is in a file of definitions, or in none.
     """
     for word in re.findall(r"[^\s(){}\[\],;]+", code):
         first, _, rest = word.partition(".")
@@ -116,8 +117,9 @@ def cites(
 
 
 def cited_by(definition: Definition) -> Dict[str, Definition]:
-    """Return the definitions that a definition cites, by the words for them, in the order in which
-    they occur.
+    """Return the definitions that a definition cites, in the order of their first citations.
+
+    Each definition is listed by the word that cites it.
     """
     file, name = definition
     words, codes, _ = public_file(file)
@@ -126,8 +128,9 @@ def cited_by(definition: Definition) -> Dict[str, Definition]:
 
 
 def believed(contracts: Iterable[Contract]) -> Dict[Definition, Set[Definition]]:
-    """Return all public definitions that contracts cite, directly or through others, and of each
-    those that it cites itself.
+    """Return all public definitions that contracts cite, directly or through others.
+
+    Each is returned with the definitions that it cites itself.
     """
     todo: List[Definition] = []
     found: Dict[Definition, Set[Definition]] = {}

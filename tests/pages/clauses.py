@@ -1,10 +1,9 @@
-"""The lists in docs/reference/CRATE.md: of each call of the crate the clauses of its contract, as
-the sources have them.
+"""The lists in docs/reference/CRATE.md: each call of the crate with the clauses of its contract.
 
-Each crate has a page there. Its list is generated: of each call the first sentence of its doc
-comment, its clauses by their names, each with the public definitions that it cites, and the mutants
-of the function itself; and of a record of lemmas each lemma. All else on a page is written by hand:
-mostly what tests alone show.
+The list on a page is generated from the sources. For each call it has the first sentence of the doc
+comment, the names of the clauses, each with the public definitions that it cites, and the mutants
+of the function itself. For a record of lemmas it has each lemma. The rest of a page is written by
+hand, and mostly names what only tests show.
 """
 import glob
 import itertools
@@ -37,14 +36,14 @@ WIDTH = 100
 
 
 def first_sentence(doc: Sequence[str]) -> str:
-    """What a doc comment says first."""
+    """Return the first sentence of a doc comment."""
     said = callers.paragraphs(doc)
     first = re.match(r".*?[.](?= |$)|.*", said[0]) if said else None
     return first[0] if first else ""
 
 
 def brought_in(path: str) -> Set[str]:
-    """The public definitions that a file brings in, by their names there."""
+    """Return the public definitions that a file imports, by the names that the file uses."""
     text = items.text_of(f"{TOP}/{path}")
     groups = re.findall(
         rf"^ *ghost use Rattle\.\w+\.specs\.(?:{'|'.join(ROOMS)})(?:\.[\w.]+)?\.\{{([^}}]*)\}};",
@@ -55,8 +54,9 @@ def brought_in(path: str) -> Set[str]:
 
 
 def told_clause(clause: str, definitions: Collection[str]) -> str:
-    """A clause: its name and the public definitions that it cites; one without a name by these, or
-    as it is where it is short.
+    """Return a clause as its name and the public definitions that it cites.
+
+    A clause without a name is its definitions alone, or its text if the text is short.
     """
     head = re.match(r"\w+\*?(?: (\w+))?(.*)", " ".join(clause.split()))
     assert head is not None, clause
@@ -73,7 +73,7 @@ def told_clause(clause: str, definitions: Collection[str]) -> str:
 
 
 def told_clauses(item: items.Item, definitions: Collection[str]) -> str:
-    """The clauses of a call: what it needs, and what it promises."""
+    """Return the clauses of a call: what it requires, and what it ensures."""
     needs = [told_clause(each, definitions) for each in item.clauses if each.startswith("requires")]
     promises = [
         told_clause(each, definitions) for each in item.clauses if each.startswith("ensures")
@@ -85,7 +85,7 @@ def told_clauses(item: items.Item, definitions: Collection[str]) -> str:
 
 
 def path_of(item: items.Item) -> str:
-    """A function's path below its crate, as a mutant names it."""
+    """Return the path of a function below its crate, as a mutant names it."""
     below = item.path.split("/src/")[1].removesuffix(".rt")
     module = "" if below == "lib" else below.replace("/", "::") + "::"
     trait, _, name = item.name.rpartition("::")
@@ -93,7 +93,7 @@ def path_of(item: items.Item) -> str:
 
 
 def name_of(item: items.Item) -> str:
-    """A call, as a list names it."""
+    """Return the name of a call in the lists."""
     return (
         f"{item.owner}::{item.name}"
         if item.owner and item.kind == "fn"
@@ -123,7 +123,7 @@ def told(crate: str) -> Iterator[str]:
 
 
 def part(said: str, clauses: str, bodies: Sequence[str], indent: str = "") -> str:
-    """A part of a list, in lines."""
+    """Return a part of a list, in lines."""
     words = [
         said,
         *(f"*Clauses:* {clauses}." for _ in clauses[:1]),

@@ -1,9 +1,9 @@
-"""The pages docs/reference/definitions.md and definitions-below.md: the definitions that contracts
-cite, in reading order.
+"""The pages docs/reference/definitions.md and definitions-below.md.
 
-The first has those of the headline, the second those that the contracts below it cite besides.
-`READ_FIRST` and `READ_NEXT` fix the order of the files; in a file the definitions keep their order.
-All else is generated.
+They have the definitions that contracts cite, in reading order: the first page those of the
+headline, the second page those that only the contracts below the headline cite. `READ_FIRST` and
+`READ_NEXT` fix the order of the files; within a file, definitions keep their order. All else is
+generated.
 """
 from __future__ import annotations
 
@@ -64,14 +64,14 @@ This page is generated from `crates/CRATE/specs` by `tests/write_pages`, as the 
 
 
 def own_comment(lines: List[str]) -> List[str]:
-    """Return what a comment says of a definition, without the titles of parts."""
+    """Return the part of a comment that is about a definition, without titles of sections."""
     return [line for line in lines if not line.startswith("-- ----")]
 
 
 def texts_of(file: str) -> Dict[str, Tuple[List[str], List[str]]]:
-    """Return of each definition of a file its comment and its code, both as lines.
+    """Return the comment and the code of each definition of a file, both as lines.
 
-    A definition without a comment has that of the definition above it, which it names.
+    A definition without a comment has the comment of the definition above it, which must name it.
     """
     lines = text_of(f"{TOP}/{cited.path_of(file)}").split("\n")
     begins = [
@@ -96,13 +96,14 @@ def anchor(heading: str) -> str:
 
 
 def kind_of(name: str) -> str:
-    """Return what a definition is, by its name."""
+    """Return the kind of a definition, by its name."""
     return "type" if name[0].isupper() else "function"
 
 
 def headings(definitions: Iterable[Definition]) -> Dict[Definition, str]:
-    """Return the heading of each definition: its name, and what distinguishes it from others whose
-    heading had the same anchor.
+    """Return the heading of each definition.
+
+    A heading is the name, and what distinguishes it from others whose heading had the same anchor.
     """
     listed = list(definitions)
     titles: Dict[Definition, str] = {}
@@ -134,8 +135,9 @@ def wrapped(words: str) -> List[str]:
 def in_order(
     parts: Dict[str, List[str]], definitions: Iterable[Definition]
 ) -> Iterator[Tuple[str, str, List[Definition]]]:
-    """Yield the part, the file and its definitions, file by file in reading order; last the files
-    that no part has.
+    """Yield the part, the file and its definitions, file by file in reading order.
+
+    Files that are in no part come last.
     """
     left = collections.defaultdict(set)
     for file, name in definitions:
@@ -150,7 +152,7 @@ def in_order(
 
 
 def purpose(file: str) -> str:
-    """Return what the comment at the top of a file says of it."""
+    """Return the text of the comment at the top of a file."""
     top = re.match(r"((?:--.*\n)+)", text_of(f"{TOP}/{cited.path_of(file)}"))
     return " ".join(line[3:].strip() for line in own_comment(top[1].splitlines())) if top else ""
 
@@ -158,8 +160,9 @@ def purpose(file: str) -> str:
 def part_of_definition(
     definition: Definition, titles: Dict[Definition, str], elsewhere: Dict[Definition, str]
 ) -> Iterator[str]:
-    """Yield the lines of a definition: its heading, its comment and code, and the links to what it
-    cites.
+    """Yield the lines of a definition.
+
+    These are its heading, its comment, its code, and links to the definitions that it cites.
     """
     comment, code = texts_of(definition[0])[definition[1]]
     yield from ["", f"#### {titles[definition]}", "", "```text", *comment, *code, "```"]
@@ -176,9 +179,7 @@ def part_of_definition(
 
 
 def types_of(definitions: Iterable[Definition]) -> Dict[str, List[str]]:
-    """Return the names of types and of their variants that definitions use from the sources, by the
-    path of the source.
-    """
+    """Return the types and variants of the sources that definitions use, by source."""
     found = collections.defaultdict(set)
     for file, name in definitions:
         text = text_of(f"{TOP}/{cited.path_of(file)}")

@@ -1,4 +1,4 @@
-"""The public items of a crate, read out of its sources: each with its doc comment."""
+"""The public items of a crate, with their doc comments, read from its sources."""
 from __future__ import annotations
 
 import functools
@@ -16,8 +16,9 @@ BLOCKS = "struct", "enum", "trait"
 
 @dataclass
 class Item:
-    """A function, a type, a part of one, a trait that it has, or a constant: where it stands, its
-    code on one line, and what is said of it.
+    """A public item: a function, a type, a part of a type, an implemented trait, or a constant.
+
+    It has its file and line, its code on one line, and its doc comment.
     """
 
     kind: str
@@ -39,7 +40,7 @@ def text_of(path: str) -> str:
 
 
 def cells_of(page: str) -> List[Tuple[str, List[str]]]:
-    """The cells of the tables of a page, row by row, and with each row its line."""
+    """Return the cells of the tables of a page, row by row, each row with its line."""
     return [
         (row, [cell.strip() for cell in row.strip("| ").split(" | ")])
         for row in text_of(page).split("\n")
@@ -48,18 +49,19 @@ def cells_of(page: str) -> List[Tuple[str, List[str]]]:
 
 
 def is_library(crate: str) -> bool:
-    """Whether a crate is one, and a library."""
+    """Return whether a crate is a library of this repository."""
     return os.path.isfile(f"{TOP}/crates/{crate}/src/lib.rt")
 
 
 def sources_of(crate: str) -> List[str]:
-    """The paths of the code of a crate."""
+    """Return the paths of the sources of a crate."""
     return sorted(glob.glob(f"{TOP}/crates/{crate}/src/**/*.rt", recursive=True))
 
 
 def record_of_laws(crate: str) -> Tuple[Optional[str], str]:
-    """The record that has the laws of a crate, the last one of specs/Laws.antt that is named so:
-    its name, and its lines. None and none where there is no such record.
+    """Return the name and the lines of the record that has the laws of a crate.
+
+    It is the last record of specs/Laws.antt whose name says so. Without one, both results are None.
     """
     path = f"{TOP}/crates/{crate}/specs/Laws.antt"
     found: List[Tuple[str, str]] = (
@@ -76,9 +78,11 @@ def words_of(comment: str) -> str:
 
 
 def laws_of(crate: str) -> Tuple[Optional[str], List[Tuple[str, str, str]]]:
-    """The laws of a crate that are one record, the contract of one call: the record's name, and of
-    each field its name, its statement and what is said of it: above the field, or else above the
-    statement. (What ends in a colon is said of several fields.)
+    """Return the laws of a crate that are one record, which is the contract of one call.
+
+    The result is the name of the record, and the name, the statement and the comment of each field.
+    A comment is above its field, or above its statement. A comment that ends in a colon is about
+    several fields.
     """
     name, fields = record_of_laws(crate)
     if not name:
@@ -102,13 +106,13 @@ def laws_of(crate: str) -> Tuple[Optional[str], List[Tuple[str, str, str]]]:
 
 
 def laws_at(item: Item) -> List[Tuple[str, str, str]]:
-    """The laws that a call has as one record: none but for the call of a crate's laws."""
+    """Return the laws of a call: those of the record, for the one call that has it as contract."""
     name, laws = laws_of(item.path.split("/")[1])
     return laws if item.clauses == [f"ensures {{ {name} }}"] else []
 
 
 def used_publicly(code: str) -> set[str]:
-    """The names of the `pub use` lines of some code."""
+    """Return the names in the `pub use` lines of some code."""
     uses = re.findall(r"^pub use ([\w:]+?)(?:::\{([^}]*)\})?;", code, re.M)
     names = {
         name.split(" as ")[-1].strip()
@@ -119,14 +123,16 @@ def used_publicly(code: str) -> set[str]:
 
 
 def internals(crate: str) -> set[str]:
-    """The names of a library's module `internals`, which is for the layers above alone."""
+    """Return the names in the module `internals` of a library, which only upper layers use."""
     path = f"{TOP}/crates/{crate}/src/internals.rt"
     return used_publicly(re.sub("//.*", "", text_of(path))) if os.path.isfile(path) else set()
 
 
 def handed_on(crate: str) -> Tuple[set[str], set[str]]:
-    """Return what a library exports: the names of the `pub use` lines of its root and of its module
-    `internals`, and its public modules.
+    """Return the exports of a library.
+
+    These are the names in the `pub use` lines of its root and of its module `internals`, and its
+    public modules.
     """
     root = re.sub("//.*", "", text_of(f"{TOP}/crates/{crate}/src/lib.rt"))
     return used_publicly(root) | internals(crate), set(
@@ -135,8 +141,9 @@ def handed_on(crate: str) -> Tuple[set[str], set[str]]:
 
 
 def of_others(crate: str) -> Iterator[Tuple[Optional[str], str, List[str]]]:
-    """What a library exports of other crates: of each its public module, or None for the root; the
-    other crate; and the names.
+    """Return the exports of a library that come from other crates.
+
+    Each has the public module that exports it (None for the root), the other crate, and the names.
     """
     _, modules = handed_on(crate)
     for path in sources_of(crate):
@@ -149,22 +156,21 @@ def of_others(crate: str) -> Iterator[Tuple[Optional[str], str, List[str]]]:
 
 
 def plain(words: str) -> str:
-    """Code on one line, as the pages for callers have it: without `pub`, and without `mut` at a
-    name.
-    """
+    """Return code on one line, as pages for callers show it: without `pub` and without `mut`."""
     words = re.sub(r",?\s+([)}\]])", r" \1", re.sub(r"\bpub |\bmut (?=\w+:)", "", words))
     return re.sub(r"\s+", " ", re.sub(r"([(\[])\s+|\s+([)\]])", r"\1\2", words)).strip(" ;")
 
 
 def shortened(code: str) -> str:
-    """A constant's code; a long value is shown by its type."""
+    """Return the code of a constant, with a long value replaced by its type."""
     return plain(code) if len(plain(code)) < 160 else plain(code.partition(" =")[0])
 
 
 def parts_of(body: str) -> Iterator[Tuple[List[str], str]]:
-    """The parts of the body of a type between commas outside of brackets: of each its doc
-    comment and its code. What is said of a field of a variant stands after what is said of the
-    variant.
+    """Return the parts in the body of a type, each with its doc comment and its code.
+
+    Commas outside of brackets separate the parts. The comment of a variant's field follows the
+    comment of the variant.
     """
     depth, code = 0, ""
     doc: List[str] = []
@@ -189,13 +195,13 @@ def parts_of(body: str) -> Iterator[Tuple[List[str], str]]:
 
 
 def until(lines: Sequence[str], ends: str) -> str:
-    """The lines up to the first that matches, without comments."""
+    """Return the lines up to the first that matches, without comments."""
     rest = itertools.takewhile(lambda each: not re.match(ends, each), lines)
     return "\n".join(each for each in rest if not each.lstrip().startswith("//"))
 
 
 class File:
-    """A file of code, read line by line: its public items, as far as it recognises them."""
+    """A parser of a source file, line by line, which recognises public items."""
 
     def __init__(self, crate: str, path: str) -> None:
         self.path, self.place = (
@@ -231,7 +237,7 @@ class File:
                 doc = []
 
     def read(self, at: int, line: str, doc: List[str]) -> Iterator[Item]:
-        """What begins in a line."""
+        """Parse the item that begins in a line."""
         if line.startswith("}"):
             self.owner = self.block = self.trait = None
         elif block := re.match(r"(pub )?(struct|enum|trait) (\w+)", line):
@@ -265,7 +271,7 @@ class File:
             )
 
     def type(self, at: int, block: re.Match[str], doc: List[str]) -> Iterator[Item]:
-        """A type or a trait, and the parts of a type."""
+        """Parse a type with its parts, or a trait."""
         public, kind, name = block.groups()
         head = plain(until(self.lines[at:], r"\}|$").partition(" {\n")[0].removesuffix(" {"))
         if kind == "trait":
@@ -284,7 +290,7 @@ class File:
                 yield self.item("part", part, plain(code), said, name)
 
     def function(self, kind: str, at: int, name: str, doc: List[str]) -> Item:
-        """A function: its clauses end where its body begins, or in a trait with a `;`."""
+        """Parse a function. Its clauses end at the body, or in a trait at a `;`."""
         text = until(self.lines[at:], r" *[{}]").partition("};\n")[0]
         signature, *clauses = re.split(r"^ *(?=requires|ensures|ghost)", text, flags=re.M)
         return self.item(
@@ -294,7 +300,7 @@ class File:
 
 @functools.cache
 def items(crate: str) -> List[Item]:
-    """What a caller of a library can name, in the order of its files."""
+    """Return all items of a library that a caller can name, in the order of its files."""
     names, modules = handed_on(crate)
     found = [item for path in sources_of(crate) for item in File(crate, path).items()]
     types = {
@@ -307,7 +313,7 @@ def items(crate: str) -> List[Item]:
 
 
 def is_handed_on(item: Item, names: set[str], modules: set[str], types: set[str]) -> bool:
-    """Whether a caller can name an item."""
+    """Return whether a caller can name an item."""
     if item.kind == "impl":
         return (
             item.owner in types
@@ -322,17 +328,17 @@ def is_handed_on(item: Item, names: set[str], modules: set[str], types: set[str]
 
 
 def functions(crate: str) -> List[Item]:
-    """The public functions of a library that a crate above can call."""
+    """Return the public functions of a library that the crates above can call."""
     return [item for item in items(crate) if item.kind == "fn"]
 
 
 def static_libraries() -> List[str]:
-    """Return the crates that C can call, and no other crate."""
+    """Return the crates whose functions C can call."""
     return re.findall(r"^(\w+) staticlib:", text_of(f"{TOP}/crates.txt"), re.M)
 
 
 def promising() -> List[str]:
-    """Return the crates with promises to callers: no tests, and no parts of `vectors`."""
+    """Return the crates with contracts for callers: all but tests and parts of `vectors`."""
     crates = [crate for crate in sorted(os.listdir(f"{TOP}/crates")) if is_library(crate)]
     return [
         crate

@@ -1,8 +1,7 @@
 """Write the lists of docs/iimwire.1, the manual page.
 
-The datasets are those of docs/reference/format.md, the causes those of docs/reference/causes.md.
-
-All else on the page is written by hand.
+The datasets are those of docs/reference/format.md, and the causes those of
+docs/reference/causes.md. All else on the page is written by hand.
 """
 from __future__ import annotations
 
@@ -21,22 +20,20 @@ ESCAPES = {"\\": "\\e", "-": "\\-", "'": "\\(aq", "~": "\\(ti", "^": "\\(ha", "`
 
 
 def roff(words: str) -> List[str]:
-    """The lines of words."""
+    """Return a text as lines of roff."""
     lines = textwrap.wrap(words, WIDTH, break_on_hyphens=False)
     return ["".join(ESCAPES.get(letter, letter) for letter in line) for line in lines]
 
 
 def datasets() -> Iterator[List[str]]:
-    """The number and the name of each dataset."""
+    """Return the number and the name of each dataset."""
     for _, cells in cells_of(f"{TOP}/docs/reference/format.md"):
         if re.fullmatch(r"\d:\d+", cells[0]) and len(cells) == 6:
             yield [".TP 8", cells[0], *roff(cells[1])]
 
 
 def listed_causes() -> Iterator[List[str]]:
-    """Yield the lines of each cause, in the order of their numbers: its number, its name and what
-    it means.
-    """
+    """Yield the lines of each cause, by number: its number, its name and its meaning."""
     for cause in sorted(causes.causes(), key=lambda each: each.number):
         yield [
             ".TP 4",
@@ -48,7 +45,7 @@ def listed_causes() -> Iterator[List[str]]:
 
 
 def made(page: str, section: str, items: Iterable[List[str]]) -> str:
-    """The page with the list of a section as it is made of these items."""
+    """Return the page with the list of a section replaced by these items."""
     head = f".SH {section}\n"
     before, _, rest = page.partition(head)
     above, _, below = rest.partition(".PD 0\n")
@@ -58,6 +55,6 @@ def made(page: str, section: str, items: Iterable[List[str]]) -> str:
 
 
 def wanted() -> Dict[str, str]:
-    """The page, with its text."""
+    """Return the page, with its text."""
     page = made(text_of(f"{TOP}/{PAGE}"), "DATASETS", datasets())
     return {PAGE: made(page, "CAUSES", listed_causes())}

@@ -1,4 +1,4 @@
-"""How the pages that are written by hand are worded and laid out."""
+"""Check the wording and the layout of the pages that are written by hand."""
 from __future__ import annotations
 
 import re
@@ -12,7 +12,7 @@ from pages.items import TOP
 # words.
 COLUMNS, COLUMNS_OF_A_ROW, LINES, WORDS = 100, 160, 8, 15
 # The most lines of all these pages together, without generated pages and parts of pages.
-MOST_LINES = 3930
+MOST_LINES = 3000
 GENERATED = re.compile(r"^<!-- tests/.*?^<!-- the end.*?$\n?", re.M | re.S)
 
 # Words for which the field has a better one.
@@ -59,7 +59,7 @@ SCRIPTS = "iimwire", "build", "bindings/build", "packages/build"
 
 
 class Page(NamedTuple):
-    """A page that is written by hand: its path, and its text."""
+    """A page that is written by hand: its path and its text."""
 
     path: str
     text: str
@@ -81,17 +81,17 @@ def text_of(path: str) -> str:
 
 
 def blank(found: "re.Match[str]") -> str:
-    """Return as many line ends as a match has."""
+    """Return as many line feeds as a match contains."""
     return "\n" * found[0].count("\n")
 
 
 def without_code(text: str) -> str:
-    """Return a page without its programs, with the same lines."""
+    """Return a page without its programs. Other text keeps its line numbers."""
     return re.sub(r"^ *```.*?^ *```$", blank, text, flags=re.M | re.S)
 
 
 def prose_of(text: str) -> str:
-    """Return a page without its programs, its code spans and what is fixed, with the same lines."""
+    """Return a page without programs, code spans and fixed wording, with the same line numbers."""
     text = FIXED.sub(blank, without_code(text))
     for use in FIXED_USES:
         text = re.sub(re.escape(use).replace(r"\ ", r"\s+"), blank, text)
@@ -100,7 +100,7 @@ def prose_of(text: str) -> str:
 
 
 def long_parts(text: str) -> Iterator[str]:
-    """Yield the beginnings of paragraphs and of cells that are too long."""
+    """Yield the beginning of each paragraph and each cell that is too long."""
     for paragraph in re.split(r"\n(?:\s*\n|(?=\s*(?:[-*|#>]|\d+\.) ?))", text):
         # (a list of links is generated)
         if len(paragraph.strip().split("\n")) > LINES:
@@ -111,7 +111,7 @@ def long_parts(text: str) -> Iterator[str]:
 
 
 def wide_lines(text: str) -> Iterator[str]:
-    """Yield the beginnings of lines that are too wide; a heading may be as wide as a row."""
+    """Yield the beginning of each line that is too wide. A heading may be as wide as a row."""
     for line in without_code(text).split("\n"):
         row = line.startswith(("|", "#", "![", "> |"))
         if len(line) > (COLUMNS_OF_A_ROW if row else COLUMNS):
@@ -119,7 +119,7 @@ def wide_lines(text: str) -> Iterator[str]:
 
 
 def durations(page: Page) -> Iterator[str]:
-    """Yield each duration that is not stated on this page, or by another number elsewhere."""
+    """Yield each duration that its page does not state, or that another page states differently."""
     said = NO_DURATION.sub("", " ".join(prose_of(page.text).split()))
     for found in DURATION.findall(said):
         if (page.path, found) not in DURATIONS:
@@ -127,7 +127,7 @@ def durations(page: Page) -> Iterator[str]:
 
 
 def lost_durations(texts: Dict[str, str]) -> Iterator[Tuple[str, str]]:
-    """Yield each duration that its page does not state, and those of scripts that differ."""
+    """Yield each duration that its page or a script does not state as this module does."""
     for path, words in DURATIONS:
         if words not in " ".join(texts[path].split()):
             yield path, f"does not state the duration {words}"
@@ -139,7 +139,7 @@ def lost_durations(texts: Dict[str, str]) -> Iterator[Tuple[str, str]]:
 
 
 def faults_of(page: Page) -> Iterator[str]:
-    """Yield what is wrong with a page: of each fault the line or its beginning."""
+    """Yield what is wrong with a page, as the number or the beginning of the line."""
     text = re.sub(r"^\|.*", "", page.text, flags=re.M) if page.path in TABLES else page.text
     prose = prose_of(text)
     yield from (line[:80] for line in prose.split("\n") if RETIRED.search(line))
@@ -149,13 +149,16 @@ def faults_of(page: Page) -> Iterator[str]:
 
 
 def length(text: str) -> int:
-    """Return how many lines of a page are written by hand: those outside of generated parts."""
+    """Return how many lines of a page are written by hand, outside of generated parts."""
     text = GENERATED.sub("", text)
     return len(theorem.SHOWN.sub(r"\1\3", text).splitlines())
 
 
 def too_long(texts: Dict[str, str]) -> Iterator[Tuple[str, str]]:
-    """Yield the lines of all pages together, if there are too many; generated pages have none."""
+    """Yield the number of lines of all pages together, if there are too many.
+
+    Generated pages do not count.
+    """
     generated = evidence.wanted()
     lines = sum(length(text) for path, text in texts.items() if path not in generated)
     if lines > MOST_LINES:
@@ -163,7 +166,7 @@ def too_long(texts: Dict[str, str]) -> Iterator[Tuple[str, str]]:
 
 
 def faults() -> List[Tuple[str, str]]:
-    """Return what is wrong with the pages: of each fault the page, and the line."""
+    """Return what is wrong with the pages, as pairs of the page and the line."""
     texts = {path: text_of(path) for path in pages()}
     wrong = [(path, fault) for path, text in texts.items() for fault in faults_of(Page(path, text))]
     return [*wrong, *too_long(texts), *lost_durations(texts)]

@@ -29,21 +29,21 @@ def reasons() -> Iterator[Tuple[int, str, str]]:
 
 
 def literal(text: str) -> List[str]:
-    """A text as lines of Python."""
+    """Return a text as lines of Python."""
     parts = textwrap.wrap(text, WIDTH - len(INDENT), break_on_hyphens=False)
     words = [part + " " for part in parts[:-1]] + parts[-1:]
     return [INDENT + (repr(each) if re.search(r'["\\]', each) else f'"{each}"') for each in words]
 
 
 def entry(number: int, reason: str, advice: str) -> List[str]:
-    """The lines of a cause."""
+    """Return the lines of a cause."""
     *lines, last = literal(reason)
     *more, end = literal(advice)
     return [f"    {number}: Cause(", *lines, f"{last},", *more, f"{end},", "    ),"]
 
 
 def wanted() -> Dict[str, str]:
-    """The file, with its text."""
+    """Return the file, with its text."""
     before, _, rest = text_of(f"{TOP}/{PAGE}").partition(HEAD)
     entries = "".join(f"{line}\n" for cause in reasons() for line in entry(*cause))
     return {PAGE: f"{before}{HEAD}{entries}{FOOT}{rest.partition(FOOT)[2]}"}

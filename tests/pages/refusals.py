@@ -1,5 +1,6 @@
-"""The causes in docs/reference/refusals.md: each is named in one heading, above its layer, its
-contracts and what shows them.
+"""Check that each cause is in one heading of docs/reference/refusals.md.
+
+Below the heading are the layer, the contracts, and what shows them.
 """
 from __future__ import annotations
 
@@ -14,9 +15,7 @@ ENTRIES = ["Contract", "Shown by"]
 
 
 def parts() -> Iterator[Tuple[List[Tuple[int, str]], List[Tuple[str, str]]]]:
-    """Yield of each part of the page the causes in its heading, by number and name, and its
-    entries.
-    """
+    """Yield the parts of the page: the causes in the heading, with their names, and the entries."""
     for part in text_of(f"{TOP}/{PAGE}").split("\n## ")[1:]:
         heading, _, body = part.partition("\n")
         named = [(int(number), name) for number, name in re.findall(r"(\d+) `(\w+)`", heading)]
@@ -25,8 +24,9 @@ def parts() -> Iterator[Tuple[List[Tuple[int, str]], List[Tuple[str, str]]]]:
 
 
 def faults() -> List[str]:
-    """Return what is wrong with the page: a cause that is missing, unknown or named twice, another
-    layer, or entries that are missing.
+    """Return what is wrong with the page.
+
+    A cause may be missing, unknown, named twice or in another layer, or entries may be missing.
     """
     known = {(cause.number, cause.name): cause.entries.get("Layer") for cause in causes.causes()}
     found = [each for named, _ in parts() for each in named]

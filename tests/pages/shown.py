@@ -1,4 +1,4 @@
-"""A caller that a page shows, cut out of its source: its functions, and what they bring in."""
+"""Cut an example out of its source: its functions, and the imports that they need."""
 from __future__ import annotations
 
 import re
@@ -8,7 +8,7 @@ from pages.items import TOP, text_of
 
 
 def cut(lines: Sequence[str], name: str) -> List[str]:
-    """The lines of a function or a constant, with what is above it, at the margin."""
+    """Return the lines of a function or a constant and the lines above it, without indentation."""
     (at,) = [
         at
         for at, line in enumerate(lines)
@@ -28,7 +28,7 @@ def cut(lines: Sequence[str], name: str) -> List[str]:
 
 
 def occurs(name: str, code: str) -> bool:
-    """Whether code has a name, or each part of one whose places for arguments are marked."""
+    """Return whether code contains a name, or all parts of a mixfix name."""
     name = name.split(" as ")[-1].strip()
     marked = [part for part in re.split("[◌]", name) if part]
     if "◌" in name or not re.fullmatch(r"[\w']+", name):
@@ -37,9 +37,7 @@ def occurs(name: str, code: str) -> bool:
 
 
 def used(line: str, code: str) -> Optional[str]:
-    """A line that brings names in, with those alone that the code has; None where it has none of
-    them.
-    """
+    """Return an import reduced to the names that the code uses, or None if it uses none of them."""
     if "{" not in line:
         return line if occurs(re.split(r"::|[.]", line.rstrip(";"))[-1], code) else None
     parts = re.fullmatch(r"(.*?)\{(.*)\};", line)
@@ -57,7 +55,7 @@ def used(line: str, code: str) -> Optional[str]:
 
 
 def shown(path: str, names: Sequence[str]) -> str:
-    """The code of functions of a file, after what they bring in."""
+    """Return the code of functions of a file, after the imports that they need."""
     text = text_of(f"{TOP}/{path}")
     code = "\n\n".join("\n".join(cut(text.split("\n"), name)) for name in names)
     lines = [

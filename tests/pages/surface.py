@@ -1,9 +1,8 @@
-"""The list of all public items, tests/public_items.txt: each with its crate, who fixes it, its
-place, its name and its code.
+"""The list of all public items, tests/public_items.txt.
 
 A line is `CRATE | ORIGIN | PLACE | NAME | CODE`. The origin is `format` for an item whose name,
-parameters and result the format's specification fixes, and `own` for one that this project added.
-The place is the module, `-` at the root of the crate.
+parameters and result the format's specification fixes, and `own` for an item that this project
+added. The place is the module, or `-` at the root of the crate.
 """
 from __future__ import annotations
 
@@ -21,7 +20,7 @@ KINDS = ("struct", "enum", "trait", "part", "const", "fn", "impl")
 
 @dataclass(frozen=True)
 class Row:
-    """A public item: what a caller has to write to use it."""
+    """A public item, as a caller has to write it."""
 
     crate: str
     place: str
@@ -50,14 +49,14 @@ def name_of(item: items.Item) -> str:
 
 
 def key_of(row: Row) -> Tuple[str, str]:
-    """Return what an item keeps when its code changes."""
+    """Return the parts of an item that stay the same if its code changes."""
     return row.crate, row.code if row.code.startswith("impl") else row.name
 
 
 def rows_of(crate: str) -> Iterator[Row]:
     """Yield the public items of a crate.
 
-    A block without a trait is excluded, since its functions are.
+    A block that implements no trait is left out, since its functions are listed.
     """
     for item in items.items(crate):
         if item.kind in KINDS and (item.kind != "impl" or " for " in item.code):
@@ -79,9 +78,10 @@ def listed() -> Dict[Row, str]:
 
 
 def text(crates: Iterable[str]) -> str:
-    """Return the list as it must be.
+    """Return the list as the sources require it.
 
-    An item keeps the origin that its name has in the list, and a trait of a type that of its code.
+    An item keeps the origin that its name has in the list. An implemented trait keeps the origin
+    that its code has.
     """
     origins = {key_of(row): origin for row, origin in listed().items()}
     lines = (

@@ -1,7 +1,6 @@
-"""The contract of the headline in docs/THEOREM.md, as the source has it, and the links to the
-definitions that it cites.
+"""The contract of the headline in docs/THEOREM.md, and the links to the definitions in it.
 
-All else on that page is written by hand.
+Both are generated from the source. All else on that page is written by hand.
 """
 from __future__ import annotations
 

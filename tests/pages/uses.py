@@ -1,4 +1,4 @@
-"""What the libraries have that no other crate uses, and what definitions share a name."""
+"""Find public items that no other crate uses, and names that several definitions share."""
 from __future__ import annotations
 
 import collections
@@ -19,7 +19,7 @@ NAMED = re.compile(r"^(?:abbrev |unfoldable )?pub (?:record |data )?([^\s({:]+)"
 
 
 class Without(NamedTuple):
-    """A public item that no other crate uses: its crate, and its name after that of its type."""
+    """A public item that no other crate uses: its crate, and its name with that of its type."""
 
     crate: str
     name: str
@@ -37,7 +37,7 @@ def code_of(crate: str) -> str:
 
 @functools.lru_cache(maxsize=None)
 def words_of(crate: str) -> Dict[str, Set[str]]:
-    """Return the words of a crate, each with what precedes it: a dot, a colon, or nothing."""
+    """Return the words of a crate, each with the character before it: a dot, a colon or none."""
     found: Dict[str, Set[str]] = collections.defaultdict(set)
     for mark, word in re.findall(r"([.:]|\bfn )?\b(\w+)", code_of(crate)):
         found[word].add(mark)
@@ -83,7 +83,7 @@ def without_callers() -> Iterator[Without]:
 
 
 def excused() -> Dict[Without, str]:
-    """Return the items that are listed as used by nothing else, each with the reason."""
+    """Return the items that are listed as unused by other crates, each with the reason."""
     found: Dict[Without, str] = {}
     for line in LIST.read_text(encoding="utf-8").splitlines():
         if line and not line.startswith("#"):
@@ -93,7 +93,7 @@ def excused() -> Dict[Without, str]:
 
 
 def shared_names() -> Dict[str, List[str]]:
-    """Return the names that public definitions of more than one crate have, with these crates."""
+    """Return the names of public definitions that several crates share, with these crates."""
     found: Dict[str, Set[str]] = collections.defaultdict(set)
     for path in CRATES.glob("*/specs/**/*.antt"):
         text = re.sub("--.*", "", path.read_text(encoding="utf-8"))

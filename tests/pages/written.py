@@ -22,7 +22,7 @@ def written() -> Dict[str, str]:
 
 
 def changed() -> Dict[str, str]:
-    """Return the generated pages that are not there, or are there with another text."""
+    """Return the generated pages that are missing or have another text."""
     paths = {path: Path(TOP) / path for path in written()}
     texts = {path: text_of(str(at)) if at.is_file() else None for path, at in paths.items()}
     return {path: text for path, text in written().items() if texts[path] != text}

@@ -1,4 +1,4 @@
-"""Count what is the same in each run: instructions, by valgrind, and writes."""
+"""Count what is the same in each run: instructions (by valgrind) and writes."""
 from __future__ import annotations
 
 import os
@@ -12,7 +12,7 @@ from support import preloaded
 
 
 def callgrind(words: List[str]) -> str:
-    """Return what callgrind writes of a run."""
+    """Return the output of callgrind for a run."""
     with tempfile.TemporaryDirectory() as folder:
         out = os.path.join(folder, "out")
         subprocess.run(
@@ -33,7 +33,7 @@ def instructions(words: List[str]) -> int:
 
 
 def functions(words: List[str]) -> Dict[str, int]:
-    """Return the instructions of each function in a run, without those that it calls."""
+    """Return the instructions of each function in a run, without those of its callees."""
     names: Dict[str, str] = {}
     found: Dict[str, int] = {}
     function, is_call = "", False
@@ -55,7 +55,7 @@ def functions(words: List[str]) -> Dict[str, int]:
 
 
 def writes(library: Path, words: List[str]) -> int:
-    """Return the number of writes of a run, to its output and its errors."""
+    """Return the number of writes of a run to standard output and standard error."""
     (status, _, errors), counted = preloaded.run_counted(library, words)
     if status:
         raise subprocess.CalledProcessError(status, words, stderr=errors)

@@ -1,4 +1,4 @@
-"""The programs that are measured, and what running them takes."""
+"""The programs that are measured, and the time and memory of their runs."""
 from __future__ import annotations
 
 import glob
@@ -29,7 +29,7 @@ def command(named: Optional[str]) -> Tuple[str, str]:
 
 
 def compiled(folder: str, name: str, words: List[str]) -> Optional[str]:
-    """Return a program that is compiled here, or None if its compiler is missing."""
+    """Return a program that is compiled for the measurement, or None without its compiler."""
     try:
         subprocess.run([*words, "-o", f"{folder}/{name}"], check=True)
     except FileNotFoundError:
@@ -39,7 +39,7 @@ def compiled(folder: str, name: str, words: List[str]) -> Optional[str]:
 
 
 def plain(folder: str, name: str) -> Optional[str]:
-    """Compile the reader or the packer in plain Rust for the processor of the command."""
+    """Compile the reader or the packer in plain Rust, for the same processor as the command."""
     words = [
         "rustc",
         "--edition",
@@ -77,13 +77,23 @@ def feeder(folder: str) -> Optional[str]:
 
 
 def words_of(program: Optional[str], name: str, path: str, *more: str) -> Optional[List[str]]:
-    """Return the words that run a command of the program, or None if there is no program."""
+    """Return the arguments that run a command of the program, or None if there is no program."""
     now = ["--now", "2024-03-01T12:00:00Z"] if name == "audit" else []
     return [program, name, path, *more, *now] if program else None
 
 
+def of_package(expression: str, path: str, extension: str) -> List[str]:
+    """Return the run of an expression of the Python package over a file.
+
+    Without the extension module `extension` is "0", and otherwise empty.
+    """
+    environment = ["env", f"PYTHONPATH={TOP}/bindings/python/src", f"IIM_EXTENSION={extension}"]
+    program = f"import iim\npath = {path!r}\n{expression}"
+    return [*environment, sys.executable, "-c", program]
+
+
 def printed(words: List[str]) -> Tuple[bytes, bytes]:
-    """Return the output and the errors of a run."""
+    """Return the standard output and standard error of a run."""
     ran = subprocess.run(words, capture_output=True, check=True)
     return ran.stdout, ran.stderr
 
@@ -97,7 +107,10 @@ def seconds(words: List[str]) -> float:
 
 
 def least(turns: int, runs: Sequence[Optional[List[str]]]) -> List[Optional[float]]:
-    """Return the least processor time of each run, with all runs in each turn; None for None."""
+    """Return the least processor time of each run. A turn runs each of them once.
+
+    A run that is None has the result None.
+    """
     taken = [[seconds(words) if words else None for words in runs] for _ in range(turns)]
     return [
         None if each[0] is None else min(time for time in each if time is not None)
@@ -106,9 +119,10 @@ def least(turns: int, runs: Sequence[Optional[List[str]]]) -> List[Optional[floa
 
 
 def peak(words: List[str]) -> int:
-    """Return the most octets that a run had in memory.
+    """Return the greatest number of octets that a run had in memory.
 
-    GNU time is asked, a small process: what is forked begins with its parent's count.
+    GNU time runs the program, since it is a small process: the count of a child that Python forks
+    would begin with the memory of Python.
     """
     with tempfile.NamedTemporaryFile() as told:
         timed = ["/usr/bin/time", "-f", "%M", "-o", told.name, *words]

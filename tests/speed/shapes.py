@@ -22,17 +22,17 @@ OBJECT = rules.object_of(SMALLEST_HEAD, [b""], b"")
 
 
 def keywords(octets: int) -> bytes:
-    """Return the smallest envelope with 400 keywords of that many octets."""
+    """Return the smallest envelope with 400 keywords of this many octets."""
     return rules.packed([*SMALLEST_FIELDS, *[(2, 25, b"k" * octets)] * 400], OBJECT, 1024)
 
 
 def prose(lines: int, header: List[Tuple[int, int, bytes]], subfile: int) -> bytes:
-    """Return an envelope with that many lines of prose, in subfiles of that many octets."""
+    """Return an envelope with this many lines of prose, in subfiles of this many octets."""
     return rules.packed(header, rules.object_of(STORY_HEAD, [PROSE] * lines, b""), subfile)
 
 
 def short_lines(end: bytes) -> bytes:
-    """Return an envelope whose text is 340,000 lines of one octet, each ended by these octets."""
+    """Return an envelope whose text is 340,000 lines of one octet, with these line ends."""
     head, tail = rules.object_of(STORY_HEAD, [b""], b"").split(b"\2")
     return rules.packed(SMALLEST_FIELDS, head + b"\2" + (b"x" + end) * 340_000 + tail, 32_768)
 
@@ -66,7 +66,7 @@ NUMBER = slice(34, 42)
 
 
 def script(line: bytes, lines: int) -> bytes:
-    """The smallest script, its story N of this line."""
+    """Return the smallest script, with a story that repeats this line."""
     with open(f"{TOP}/samples/smallest.script", "rb") as sample:
         return sample.read() + (line + b"\n") * lines
 
@@ -74,7 +74,7 @@ def script(line: bytes, lines: int) -> bytes:
 def write_numbered(path: str, envelopes: int, is_mixed: bool) -> None:
     """Write copies of the smallest envelope, numbered from 0.
 
-    Mixed ones are shuffled, the same way each time.
+    If `mixed`, they are shuffled, in the same order each time.
     """
     octets, numbers = bytearray(SMALLEST), list(range(envelopes))
     if is_mixed:

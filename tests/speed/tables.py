@@ -1,8 +1,7 @@
-"""The tables of what is measured, as they are printed and as they are in docs/SPEED.md.
+"""The tables of measurements, as they are printed and as they are in docs/SPEED.md.
 
-The page has a place for each part that is measured, between two marked lines. There the script
-writes what was measured, and nobody else: `tests/documents` holds each place to its tables, but for
-the numbers.
+The page has a place between two markers for each part that is measured. Only the script writes
+there. `tests/documents` compares each place with its tables, except for the numbers.
 """
 from __future__ import annotations
 
@@ -34,12 +33,19 @@ MEMORY = {
     "envelopes of 246 octets, 200 MB": ("envelopes of 246 octets", 200),
     "a script of prose, 16 MB": ("a script of prose", 16),
 }
+# What the Python package does with each envelope of a stream.
+PACKAGE = {
+    "count the envelopes": "sum(1 for _ in iim.read(path))",
+    "read all fields": "sum(len(envelope.datasets) for envelope in iim.read(path))",
+    "audit": "sum(1 for _ in iim.audit(path))",
+}
 # Of each part its tables: the names of their columns, and those of their rows.
 PARTS: Dict[str, List[Tuple[List[str], Collection[str]]]] = {
     "counts": [([*BESIDE, "writes of check", "of story"], SHAPES), ([*PACKED, "writes"], SCRIPTS)],
     "times": [(BESIDE, SHAPES), (PACKED, SCRIPTS)],
     "audits": [(["Envelopes", "check", "audit", "ratio", "memory of the audit"], AUDITS)],
     "memory": [(["Input", "check", "show", "story", "pack"], MEMORY)],
+    "package": [(["Python", "extension", "ratio", "ctypes", "ratio"], PACKAGE)],
 }
 
 
@@ -76,7 +82,7 @@ def marks(part: str) -> Tuple[str, str]:
 
 
 def put(part: str, lines: List[str]) -> None:
-    """Write the lines of a part into the page, the first one in at most 100 columns."""
+    """Write the lines of a part into the page. The first line is wrapped at 100 columns."""
     begin, end = marks(part)
     with open(PAGE, encoding="utf-8") as file:
         before, _, rest = file.read().partition(begin)
@@ -95,7 +101,7 @@ def put(part: str, lines: List[str]) -> None:
 def faults(page: str) -> Iterator[str]:
     """Yield what is wrong with the places of the parts in the text of a page.
 
-    Each has a line of what was measured, and its tables of numbers.
+    Each place needs a line on what was measured, and the tables with their numbers.
     """
     for part, tables in PARTS.items():
         begin, end = marks(part)

@@ -30,10 +30,13 @@ FIND_OURS += "! -path '/var/lib/apt/lists/*' ! -path '/var/cache/man/*'"
 
 
 class Root:
-    """A root in which commands run as on a separate machine. Its apt knows only our packages."""
+    """A root directory in which commands run as on a separate machine.
+
+    Its apt knows only our packages.
+    """
 
     def __init__(self, path: Path, packages: Packages) -> None:
-        """Let the apt of the root know a directory with the packages."""
+        """Add a directory with the packages to the sources of apt."""
         self.path = path
         there = path / "packages"
         shutil.rmtree(there, ignore_errors=True)
@@ -51,7 +54,7 @@ class Root:
         self.run("apt-get update")
 
     def run(self, script: str, **more: Any) -> str:
-        """Return what a script of sh prints in the root."""
+        """Run a shell script in the root, and return its output."""
         return run(["chroot", self.path, "sh", "-ec", script], env=ENVIRONMENT, **more)
 
     @contextlib.contextmanager
@@ -98,7 +101,7 @@ def shell(root: Root) -> tuple[int, int]:
 
 
 def typed(root: Root, keys: bytes, until: bytes) -> str:
-    """Return what a terminal shows after these keys are typed, up to a pattern."""
+    """Return the output of a terminal after these keys are typed, up to a pattern."""
     child, terminal = shell(root)
     shown, is_sent, end = b"", False, time.monotonic() + SECONDS / 8
     try:

@@ -17,7 +17,15 @@ DIRECTORY = "IIM_TESTED"
 NAMES = "receiver", "packing", "values", "streams", "reading"
 # What these read of the repository. The sources of the package are not among it.
 READ = "tests", "samples", "docs", "bindings/python/tests"
-READ_FILES = "conftest.py", "pyproject.toml", "bindings/conftest.py", "bindings/c/iim.h"
+READ_FILES = (
+    "conftest.py",
+    "pyproject.toml",
+    "bindings/conftest.py",
+    "bindings/c/iim.h",
+    # The library's texts of the causes, and their layers.
+    "crates/iim_c/src/causes.rt",
+    "crates/iim_places/specs/Format/Causes.antt",
+)
 
 
 def pytest_configure(config: pytest.Config) -> None:

@@ -1,4 +1,4 @@
-"""Reads the manual page of the command, the examples in it, and its help."""
+"""Read the manual page of the command, its examples, and the help of the command."""
 from __future__ import annotations
 
 import re
@@ -39,7 +39,7 @@ def example(words: str) -> str:
 
 
 class Option(NamedTuple):
-    """An option of a command: the name of its value, if it takes one, and what help says of it."""
+    """An option of a command: the name of its value, if it takes one, and its text in the help."""
 
     value: Optional[str]
     text: str

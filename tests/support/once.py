@@ -1,4 +1,4 @@
-"""Makes what all tests of a run share, once, even if several workers need it."""
+"""Make what all tests of a run share, once, even if several workers need it."""
 from __future__ import annotations
 
 import fcntl
@@ -16,7 +16,7 @@ def shared_folder(factory: pytest.TempPathFactory) -> Path:
 
 
 def make_once(factory: pytest.TempPathFactory, name: str, make: Callable[[Path], None]) -> Path:
-    """Return a path that `make` has made in this run: the first caller calls it, others wait.
+    """Return a path that `make` makes once per run: the first caller calls it, others wait.
 
     If it fails, it fails for all of them, and is not called again.
     """

@@ -25,12 +25,12 @@ ARCHITECTURES = {
     "iimwire": "amd64",
     "libiim1": "amd64",
     "libiim-dev": "amd64",
-    "python3-iim": "all",
+    "python3-iim": "amd64",
     "iim-doc": "all",
 }
 ARCHIVE = f"iimwire-{RELEASE}-x86_64-linux.tar.gz"
 WHEEL_TAG = "manylinux_2_17_x86_64"
-WHEEL = f"iim-{RELEASE}-py3-none-{WHEEL_TAG}.whl"
+WHEEL = f"iim-{RELEASE}-cp38-abi3-{WHEEL_TAG}.whl"
 # The directory of the site in the package iim-doc.
 SITE = "usr/share/doc/iim-doc/html"
 # Of each path the file of the repository that it is, or None.
@@ -61,7 +61,8 @@ def files_in(folder: Path) -> list[str]:
 def python_files(at: str) -> Files:
     """Return the files of the Python package, each with its source."""
     source = "bindings/python/src/"
-    return {f"{at}/{path[len(source):]}": path for path in tracked(f"{source}iim")}
+    modules: Files = {f"{at}/{path[len(source):]}": path for path in tracked(f"{source}iim")}
+    return {**modules, f"{at}/iim/_iim.abi3.so": "bindings/out/_iim.abi3.so"}
 
 
 def guides(name: str, *pages: str) -> Files:
@@ -92,6 +93,7 @@ def files_of_packages() -> dict[str, Files]:
             f"usr/lib/{TRIPLE}/libiim.a": "bindings/out/libiim.a",
             f"usr/lib/{TRIPLE}/pkgconfig/libiim.pc": None,
             "usr/include/iim.h": "bindings/c/iim.h",
+            "usr/include/iim_strerror.h": "bindings/c/iim_strerror.h",
             "usr/share/doc/libiim-dev/examples/headline.c": "bindings/c/headline.c",
             **guides("libiim-dev", "c"),
         },
@@ -99,6 +101,8 @@ def files_of_packages() -> dict[str, Files]:
             **python_files("usr/lib/python3/dist-packages"),
             **{f"usr/bin/{name}": f"packages/python/{name}" for name in COMMANDS},
             **{f"usr/share/man/man1/{it}.1.gz": f"packages/python/{it}.1" for it in COMMANDS},
+            "usr/share/bash-completion/completions/iim-explain": "completions/iim-explain.bash",
+            "usr/share/zsh/vendor-completions/_iim-explain": "completions/_iim-explain",
             **guides("python3-iim", "python", "archive", "explain"),
         },
         # (packages/build has built the site)
@@ -120,21 +124,21 @@ def functions_of_the_header() -> list[str]:
 
 
 def by_number(version: str) -> list[int]:
-    """Return the parts of a version, which compare as numbers."""
+    """Return the parts of a version, as numbers that can be compared."""
     return [int(part) for part in version.split(".")]
 
 
 def newest_symbol(path: Path) -> str:
-    """Return the newest version of the C library of which a file needs a symbol."""
+    """Return the newest version of the C library whose symbols a file needs."""
     versions = re.findall(r"\bGLIBC_([\d.]+)", run(["objdump", "-T", path]))
     return str(max(versions, key=by_number))
 
 
 class Packages:
-    """Built packages in a directory, and a directory in which they are unpacked."""
+    """Built packages in a directory, and a directory into which they are unpacked."""
 
     def __init__(self, out: Path, work: Path) -> None:
-        """Unpack nothing yet."""
+        """Store the directories. Packages are unpacked at their first use."""
         self.out, self.work = out, work
 
     def path(self, name: str) -> Path:

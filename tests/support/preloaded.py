@@ -1,4 +1,4 @@
-"""Runs programs with a library loaded before libc.
+"""Run programs with a library loaded before libc.
 
 tests/writes.c counts writes, and tests/refuse.c fails allocations.
 """
@@ -33,7 +33,10 @@ def loaded(folder: Path, name: str) -> Path:
 def run_counted(
     library: Path, arguments: Sequence[Argument], octets: bytes = b"", seconds: Optional[int] = None
 ) -> Tuple[Ran, bytes]:
-    """Run a program; also return a byte for each write: '1' to the output, '2' to the errors."""
+    """Run a program, and return its result and a byte for each write.
+
+    The byte is '1' for standard output, and '2' for standard error.
+    """
     with tempfile.TemporaryFile() as writes:
         at = writes.fileno()
         env = {**os.environ, "LD_PRELOAD": str(library), "WRITES": str(at)}
@@ -48,8 +51,8 @@ def run_refused(
 ) -> Tuple[Ran, bytes]:
     """Run a program while an allocation fails.
 
-    `refused` is the number of the request that fails (0: none). If a '+' follows, all later
-    requests fail too. Also return a byte for each request, 'x' if it failed.
+    `refused` is the number of the allocation that fails (0: none). If a '+' follows, all later
+    allocations fail too. The result has a byte for each allocation, 'x' if it failed.
     """
     with tempfile.TemporaryFile() as requests:
         at = requests.fileno()

@@ -1,4 +1,4 @@
-"""Profiles of hypothesis: `gate`, the same examples each time; `night`, 50 times as many.
+"""Profiles of hypothesis: `gate`, the same examples in each run; `night`, 50 times as many.
 
 `HYPOTHESIS_PROFILE=night` or `--hypothesis-profile night` selects a profile. A test scales its
 number of examples by that of the profile (`vectors.strategies.examples`).

@@ -1,4 +1,4 @@
-"""A repository with the programs `./iimwire` and `./build`, two crates, and a stand-in for `rt`."""
+"""A repository with `./iimwire`, `./build`, two crates, and a substitute for `rt`."""
 from __future__ import annotations
 
 import os
@@ -91,7 +91,7 @@ class Repository:
     def start(
         self, *arguments: Argument, more: Optional[Mapping[str, str]] = None, **streams: Any
     ) -> subprocess.Popen[bytes]:
-        """Start a program of the repository, with more in its environment."""
+        """Start a program of the repository, with additions to its environment."""
         path = f"{self.top}/bin:{os.environ['PATH']}"
         env = {**os.environ, "PATH": path, "TMPDIR": f"{self.top}/tmp", **(more or {})}
         options = as_streams({"stdin": subprocess.DEVNULL, **streams}, b"")
@@ -115,7 +115,7 @@ class Repository:
         return os.listdir(self.top / "tmp")
 
     def expect(self, source: str, builds: int) -> None:
-        """Check that a run prints this source, after this many builds, and leaves nothing."""
+        """Check that a run prints this source, after this many builds, and leaves no files."""
         before = self.builds()
         got = self.run("iimwire", "story", "a b", "--x")
         errors = BUILDS if builds > before else b""

@@ -1,7 +1,7 @@
-"""Questions to the built program `vectors`, with the replies that the rules of the format want.
+"""Ask the built program `vectors`, and compare its replies with those of the rules.
 
-A question is written as docs/VECTORS.md says. The program replies line by line, so one process
-serves many examples (`Vectors`). Cases that are known beforehand are asked in batches (`Batch`).
+docs/VECTORS.md describes the form of a question. The program replies line by line, so one process
+serves many examples (`Vectors`). Cases that are known in advance are asked in batches (`Batch`).
 """
 from __future__ import annotations
 
@@ -28,12 +28,12 @@ Asked = Tuple[str, List[str]]
 
 
 def digits(octets: bytes) -> str:
-    """Return octets as a question has them."""
+    """Return octets in the form of a question."""
     return bytes(octets).hex().upper() or "-"
 
 
 def shown(octets: bytes) -> str:
-    """Return octets as a reply has them."""
+    """Return octets in the form of a reply."""
     if octets and all(0x20 <= octet <= 0x7E and octet != 0x22 for octet in octets):
         return f'"{bytes(octets).decode()}"'
     return digits(octets)
@@ -45,12 +45,12 @@ def named(record: int, dataset: int) -> str:
 
 
 def truth(holds: bool) -> str:
-    """Return a Boolean as a reply has it."""
+    """Return a Boolean in the form of a reply."""
     return "true" if holds else "false"
 
 
 def yes(holds: bool) -> str:
-    """Return the reply to a question that asks whether something holds."""
+    """Return the reply to a question whose answer is a Boolean."""
     return "yes" if holds else "no"
 
 
@@ -73,10 +73,10 @@ def value_of(envelope: rules.Envelope) -> List[str]:
 
 
 class Case:
-    """Questions that belong together, each with the replies that are wanted."""
+    """Questions that belong together, each with the expected replies."""
 
     def __init__(self, limits: Tuple[int, int] = LIMITS, is_new: bool = True) -> None:
-        """Begin with a new unpacker, unless the questions need none."""
+        """Begin with a new unpacker, unless the questions need no unpacker."""
         self.asked: List[Asked] = []
         self.limits = "/".join(map(str, limits))
         if is_new:
@@ -88,7 +88,7 @@ class Case:
         return self
 
     def ends(self, envelope: rules.Envelope) -> Case:
-        """Add what is asked after the last octets of an envelope."""
+        """Add the questions that follow the last octets of an envelope."""
         self.ask("lines", *lines_of(envelope))
         end = envelope.end()
         self.ask("end", end or "none")
@@ -102,7 +102,7 @@ class Case:
         return self.ask("value", "none")
 
     def failure(self, replies: Sequence[List[str]], why: str) -> Optional[str]:
-        """Return the first question whose replies are wrong, and a command that repeats it."""
+        """Return the first question with wrong replies, and a command that repeats the question."""
         for at, (question, want) in enumerate(self.asked):
             got = replies[at] if at < len(replies) else [f"no reply: {why}"]
             if got != want:
@@ -156,7 +156,7 @@ class Vectors:
         return ended.strip()
 
     def reply(self, process: subprocess.Popen[bytes], question: str) -> Optional[List[str]]:
-        """Ask a question, and return its replies; None if the program ended or never replied."""
+        """Ask a question, and return its replies, or None if the program ended or hangs."""
         assert process.stdin and process.stdout
         try:
             process.stdin.write(question.encode() + b"\n" + END)
@@ -174,7 +174,7 @@ class Vectors:
         return [line[2:] for line in lines[1:]] if lines[0] == question else [f"not asked: {lines}"]
 
     def check(self, *cases: Case) -> None:
-        """Ask the questions of cases, up to the first that has wrong replies."""
+        """Ask the questions of cases, up to the first question with wrong replies."""
         for case in cases:
             process, replies, why = self.process or self.start(), [], ""
             for question, _ in case.asked:
@@ -189,7 +189,7 @@ class Vectors:
 
 
 def replies_of(program: Path, questions: Sequence[str]) -> Tuple[List[List[str]], str]:
-    """Return the replies to each question, up to where the program ended, and how it ended."""
+    """Return the replies to each question up to the end of the program, and its status."""
     names = lets()
     octets = "\n".join([*names, *questions, ""]).encode()
     try:
@@ -235,7 +235,7 @@ def failures(program: Path, batch: Sequence[Case]) -> Iterator[str]:
 
 
 def check_all(program: Path, cases: Iterable[Case]) -> int:
-    """Ask all cases, in as few runs as possible; return how many there are."""
+    """Ask all cases, in as few runs as possible, and return how many cases there are."""
     count = 0
     found: List[str] = []
     for batch in batches(cases):

@@ -17,7 +17,7 @@ NEW = ticket(Envelope()) or b""
 
 
 def fronts(octets: bytes) -> List[Envelope]:
-    """Return for each octet the state of an envelope before the dataset that has this octet."""
+    """Return for each octet the state of the envelope before the dataset of the octet."""
     envelope, found = Envelope(), []
     while not envelope.is_done:
         before = envelope.copy()
@@ -27,7 +27,7 @@ def fronts(octets: bytes) -> List[Envelope]:
 
 
 def changes(name: str, first: int, end: int, octets: Sequence[int]) -> Iterator[Case]:
-    """Yield a worked envelope with each octet of a part of it changed to each of some octets."""
+    """Yield a worked envelope with each octet of a part replaced by each of these octets."""
     whole = NAMED[name]
     for at, front in [*enumerate(fronts(whole))][first:end]:
         for octet in octets:
@@ -42,7 +42,7 @@ def changes(name: str, first: int, end: int, octets: Sequence[int]) -> Iterator[
 def continued(
     front: str, rest: str, whole: bytes, at: int, limits: Limits = LIMITS
 ) -> Iterator[Case]:
-    """Yield cases that save after a prefix, and continue from the ticket, in both versions."""
+    """Yield cases that save after a prefix and continue from the ticket, in both versions."""
     begun, ended = read(whole[:at], limits), read(whole, limits)
     if begun.refusal:
         return
@@ -159,7 +159,7 @@ def judged(octets: bytes, limits: Limits) -> Case:
 
 
 def small_tickets() -> Iterator[Case]:
-    """Yield small tickets with each octet changed."""
+    """Yield small tickets with one octet changed."""
     whole = ticket(read(SMALLEST[:88])) or b""
     for octets in NEW, ticket(Envelope(), 1) or b"", whole:
         for at in range(len(octets)):
@@ -169,7 +169,7 @@ def small_tickets() -> Iterator[Case]:
 
 
 def texts_up_to(part: int) -> Iterator[List[bytes]]:
-    """Yield the texts of a message in a part: short, longest, and some with an octet too many."""
+    """Yield the texts of a part of a message: short, longest, and some one octet too long."""
     kinds = [(b"A", 8, 1), (b"1", 8, 2), (b"1", 1, 4), (b"A", 8, 5), (b"1", 6, 6)]
     kinds += [(b"i", 64, 7), (b"t", 64, 10)]
     for sizes in [1] * len(kinds), [most for _, most, _ in kinds], [0] * len(kinds):
@@ -181,7 +181,7 @@ def texts_up_to(part: int) -> Iterator[List[bytes]]:
 
 
 def parts_of_message(part: int) -> Iterator[Place]:
-    """Yield states in a subfile and a part of a message, with the edges of what they count."""
+    """Yield states in a subfile and a part of a message, with counters at their bounds."""
     front = tickets.place(read(SMALLEST[:105]))
     for texts in texts_up_to(part):
         for counter in (0, 1, 31, 32, 33) if part in (0, 8, 11) else (0, 1):
@@ -190,7 +190,7 @@ def parts_of_message(part: int) -> Iterator[Place]:
 
 
 def sizes_of(total: int) -> Iterator[Dict[int, int]]:
-    """Yield the numbers of record 7 around the octets of an object so far."""
+    """Yield numbers of record 7 near the number of octets of the object so far."""
     for numbers in (
         {10: 0},
         {10: 1, 90: total},
@@ -202,9 +202,10 @@ def sizes_of(total: int) -> Iterator[Dict[int, int]]:
 
 
 def around(place: Place) -> Iterator[Place]:
-    """Yield a state with the fewest and the most octets that reach it, and with one beyond these.
+    """Yield a state with the least and the greatest number of octets that reach it, and one beyond.
 
-    It is in a subfile. Its end is also in record 9: before the size, in it, and after it.
+    The state is in a subfile. If it is at the end of the object, it is also in record 9: before the
+    size, in the size, and after it.
     """
     least, most = tickets.lengths(place)
     for total in sorted({least, max(0, least - 1), most or least + 500, (most or least) + 1}):
@@ -217,7 +218,7 @@ def around(place: Place) -> Iterator[Place]:
 
 
 def row_case(record: int, dataset: int) -> Case:
-    """Return a case that asks for a row, for each single octet and for lengths at its bounds."""
+    """Return a case that asks for a row, with each single octet, and lengths near its bounds."""
     row, case = rules.row_of(record, dataset), Case(is_new=False)
     if row is None:
         return case.ask(f"row {record} {dataset}", "none")
@@ -237,19 +238,19 @@ def row_case(record: int, dataset: int) -> Case:
 
 
 def yes_of(row: rules.Row, octets: bytes) -> str:
-    """Return whether a row accepts octets, as a reply."""
+    """Return whether a row accepts octets, in the form of a reply."""
     return "yes" if rules.admits(row, octets) else "no"
 
 
 def written(octets: bytes) -> str:
-    """Return octets in a line of a script, after a space, or nothing."""
+    """Return octets as part of a line of a script, after a space, or nothing without octets."""
     return " " + rules.shown(octets) if octets else ""
 
 
 def script_of(
     fields: Sequence[Field], head: Sequence[bytes], lines: Sequence[bytes], trailer: bytes
 ) -> Tuple[bytes, int]:
-    """Return the script of a value, and how many lines it has up to the story."""
+    """Return the script of a value, and the number of its lines before the story."""
     front = [f"{named(*field[:2])}{written(field[2])}" for field in fields]
     front.append("message " + " ".join(part.decode() for part in head[:5]) + written(head[5]))
     front += [f"trailer{written(trailer)}"] if trailer else []

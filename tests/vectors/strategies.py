@@ -1,11 +1,11 @@
-"""Strategies of hypothesis for all that the format has, valid and invalid.
+"""Strategies of hypothesis for all parts of the format, valid and invalid.
 
-Each strategy shrinks to the smallest of its kind: an invalid envelope to a few octets that have one
-thing wrong. What is called *damaged*, *spoiled* or *changed* may still be valid: the rules in
+Each strategy shrinks to its smallest example: an invalid envelope shrinks to a few octets with one
+fault. Results that are called *damaged*, *spoiled* or *changed* may still be valid: the rules in
 tests/rules.py decide. Strategies for saved states are in `vectors.ticket_strategies`.
 
-An envelope is made of few draws, and strategies with parameters are made once (`once`): else most
-of the time would go into making strategies.
+An envelope is made with few draws, and strategies with parameters are made once (`once`), since
+otherwise most of the time would be spent on making strategies.
 """
 from __future__ import annotations
 
@@ -41,23 +41,26 @@ def once(function: Maker) -> Maker:
 
 @once
 def up_to(most: int, least: int = 0) -> SearchStrategy[int]:
-    """Generate a number."""
+    """Generate a number from 0 to a maximum."""
     return st.integers(least, most)
 
 
 def choose(draw: DrawFn, options: Sequence[T]) -> T:
-    """Draw one of the options; it shrinks to the first."""
+    """Draw one of the options. Draws shrink to the first option."""
     return options[draw(up_to(len(options) - 1))]
 
 
 @once
 def fixed(size: int) -> SearchStrategy[bytes]:
-    """Generate N octets, in one draw."""
+    """Generate this number of octets, in one draw."""
     return st.binary(min_size=size, max_size=size)
 
 
 def in_any_order(draw: DrawFn, items: Sequence[T]) -> List[T]:
-    """Draw an order of the items, as the number of a permutation; it shrinks to the given one."""
+    """Draw an order of the items, as the number of a permutation.
+
+    Draws shrink to the given order.
+    """
     left, found = list(items), []
     number = draw(up_to(math.factorial(len(left)) - 1))
     while left:
@@ -68,13 +71,13 @@ def in_any_order(draw: DrawFn, items: Sequence[T]) -> List[T]:
 
 @once
 def table_of(kind: FrozenSet[int]) -> bytes:
-    """Return of each octet one of a kind."""
+    """Return a table that maps each octet to one of a kind."""
     letters = sorted(kind)
     return bytes(letters[octet % len(letters)] for octet in range(256))
 
 
 def draw_octets(draw: DrawFn, kind: Collection[int], least: int, most: int) -> bytes:
-    """Draw octets of a kind: mostly few, sometimes one octet repeated up to the most."""
+    """Draw octets of a kind: mostly few, sometimes one octet repeated up to the maximum."""
     few = min(most, least + 12)
     size = draw(up_to(few + (1 if most > 64 else 3), least))
     if size > few:
@@ -87,23 +90,23 @@ def draw_octets(draw: DrawFn, kind: Collection[int], least: int, most: int) -> b
 @once
 @st.composite
 def octets_of(draw: DrawFn, kind: FrozenSet[int], least: int, most: int) -> bytes:
-    """Generate octets of a kind: mostly few, sometimes one octet repeated up to the most."""
+    """Generate octets of a kind: mostly few, sometimes one octet repeated up to the maximum."""
     return draw_octets(draw, kind, least, most)
 
 
 def rarely(draw: DrawFn, kind: Collection[int], most: int) -> bytes:
-    """Draw nothing, and in a third of the examples octets of a kind."""
+    """Draw nothing, or in a third of the examples octets of a kind."""
     return draw_octets(draw, kind, 0, most) if choose(draw, [False, False, True]) else b""
 
 
 def draw_number(draw: DrawFn, number: int) -> bytes:
-    """Draw a number as 1 to 8 octets: the fewest that hold it, or more."""
+    """Encode a number in 1 to 8 octets: the fewest that hold it, or more."""
     least = max(1, (number.bit_length() + 7) // 8)
     return number.to_bytes(draw(up_to(8, least)), "big")
 
 
 def draw_near(draw: DrawFn, number: int, most: int = 2**64 - 1) -> int:
-    """Draw a number near another, or at a bound."""
+    """Draw a number near another one, or at a bound."""
     bounds = 0, 1, most, GREATEST, GREATEST + 1, 2**32
     others = number - 1, number + 1, number + draw(up_to(100)), *bounds
     return min(most, max(0, choose(draw, others)))
@@ -117,7 +120,7 @@ LIKE_YEARS = [2024, 2023, 2000, 1900, 1, 0, 9999]
 
 @st.composite
 def dates(draw: DrawFn) -> bytes:
-    """Generate a date that there is."""
+    """Generate a date of the calendar."""
     year = choose(draw, [*YEARS, draw(up_to(9999, 1))])
     month = choose(draw, [1, 2, 2, *range(3, 13)])
     day = choose(draw, [1, 28, 29, 30, 31])
@@ -213,13 +216,13 @@ def lines(draw: DrawFn, most: int = 5) -> List[bytes]:
 
 
 def draw_text(draw: DrawFn, found: Sequence[bytes]) -> bytes:
-    """Draw the ends of lines."""
+    """Draw the line ends of lines."""
     return b"".join(line + choose(draw, LINE_ENDS) for line in found[:-1]) + found[-1]
 
 
 @st.composite
 def heads(draw: DrawFn) -> List[bytes]:
-    """Generate the parts of a message's header, the info often empty."""
+    """Generate the parts of a message's header. The info is often empty."""
     parts = (LETTERS, 8), (DIGITS, 8), (DIGITS, 1), (LETTERS | DIGITS, 8), (DIGITS, 6)
     found = [draw_octets(draw, kind, 1, most) for kind, most in parts]
     return [*found, rarely(draw, SPACED, 64)]
@@ -247,7 +250,7 @@ def messages() -> SearchStrategy[bytes]:
 
 @st.composite
 def wrong_messages(draw: DrawFn) -> bytes:
-    """Generate the octets of a message of which one part is replaced."""
+    """Generate the octets of a message with one part replaced."""
     found, at = draw(PARTS), draw(up_to(len(OTHERS) - 1))
     found[at] = choose(draw, OTHERS[at])
     return b"".join(found)
@@ -260,7 +263,7 @@ MESSAGES, WRONG_MESSAGES = PARTS.map(b"".join), wrong_messages()
 
 
 def draw_subfiles(draw: DrawFn, octets: bytes, most: int) -> List[bytes]:
-    """Draw subfiles of at most N octets for an object, some of them empty."""
+    """Draw subfiles of at most this many octets for an object, some of them empty."""
     found: List[bytes] = []
     while octets or not found:
         size = choose(draw, [most, most, 0, draw(up_to(most, 1))]) if len(found) < 20 else most
@@ -326,7 +329,7 @@ def envelopes() -> SearchStrategy[bytes]:
 
 
 def draw_wrong_size(draw: DrawFn, data: bytes) -> bytes:
-    """Draw a number near another, or octets that are no such number."""
+    """Draw a number near another one, or octets that do not encode a number."""
     change = choose(draw, [1, -1, -2, 256, None, None])
     if change is None:
         return choose(draw, [b"\0", b"", b"\0" + data, b"\xff", b"\xff" * 8, b"\xff" * 9])
@@ -343,7 +346,7 @@ def draw_renumbered(draw: DrawFn, field: Field) -> Field:
 
 
 def draw_spoiled(draw: DrawFn, given: Sequence[Field]) -> List[Field]:
-    """Draw datasets of which one is missing, doubled, moved, renumbered or changed."""
+    """Draw datasets with one missing, doubled, moved, renumbered or changed."""
     found = list(given) or [(1, 0, b"\0\4")]
     last, how = len(found) - 1, draw(up_to(5))
     at = draw(up_to(last))
@@ -364,7 +367,7 @@ def draw_spoiled(draw: DrawFn, given: Sequence[Field]) -> List[Field]:
 
 
 def draw_resized(draw: DrawFn, given: Sequence[Field]) -> List[Field]:
-    """Draw datasets of which one is changed that has rules beside those of its row."""
+    """Draw datasets with one changed whose value depends on other datasets."""
     found = list(given)
     special = [at for at, each in enumerate(found) if each[0] in (7, 9) or each[:2] in rules.ASKED]
     at = choose(draw, special)
@@ -374,7 +377,7 @@ def draw_resized(draw: DrawFn, given: Sequence[Field]) -> List[Field]:
 
 
 def draw_damaged(draw: DrawFn, octets: bytes) -> bytes:
-    """Draw octets of which some are replaced, missing, doubled or put in."""
+    """Draw octets with some replaced, removed, doubled or inserted."""
     for _ in range(choose(draw, [1, 1, 1, 2])):
         at = draw(up_to(len(octets)))
         end = min(len(octets), at + choose(draw, [1, 1, 2, 5, draw(up_to(60))]))
@@ -474,12 +477,12 @@ DATED_FIELDS = dated()
 
 
 class Script:
-    """A value to be packed: its datasets, header, lines and trailer."""
+    """A value to pack: its datasets, header, lines and trailer."""
 
     def __init__(
         self, fields: List[Field], head: List[bytes], lines: List[bytes], trailer: bytes
     ) -> None:
-        """Keep the parts of the value."""
+        """Store the parts of the value."""
         self.fields, self.head, self.lines, self.trailer = fields, head, lines, trailer
 
     def __repr__(self) -> str:
@@ -489,6 +492,6 @@ class Script:
 
 @st.composite
 def scripts(draw: DrawFn) -> Script:
-    """Generate a value to be packed."""
+    """Generate a value to pack."""
     fields = draw(datasets_of(1)) + draw(datasets_of(2, 1))
     return Script(fields, draw(HEADS), draw(lines(4)), rarely(draw, TRAILER, 64))

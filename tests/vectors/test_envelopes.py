@@ -34,7 +34,7 @@ def in_chunks(chunks: List[bytes]) -> Case:
 
 
 def outcome(envelope: Envelope) -> str:
-    """Return what became of an envelope: the name of a cause, `done` or `more`."""
+    """Return the result of reading an envelope: the name of a cause, `done` or `more`."""
     return CAUSES[envelope.refusal.cause] if envelope.refusal else envelope.answer().split()[0]
 
 
@@ -115,7 +115,7 @@ def test_continues_random_envelopes(vectors: Vectors, count_cases: CountCases) -
 
 
 def test_holds_limits_at_their_edge(vectors: Vectors, count_cases: CountCases) -> None:
-    """Read envelopes under limits that just suffice, and under limits that are one too low."""
+    """Read envelopes with limits that just suffice, and limits that are one too low."""
     count, reached = 0, collections.Counter[str]()
 
     @examples(100)

@@ -1,4 +1,4 @@
-"""Check the program on tickets that are listed: changed octets, and all parts of a message."""
+"""Check the program on small tickets with changed octets, and on all parts of a message."""
 from __future__ import annotations
 
 from typing import Callable, Iterable
@@ -13,12 +13,12 @@ CheckCases = Callable[[Iterable[Case]], None]
 
 
 def test_judges_each_octet_of_small_tickets(check_cases: CheckCases) -> None:
-    """Restore small tickets of which one octet is changed."""
+    """Restore small tickets with one octet changed."""
     check_cases(small_tickets())
 
 
 @pytest.mark.parametrize("part", range(13))
 def test_judges_each_part_of_a_message(part: int, check_cases: CheckCases) -> None:
-    """Restore each part of a message, with the edges of its counts, flags, texts and sizes."""
+    """Restore each part of a message, with its values near their bounds."""
     states = (state for place in parts_of_message(part) for state in around(place))
     check_cases(judged(spelled(state), LIMITS) for state in states)

@@ -50,7 +50,7 @@ def test_audits_streams(vectors: Vectors, count_cases: CountCases) -> None:
 
 
 def packings(subfile: int, size: int, more: int) -> Iterator[Tuple[str, Optional[str]]]:
-    """Yield what a plan may say of the size, and the cause for which an object does not fit it."""
+    """Yield the plans of the size of an object, each with the cause of its refusal, if any."""
     yield f"known:{size}", None
     yield f"known:{size - 1}", "80 PastAnnounced"
     yield f"known:{size + 1}", "81 ShortOfAnnounced"
@@ -77,7 +77,7 @@ def script_case(script: Script) -> Case:
 
 
 def add_packing(case: Case, script: Script, subfile: int, size: str, fault: Optional[str]) -> None:
-    """Add questions that pack the value of a script, and that unpack it again."""
+    """Add questions that pack the value of a script, and unpack the result."""
     story = rules.object_of(script.head, script.lines, script.trailer)
     most = int(size[8:]) if size.startswith("unknown:") else None
     octets = rules.packed(script.fields, story, subfile, size.startswith("known"), most)
@@ -93,7 +93,7 @@ def add_packing(case: Case, script: Script, subfile: int, size: str, fault: Opti
 
 
 def test_packs_random_values(vectors: Vectors, count_cases: CountCases) -> None:
-    """Pack values with each plan that suits them, and reject those that do not."""
+    """Pack values with each plan that fits them, and reject the other plans."""
     count = 0
     subfiles = st.sampled_from([1024, 1, 7, None, 2**40, rules.GREATEST])
 

@@ -12,7 +12,7 @@ CheckCases = Callable[[Iterable[Case]], None]
 
 
 def test_names_each_cause(check_cases: CheckCases) -> None:
-    """Ask for the causes of an unpacker, each as its layer prints it; of sizes; of a packer."""
+    """Ask for the name of each cause: of an unpacker, of a size, and of a packer."""
     case = Case(is_new=False).ask("layers", *rules.LAYERS)
     causes = rules.named_causes(*sorted([*rules.CAUSES, 60]))
     case.ask("causes", *(f"{named}: {named}" for named in causes))
@@ -22,5 +22,5 @@ def test_names_each_cause(check_cases: CheckCases) -> None:
 
 @pytest.mark.parametrize("record", range(11))
 def test_knows_each_row(record: int, check_cases: CheckCases) -> None:
-    """Ask for all 256 rows of a record, each with single octets, and lengths at its bounds."""
+    """Ask for all 256 rows of a record, each with single octets and lengths near its bounds."""
     check_cases(row_case(record, dataset) for dataset in range(256))

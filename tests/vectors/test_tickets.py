@@ -19,7 +19,7 @@ LIMITED = {"50 HeaderFull", "51 TooManyFields"}
 
 
 def test_judges_changed_tickets(vectors: Vectors, count_cases: CountCases) -> None:
-    """Restore tickets of which a few octets are changed, missing or added."""
+    """Restore tickets with a few octets changed, removed or added."""
     count, reached = 0, collections.Counter[str]()
 
     @examples(400)
@@ -37,7 +37,7 @@ def test_judges_changed_tickets(vectors: Vectors, count_cases: CountCases) -> No
 
 
 def test_judges_changed_places(vectors: Vectors, count_cases: CountCases) -> None:
-    """Restore states of which a few parts are changed, as tickets of both versions."""
+    """Restore states with a few parts changed, as tickets of both versions."""
     count, reached = 0, collections.Counter[str]()
 
     @examples(700)

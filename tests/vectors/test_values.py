@@ -31,7 +31,7 @@ KEYS = [key for key in ROWS if key[0] in (1, 2)]
 def test_admits_random_values(
     key: Tuple[int, int], vectors: Vectors, count_cases: CountCases
 ) -> None:
-    """Ask whether a row accepts values that are valid, and some that are not."""
+    """Ask whether a row accepts a value, for valid and some invalid values."""
     count, row = 0, ROWS[key]
 
     @examples(25)
@@ -61,7 +61,7 @@ def date_case(date: bytes, time: bytes) -> Case:
 
 
 def test_reads_dates_at_the_edges(program: Path, count_cases: CountCases) -> None:
-    """Read all dates of some years, months and days that are first or last, or beyond."""
+    """Read all dates with the first or last years, months and days, and beyond."""
     dates = itertools.product(LIKE_YEARS, (0, 1, 2, 4, 11, 12, 13), (0, 1, 28, 29, 30, 31, 32))
     octets = [b"%04d%02d%02d" % date for date in dates]
     times_of_day = b"000000+0000", b"235959-2359", b"000000+0001", b"240000+0000"
@@ -71,7 +71,7 @@ def test_reads_dates_at_the_edges(program: Path, count_cases: CountCases) -> Non
 
 
 def test_reads_dates_and_instants(vectors: Vectors, count_cases: CountCases) -> None:
-    """Read dates and times, and what looks like one."""
+    """Read dates and times, and octets that look similar."""
     count = 0
 
     @examples(200)
@@ -86,7 +86,7 @@ def test_reads_dates_and_instants(vectors: Vectors, count_cases: CountCases) -> 
 
 
 def test_reads_numbers(vectors: Vectors, count_cases: CountCases) -> None:
-    """Read numbers of any length, and what is too short or too long for one."""
+    """Read numbers of any length, and octets that are too short or too long."""
     count, fronts = 0, st.builds(
         bytes.__mul__, st.sampled_from([b"\0", b"\xff"]), st.integers(0, 9)
     )
@@ -122,7 +122,7 @@ def test_writes_heads(vectors: Vectors, count_cases: CountCases) -> None:
 
 
 def test_counts_words(vectors: Vectors, count_cases: CountCases) -> None:
-    """Count the words of lines, whatever their ends are."""
+    """Count the words of lines, with all forms of line ends."""
     count = 0
 
     @examples(120)

@@ -1,4 +1,4 @@
-"""Check the independent reading of the rules against envelopes that were worked out by hand."""
+"""Check the test oracle with envelopes that were worked out by hand."""
 from __future__ import annotations
 
 from typing import Callable, Iterable, Tuple
@@ -11,7 +11,7 @@ Rows = Callable[[], Iterable[Tuple[object, object]]]
 
 @pytest.mark.parametrize("rows", worked.GROUPS, ids=[group.__name__ for group in worked.GROUPS])
 def test_agrees_with_worked_envelopes(rows: Rows, count_cases: Callable[[int], None]) -> None:
-    """Compare what the rules say with what is right."""
+    """Compare the result of the rules with the correct result."""
     found = list(rows())
     assert [got for got, _ in found] == [want for _, want in found]
     count_cases(len(found))

@@ -24,7 +24,7 @@ def parts() -> Iterator[Tuple[str, int]]:
 
 @pytest.mark.parametrize("name, first", parts())
 def test_changes_each_octet(name: str, first: int, check_cases: CheckCases) -> None:
-    """Change each octet to each other one; in the varied envelope to those of MARKS."""
+    """Replace each octet by each other octet, in the varied envelope only by those of MARKS."""
     octets: Sequence[int] = sorted(MARKS) if name == "varied" else range(256)
     check_cases(changes(name, first, first + PART, octets))
 
@@ -63,5 +63,5 @@ def test_cuts_the_worked_envelopes(check_cases: CheckCases) -> None:
 
 
 def test_refuses_one_subfile_too_many(check_cases: CheckCases) -> None:
-    """Begin a subfile after a ticket with as many subfiles as there may be."""
+    """Begin a subfile after a ticket with the maximum number of subfiles."""
     check_cases([one_subfile_too_many()])

@@ -1,4 +1,4 @@
-"""Strategies of hypothesis for saved states, and for tickets, changed in places."""
+"""Strategies of hypothesis for saved states, and for tickets that are changed in places."""
 from __future__ import annotations
 
 from typing import Any, Callable, Dict, Tuple
@@ -33,14 +33,14 @@ WORKED = SMALLEST, STORY, VARIED
 
 
 def draw_begun(draw: DrawFn) -> Envelope:
-    """Draw an envelope up to some octet, often inside records 7 to 9."""
+    """Draw an incomplete envelope, which often ends inside records 7 to 9."""
     whole = choose(draw, [*WORKED, *WORKED, b""]) or draw(ENVELOPES)
     least = choose(draw, [whole.index(b"\x1c\x07"), 0])
     return read(whole[: draw(up_to(len(whole), least))])
 
 
 def draw_changed(draw: DrawFn, octets: bytes) -> bytes:
-    """Draw octets of which one is changed, or which are cut short, or longer."""
+    """Draw octets with one changed, or some cut off or added at the end."""
     at, how = draw(up_to(len(octets) - 1)), draw(up_to(7))
     if how >= 6:
         return octets[:at] if how == 6 else octets + b"\0"
@@ -61,14 +61,14 @@ def changed_tickets(draw: DrawFn) -> bytes:
 
 
 def move_counter(draw: DrawFn, place: Place) -> Place:
-    """Draw another counter, whose octets may be counted in the object, too."""
+    """Draw another counter. The total of the object may include the difference."""
     counter = choose(draw, [0, 1, 2, 30, 31, 32, 33, 255])
     more = choose(draw, [counter - place.counter, counter - place.counter, 0])
     return place._replace(counter=counter, total=max(0, place.total + more))
 
 
 def move_begun(draw: DrawFn, place: Place) -> Place:
-    """Draw another partial dataset, or another partial tag otherwise."""
+    """Draw another partial dataset, or another partial tag if there is none."""
     if place.begun is None:
         tag = draw_changed(draw, place.tag + b"\x1c")[:12]
         return place._replace(tag=tag) if place.phase == 0 else place
@@ -121,7 +121,7 @@ MOVES: Dict[str, Callable[[DrawFn, Place], Place]] = {
 
 
 def draw_moved(draw: DrawFn, place: Place) -> Place:
-    """Draw a state with one of its parts changed."""
+    """Draw a state with one part changed."""
     how = choose(draw, PARTS)
     if how in MOVES:
         return MOVES[how](draw, place)
@@ -132,7 +132,7 @@ def draw_moved(draw: DrawFn, place: Place) -> Place:
 
 @st.composite
 def changed_states(draw: DrawFn) -> Tuple[Place, Tuple[int, int]]:
-    """Generate a state of which one or two parts are changed, and limits around what it has."""
+    """Generate a state with one or two parts changed, and limits near its contents."""
     envelope = draw_begun(draw)
     place = tickets.place(envelope)
     for _ in range(choose(draw, [1, 1, 1, 2])):
@@ -144,6 +144,6 @@ def changed_states(draw: DrawFn) -> Tuple[Place, Tuple[int, int]]:
 
 @st.composite
 def totals(draw: DrawFn) -> int:
-    """Generate a count of a tag: of two octets, of four or of eight."""
+    """Generate a count for a tag of two, four or eight octets."""
     edges = [0, 0x7FFF, 0x8000, 2**32 - 1, 2**32, rules.GREATEST]
     return choose(draw, [*edges, draw(up_to(0xFFFF)), draw(up_to(rules.GREATEST))])

@@ -2,12 +2,16 @@
 from __future__ import annotations
 
 import contextlib
+import io
 import itertools
 import json
+import os
 import random
+import signal
 import sqlite3
 import subprocess
 import sys
+import tempfile
 import threading
 from pathlib import Path
 from typing import Any, Dict, Iterator, List, Optional, Sequence, Tuple
@@ -86,6 +90,45 @@ def in_program(text: str, words: Sequence[Name]) -> Tuple[int, List[Row], str]:
     program = [sys.executable, "-c", MAIN.format(text), "--now", NOW, *words]
     status, output, errors = run(program, env=unmeasured())
     return status, [json.loads(line) for line in output.splitlines()], errors.decode()
+
+
+def called(*words: Name) -> Tuple[int, str, str]:
+    """Run iim-archive in this process, and return the status, the output and the errors.
+
+    It takes a third of a second less than a process of its own.
+    """
+    from iim.archive import program
+
+    handlers = {each: signal.getsignal(each) for each in (signal.SIGINT, signal.SIGTERM)}
+    errors = io.StringIO()
+    with tempfile.TemporaryFile() as output:
+        try:
+            with open(output.fileno(), "w", closefd=False) as out:
+                with contextlib.redirect_stdout(out), contextlib.redirect_stderr(errors):
+                    try:
+                        status = program.main([str(word) for word in words])
+                    except SystemExit as end:
+                        status = int(end.code or 0)
+        finally:
+            for each, handler in handlers.items():
+                signal.signal(each, handler)
+        output.seek(0)
+        return status, output.read().decode("utf-8", "surrogateescape"), errors.getvalue()
+
+
+def rows_called(*words: Name) -> List[Row]:
+    """Run iim-archive in this process, and return its lines. It must print no error."""
+    _, output, errors = called(*words)
+    assert errors == "", errors
+    return [json.loads(line) for line in output.splitlines()]
+
+
+def flip(path: str, at: int = 60) -> None:
+    """Change a byte of a file, which keeps its size and time."""
+    there, octets = os.stat(path), bytearray(octets_of(path))
+    octets[at] ^= 1
+    Path(path).write_bytes(octets)
+    os.utime(path, ns=(there.st_atime_ns, there.st_mtime_ns))
 
 
 def failing(
@@ -200,7 +243,7 @@ def expect_one_lost(got: Audited, folder: str) -> None:
     assert [row["file"] for row in rows] == files_in(folder)
     lost = [{"file": f"{folder}/0017poison.iim", "failed": "its worker was lost"}]
     assert [row for row in rows if "failed" in row] == lost
-    counts = {"repeated": 38, "held": 0, "refused": 0, "empty": 0, "failed": 1}
+    counts = {"repeated": 38, "held": 0, "refused": 0, "empty": 0, "failed": 1, "linked": 0}
     assert sums == {"files": 40, "envelopes": 39, **counts}
 
 

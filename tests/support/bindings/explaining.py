@@ -40,16 +40,24 @@ class Held:
         """Return the bytes at an offset."""
         return self._octets[at : at + count]
 
+    def read_into(self, at: int, buffer: memoryview) -> int:
+        """Copy the bytes at an offset into a buffer, and return their number."""
+        piece = self.take(at, len(buffer))
+        buffer[: len(piece)] = piece
+        return len(piece)
+
 
 def case_of(
     octets: bytes,
     limits: iim.Limits = iim.WIRE,
     wanted: Optional[int] = None,
     name: str = "held.iim",
+    shows_all: bool = False,
+    encoding: Optional[str] = None,
 ) -> Case:
     """Return the explanation of an input."""
     held: Any = Held(octets, name)
-    return Case(held, limits, wanted)
+    return Case(held, limits, wanted, shows_all=shows_all, encoding=encoding)
 
 
 def text_told(case: Case) -> str:

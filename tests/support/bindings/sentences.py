@@ -1,0 +1,360 @@
+"""Parse the sentences and rows of an explanation, and compute their numbers from the file."""
+from __future__ import annotations
+
+import re
+from typing import Dict, Iterator, List, NamedTuple, Set
+
+import rules
+from iim.explain.words import NAMED
+
+CODES = {name: octet for octet, name in NAMED.items()}
+
+
+class Told(NamedTuple):
+    """What is compared.
+
+    Attributes:
+        what: The sentence or row.
+        printed: Its numbers.
+        computed: The same numbers, from the file.
+    """
+
+    what: str
+    printed: object
+    computed: object
+
+
+def number(text: str) -> int:
+    """Return a printed number."""
+    return int(text.replace(",", ""))
+
+
+class File(NamedTuple):
+    """A file and the rejected envelope in it.
+
+    Attributes:
+        octets: The bytes of the file.
+        at: The offset of the rejected envelope.
+        nth: Its number.
+        octet: The offset of the rejected byte in it.
+    """
+
+    octets: bytes
+    at: int
+    nth: int
+    octet: int
+
+    @property
+    def own(self) -> bytes:
+        """The bytes from the envelope on."""
+        return self.octets[self.at :]
+
+
+def file_of(octets: bytes) -> File:
+    """Return a file with its rejected envelope, by the test oracle."""
+    at, nth = 0, 1
+    while True:
+        read = rules.read(octets[at:])
+        if not read.is_done:
+            octet = read.refusal.octet if read.refusal else len(octets) - at
+            return File(octets, at, nth, octet)
+        at, nth = at + read.at, nth + 1
+
+
+def accepted(octets: bytes) -> bool:
+    """Check whether the first envelope of some bytes is accepted, by the test oracle."""
+    return rules.read(octets).is_done
+
+
+def valid(octets: bytes) -> int:
+    """Return the offset up to which the first envelope of some bytes is valid."""
+    read = rules.read(octets)
+    return read.refusal.octet if read.refusal else read.at
+
+
+# --- Where and why
+
+
+def where(file: File, text: str) -> Iterator[Told]:
+    """Yield the numbers of the position."""
+    found = re.search(
+        r"ctet ([\d,]+) of envelope ([\d,]+), which is octet ([\d,]+) of the file"
+        r" \(hexadecimal ([0-9A-F]+)\)",
+        text,
+    )
+    assert found, text
+    printed = number(found[1]), number(found[2]), number(found[3]), int(found[4], 16)
+    in_file = file.at + file.octet
+    yield Told(found[0], printed, (file.octet, file.nth, in_file, in_file))
+    here = re.search(r"It is in (\d):(\d\d+)[^;]*, which begins at ([\d,]+); it has ([\d,]+)", text)
+    if here is None:
+        return
+    begin, count = number(here[3]), number(here[4])
+    tag = file.own[begin : begin + 13]
+    head = 5 + (tag[4] if tag[3] == 0x80 else 0)
+    size = int.from_bytes(tag[5:head] or tag[3:5], "big")
+    yield Told(here[0], (int(here[1]), int(here[2]), count), (tag[1], tag[2], size))
+    after = re.search(r"That is in its (data|head), after ([\d,]+) octets? of it\.", text)
+    assert after, text
+    received = file.octet - begin - (head if after[1] == "data" else 0)
+    yield Told(after[0], number(after[2]), received)
+
+
+def values(file: File, text: str) -> Iterator[Told]:
+    """Yield the numbers of an invalid value and of its count."""
+    here = re.search(r"It is in (\d):(\d\d+)[^;]*, which begins at ([\d,]+); it has ([\d,]+)", text)
+    if here is None:
+        return
+    key, begin, size = (int(here[1]), int(here[2])), number(here[3]), number(here[4])
+    row = rules.row_of(*key)
+    count = re.search(
+        r"Its count is ([\d,]+); the valid (size is|sizes are) ([\d,]+)( to )?([\d,]+)?", text
+    )
+    if count and row:
+        printed = number(count[1]), number(count[3]), number(count[5] or count[3])
+        yield Told(count[0], printed, (size, row.least, row.most))
+    tag = file.own[begin : begin + 5]
+    head = 5 + (tag[4] if tag[3] == 0x80 else 0)
+    value = file.own[begin + head : begin + head + size]
+    raw = re.search(r"It is ((?:[0-9A-F]{2} ?)+)( ?\.\.\.)?, '", text)
+    if raw:
+        printed_octets = bytes.fromhex(raw[1])
+        yield Told(raw[0], printed_octets, value[:16])
+    bad = re.search(r"Invalid: ((?:octet [\d,]+ \([^)]+\)(?:, )?)+)", text)
+    if bad and row:
+        for at, name in re.findall(r"octet ([\d,]+) \(([^)]+\)?)\)", bad[1]):
+            octet = file.own[number(at)]
+            is_valid = rules.KINDS[row.kind](bytes([octet]) * max(row.least, 1))
+            yield Told(bad[0], (octets_named(name), False), ({octet}, is_valid))
+
+
+# --- What to do
+
+
+def octets_named(text: str) -> Set[int]:
+    """Return the bytes that a list of names has."""
+    if text.startswith("any octet"):
+        rest = text.partition(" except ")[2]
+        return set(range(256)) - (octets_named(rest) if rest else set())
+    found: Set[int] = set()
+    for part in re.split(r", | or ", text):
+        span = re.fullmatch(r"(?:octets|the digits) (\w+) to (\w+)", part)
+        if part in ("a digit", "a letter", "a capital letter", "a small letter"):
+            kinds: Dict[str, str] = {
+                "a digit": r"[0-9]",
+                "a letter": r"[A-Za-z]",
+                "a capital letter": r"[A-Z]",
+                "a small letter": r"[a-z]",
+            }
+            found |= {octet for octet in range(128) if re.match(kinds[part], chr(octet))}
+        elif span and part.startswith("octets"):
+            found |= set(range(int(span[1], 16), int(span[2], 16) + 1))
+        elif span:
+            found |= set(range(ord(span[1]), ord(span[2]) + 1))
+        elif part in CODES:
+            found.add(CODES[part])
+        elif re.fullmatch(r"'.'", part):
+            found.add(ord(part[1]))
+        elif part != "no octet":
+            found.add(int(part, 16))
+    return found
+
+
+FIX = re.compile(
+    r"\d+\. Octet ([\d,]+) \(now (.+?)\) as (.*?)(, a count of ([\d,]+)(?: (to|or) ([\d,]+))*[^:]*"
+    r"for [^:]*\d:.*?|, the (?:tag marker|record|count) of the dataset at [\d,]+|, dataset .*?)?:"
+    r" (the envelope is accepted|it is valid up to octet ([\d,]+))\."
+)
+
+
+def single_bytes(file: File, text: str) -> Iterator[Told]:
+    """Yield the results of the single-byte changes."""
+    for found in FIX.finditer(text):
+        at = number(found[1])
+        yield Told(found[0], octets_named(found[2]), {file.own[at]})
+        if found[3].startswith("one of "):
+            continue
+        octets = sorted(octets_named(found[3]))
+        changed = [file.own[:at] + bytes([octet]) + file.own[at + 1 :] for octet in octets[:3]]
+        if found[9] is None:
+            yield Told(found[0], [True] * len(changed), [accepted(each) for each in changed])
+        else:
+            reached = max(
+                valid(file.own[:at] + bytes([octet]) + file.own[at + 1 :]) for octet in octets
+            )
+            yield Told(found[0], number(found[9]), reached)
+        if found[4] and "a count of" in found[4]:
+            counts = [(file.own[at - 1] << 8) + octet for octet in octets]
+            ends = [number(found[5]), number(found[7] or found[5])]
+            yield Told(found[0], ends, [counts[0], counts[-1]])
+
+
+def places(file: File, text: str) -> Iterator[Told]:
+    """Yield the numbers of lost, added and zeroed bytes."""
+    own = file.own
+    for found in re.finditer(
+        r"at ([\d,]+) is ([\d,]+) octets? (shorter|longer) than it counts \(([\d,]+)\)", text
+    ):
+        at, count, size = number(found[1]), number(found[2]), number(found[4])
+        end = at + 5 + size + (count if found[3] == "longer" else -count)
+        read = int.from_bytes(own[at + 3 : at + 5], "big"), own[end : end + 1]
+        yield Told(found[0], (size, b"\x1c"), read)
+    for found in re.finditer(
+        r"ctets ([\d,]+) to ([\d,]+) are NUL, a hole of ([\d,]+) octets", text
+    ):
+        first, last, count = number(found[1]), number(found[2]), number(found[3])
+        hole = own[first : last + 1]
+        around = own[first - 1 : first] != b"\0" and own[last + 1 : last + 2] != b"\0"
+        yield Told(found[0], (count, b"\0" * count, True), (len(hole), hole, around))
+    for found in re.finditer(
+        r"With ([^.]+?) inserted before (?:one of the octets ([\d,]+) to ([\d,]+)|octet ([\d,]+))"
+        r" the envelope is accepted",
+        text,
+    ):
+        for at in (number(each) for each in found.groups()[1:] if each):
+            fits = [own[:at] + bytes([octet]) + own[at:] for octet in octets_named(found[1])]
+            yield Told(found[0], True, any(map(accepted, fits)))
+    for found in re.finditer(
+        r"Without (?:one of the octets ([\d,]+) to ([\d,]+)|octet ([\d,]+)) \(([^)]+)\) the env",
+        text,
+    ):
+        for at in (number(each) for each in found.groups()[:3] if each):
+            rest = own[:at] + own[at + 1 :]
+            yield Told(found[0], (True, True), (accepted(rest), own[at] in octets_named(found[4])))
+    for found in re.finditer(r"with the tag of 8:10 Subfile put in at ([\d,]+)", text):
+        at = number(found[1])
+        before = own[:at].rindex(b"\x1c\x08\x0a")
+        end = before + 5 + int.from_bytes(own[before + 3 : before + 5], "big")
+        yield Told(found[0], at, end)
+
+
+def ends(file: File, text: str) -> Iterator[Told]:
+    """Yield the numbers of what is missing or left over."""
+    own = file.own
+    found = re.search(
+        r"The count of \d:\d+[^.]*? at ([\d,]+) is ([\d,]+) octets?, .*?: ([\d,]+) (is|are)", text
+    )
+    if found:
+        at, size, missing = number(found[1]), number(found[2]), number(found[3])
+        read = int.from_bytes(own[at + 3 : at + 5], "big")
+        yield Told(found[0], (size, missing), (read, at + 5 + read - len(own)))
+    found = re.search(
+        r"7:90 announces ([\d,]+) octets of the object, and ([\d,]+) were received: ([\d,]+)", text
+    )
+    if found:
+        read_so_far = rules.read(own)
+        announced = read_so_far.numbers[90]
+        total = read_so_far.total
+        numbers = number(found[1]), number(found[2]), number(found[3])
+        yield Told(found[0], numbers, (announced, total, announced - total))
+    found = re.search(
+        r"without the last ([\d,]+) octets?(, all (\S+))?, the file is accepted", text
+    )
+    if found:
+        rest = file.octets[-number(found[1]) :]
+        yield Told(found[0], number(found[1]), len(own))
+        if found[2]:
+            yield Told(found[0], octets_named(found[3]), set(rest))
+    found = re.search(r"Without octets ([\d,]+) to ([\d,]+) of the file \(([\d,]+) octets?,", text)
+    if found:
+        first, last, count = (number(found[nth]) for nth in (1, 2, 3))
+        yield Told(found[0], (count, True), (last + 1 - first, accepted(file.octets[last + 1 :])))
+        yield Told(found[0], first, file.at)
+
+
+def asked(file: File, text: str) -> Iterator[Told]:
+    """Yield the parts of the sentence on which envelope to ask for again."""
+    found = re.search(r"Ask (\S+) for (\d{8}) of (\d{8}) again\.", text)
+    if found:
+        fields = rules.read(file.own[: file.octet]).fields
+        parts = [rules.first(fields, 1, each) for each in (30, 40, 70)]
+        printed: List[object] = [found[1].encode(), found[2].encode(), found[3].encode()]
+        yield Told(found[0], printed, parts)
+
+
+def sizes(file: File, text: str) -> Iterator[Told]:
+    """Yield the sizes of the object."""
+    found = re.search(
+        r"Sizes: (?:([\d,]+) announced \(7:90\)|no size is announced)"
+        r"(?:, at most ([\d,]+) \(7:95\))?;"
+        r" ([\d,]+) octets? in ([\d,]+) subfiles? of at most ([\d,]+) \(7:20\)\.",
+        text,
+    )
+    if found is None:
+        return
+    read = rules.read(file.own[: file.octet])
+    numbers = [None if part is None else number(part) for part in found.groups()]
+    computed = [read.numbers.get(90), read.numbers.get(95), read.total, read.subfiles]
+    yield Told(found[0], numbers, [*computed, read.numbers.get(20, 0)])
+    differ = re.search(r"The received and the announced size differ by ([\d,]+)\.", text)
+    if differ:
+        yield Told(differ[0], number(differ[1]), abs(read.numbers[90] - read.total))
+    confirms = re.search(r"9:10 confirms ([\d,]+)\.", text)
+    if confirms:
+        at = file.own.rindex(b"\x1c\x09\x0a", 0, file.octet + 1)
+        size = int.from_bytes(file.own[at + 3 : at + 5], "big")
+        value = int.from_bytes(file.own[at + 5 : at + 5 + size], "big")
+        yield Told(confirms[0], number(confirms[1]), value)
+
+
+def instants(file: File, text: str) -> Iterator[Told]:
+    """Yield the instants of an envelope."""
+    fields = rules.read(file.own[: file.octet]).fields
+    for words, record, date, time, default in (
+        ("Sent", 1, 70, 80, None),
+        ("Released at", 2, 30, 35, b"000000+0000"),
+        ("Expires after", 2, 37, 38, b"235959+0000"),
+    ):
+        found = re.search(rf"{words} (\d{{4}}-\d\d-\d\dT\d\d:\d\d:\d\dZ)\.", text)
+        day, clock = (rules.first(fields, record, each) for each in (date, time))
+        clock = clock or default
+        computed = None
+        if day is not None and clock is not None:
+            instant = rules.instant_of(day, clock)
+            computed = None if instant is None else rules.instant_text(instant)
+        yield Told(words, found and found[1], computed)
+
+
+# --- Rows
+
+
+def dumps(file: File, text: str) -> Iterator[Told]:
+    """Yield the rows of the hexadecimal dump: bytes, their text and the mark."""
+    for row in re.findall(r"^  [0-9A-F]{8} .*$", text, re.M):
+        at = int(row[2:10], 16)
+        octets = file.octets[at : at + 16]
+        cells = re.findall(r"[0-9A-F]{2}", row[11:60])
+        plain = "".join(chr(octet) if 32 <= octet < 127 else "." for octet in octets)
+        yield Told(
+            row,
+            (cells, row[61:]),
+            ([f"{octet:02X}" for octet in octets], plain),
+        )
+        if "[" in row[10:60]:
+            mark = at + (row.index("[", 10) - 11) // 3
+            yield Told(row, mark, file.at + file.octet)
+
+
+def items(file: File, text: str) -> Iterator[Told]:
+    """Yield the rows of the rejected envelope: the offset and the size of each dataset."""
+    listed = text.rpartition(f"ENVELOPE {file.nth:,}  at octet {file.at:,}")[2]
+    rows = re.findall(r"^ +([\d,]+)  (\d):(\d\d+)[^\n]*?, ([\d,]+)(?: |$)", listed, re.M)
+    for at, record, dataset, size in rows:
+        tag = file.own[number(at) : number(at) + 13]
+        head = 5 + (tag[4] if tag[3:4] == b"\x80" else 0)
+        count = int.from_bytes(tag[5:head] or tag[3:5], "big")
+        printed = int(record), int(dataset), number(size)
+        yield Told(f"{at} {record}:{dataset}", printed, (tag[1], tag[2], count))
+
+
+ALL = (where, values, single_bytes, places, ends, asked, sizes, instants)
+
+
+def told(octets: bytes, text: str) -> Iterator[Told]:
+    """Yield all numbers of an explanation."""
+    file = file_of(octets)
+    plain = re.sub(r"\s+", " ", text)
+    for each in ALL:
+        yield from each(file, plain)
+    for rows in (dumps, items):
+        yield from rows(file, text)
