@@ -38,7 +38,7 @@ add_module_names = False
 # Types of the standard libraries, and private names in annotations.
 nitpick_ignore_regex = [
     ("c:identifier", r"u?int\d+_t|size_t|bool|uint8_t"),
-    ("py:class", r"iim\.streams\.Item"),
+    ("py:class", r"iim\.streams\.Item|iim\.receiver\.Sentinel"),
     ("py:.*", r"(typing|datetime|os|io|ctypes|threading)\..*|[a-z]+|_\w+|.*\._\w+"),
 ]
 
