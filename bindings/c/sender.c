@@ -5,7 +5,7 @@
  *
  * A receiver sends the offset to continue at, as decimal digits and LF, and gets the envelopes, one
  * after another, from that byte on. With PORT 0 the system chooses the port, which is printed. The
- * program ends when a receiver has got everything.
+ * program serves one receiver after another until a signal ends it.
  *
  * Exit status: 0, 1 if a script is rejected, 3 if a file, the connection or an allocation fails.
  */

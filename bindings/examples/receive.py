@@ -37,14 +37,12 @@ def receiver_of(state: Path) -> iim.Receiver:
         return iim.Receiver()
 
 
-def receive(connection: socket.socket, directory: Path) -> None:
-    """Receive all envelopes of a connection."""
-    receiver = receiver_of(directory / "state")
-    connection.sendall(receiver.offset.to_bytes(8, "big"))
+def store(connection: socket.socket, receiver: iim.Receiver, directory: Path) -> int:
+    """Store the envelopes of a connection, and return the offset up to which they are valid."""
     while True:
         chunk = connection.recv(65_536)
         if not chunk:
-            break
+            return receiver.offset
         receiver.receive_data(chunk)
         event = receiver.next_event()
         while isinstance(event, iim.Envelope):
@@ -52,10 +50,18 @@ def receive(connection: socket.socket, directory: Path) -> None:
             event = receiver.next_event()
         if isinstance(event, iim.RefusedError):
             print(event, file=sys.stderr, flush=True)
-            connection.sendall(event.octet_in_file.to_bytes(8, "big"))
-            return
+            return event.octet_in_file
         replace(directory / "state", receiver.save(story=True))
+
+
+def receive(connection: socket.socket, directory: Path) -> None:
+    """Receive all envelopes of a connection."""
+    receiver = receiver_of(directory / "state")
     connection.sendall(receiver.offset.to_bytes(8, "big"))
+    connection.sendall(store(connection, receiver, directory).to_bytes(8, "big"))
+    # (a connection that is closed before all its bytes are read is reset, and the offset is lost)
+    while connection.recv(65_536):
+        pass
 
 
 def main() -> None:

@@ -10,6 +10,7 @@ import socket
 import sys
 import time
 from pathlib import Path
+from typing import BinaryIO
 
 SECONDS = 60
 
@@ -26,9 +27,9 @@ def connect(port: int) -> socket.socket:
             time.sleep(0.05)
 
 
-def offset_from(connection: socket.socket) -> int:
-    """Return the offset that the receiver sends. Raise `ConnectionError` if it is lost."""
-    octets = connection.recv(8, socket.MSG_WAITALL)
+def offset_from(replies: BinaryIO) -> int:
+    """Return the next offset that the receiver sends. Raise `ConnectionError` if it is lost."""
+    octets = replies.read(8)
     if len(octets) < 8:
         raise ConnectionResetError("the receiver is lost")
     return int.from_bytes(octets, "big")
@@ -36,11 +37,11 @@ def offset_from(connection: socket.socket) -> int:
 
 def send(port: int, path: Path) -> int:
     """Send what the receiver does not have, and return the offset up to which it accepts it."""
-    with connect(port) as connection, path.open("rb") as file:
-        file.seek(offset_from(connection))
-        connection.sendfile(file)
+    with connect(port) as connection, connection.makefile("rb") as replies, path.open("rb") as file:
+        # (`sendfile` begins at the offset that it is given, wherever the file is)
+        connection.sendfile(file, offset_from(replies))
         connection.shutdown(socket.SHUT_WR)
-        return offset_from(connection)
+        return offset_from(replies)
 
 
 def main() -> None:

@@ -5,6 +5,7 @@ import json
 import random
 import re
 import signal
+import socket
 import subprocess
 import sys
 import time
@@ -24,6 +25,8 @@ FIELDS += [(1, 40, b"00000003"), (1, 70, b"20240301"), (2, 0, b"\0\4")]
 HEAD = [b"X", b"1", b"4", b"N", b"0", b""]
 LONG = rules.packed(FIELDS, rules.object_of(HEAD, LINES, b""), 1_000)
 STREAM = (SMALLEST * 40 + STORY + LONG) * 4
+# More than the buffers of two sockets have room for.
+MUCH = SMALLEST * 200_000
 
 
 class Receiving:
@@ -31,7 +34,7 @@ class Receiving:
 
     def __init__(self, folder: Path) -> None:
         """Start it on a free port."""
-        self.folder, self.port = folder, 0
+        self.folder, self.port, self.errors = folder, 0, ""
         self.start()
 
     def start(self) -> None:
@@ -49,15 +52,26 @@ class Receiving:
         self.port = int(found[1])
 
     def kill(self) -> str:
-        """Kill it, and return what it has printed on standard error."""
+        """Kill it, and return what it has printed on standard error since its first start."""
         self.process.send_signal(signal.SIGKILL)
-        return self.process.communicate(timeout=SECONDS)[1]
+        self.errors += self.process.communicate(timeout=SECONDS)[1]
+        return self.errors
 
 
 def sending(port: int, path: Path) -> "subprocess.Popen[str]":
     """Start to send a file."""
     words = [sys.executable, str(HERE / "send.py"), str(port), str(path)]
     return subprocess.Popen(words, stderr=subprocess.PIPE, text=True)
+
+
+def accepted(port: int, octets: bytes) -> Tuple[int, int]:
+    """Send bytes to the receiver, and return the offsets that it sends before and after them."""
+    with socket.create_connection(("127.0.0.1", port), timeout=SECONDS) as connection:
+        with connection.makefile("rb") as replies:
+            first = int.from_bytes(replies.read(8), "big")
+            connection.sendall(octets)
+            connection.shutdown(socket.SHUT_WR)
+            return first, int.from_bytes(replies.read(8), "big")
 
 
 def stored(folder: Path) -> List[Tuple[int, int, int, int]]:
@@ -88,10 +102,63 @@ def test_loses_nothing_when_it_is_killed(library: Path, tmp_path: Path, seed: in
             receiver.kill()
             receiver.start()
             kills += 1
-    errors = sender.communicate(timeout=SECONDS)[1]
-    receiver.kill()
+    errors = sender.communicate(timeout=SECONDS)[1] + receiver.kill()
     assert (sender.returncode, kills > 0) == (0, True), errors
     assert stored(receiver.folder) == expected()
+
+
+@pytest.mark.parametrize("offset", [1, 59_393, 256_001, 321_537, len(STREAM) - 1])
+def test_continues_at_the_byte_of_the_receiver(library: Path, tmp_path: Path, offset: int) -> None:
+    path = tmp_path / "stream.iim"
+    path.write_bytes(STREAM)
+    receiver = Receiving(tmp_path / "stored")
+    assert accepted(receiver.port, STREAM[:offset]) == (0, offset)
+    receiver.kill()
+    receiver.start()
+    sender = sending(receiver.port, path)
+    errors = sender.communicate(timeout=SECONDS)[1] + receiver.kill()
+    assert (sender.returncode, errors) == (0, ""), errors
+    assert stored(receiver.folder) == expected()
+
+
+@pytest.mark.parametrize("offset", [0, 1, 65_536, len(STREAM) - 1, len(STREAM)])
+def test_sends_from_the_offset(tmp_path: Path, offset: int) -> None:
+    path = tmp_path / "stream.iim"
+    path.write_bytes(STREAM)
+    with socket.create_server(("127.0.0.1", 0)) as server:
+        server.settimeout(SECONDS)
+        sender = sending(server.getsockname()[1], path)
+        connection, _ = server.accept()
+        with connection, connection.makefile("rb") as received:
+            # (an offset may be received in parts)
+            for octet in offset.to_bytes(8, "big"):
+                connection.sendall(bytes([octet]))
+                time.sleep(0.01)
+            assert received.read() == STREAM[offset:]
+            connection.sendall(len(STREAM).to_bytes(8, "big"))
+        assert sender.communicate(timeout=SECONDS)[1] == ""
+    assert sender.returncode == 0
+
+
+def test_connects_again_if_the_receiver_is_lost(tmp_path: Path) -> None:
+    path = tmp_path / "stream.iim"
+    path.write_bytes(STORY)
+    start, end = bytes(8), len(STORY).to_bytes(8, "big")
+    # It is lost before the first offset, within it, before the last one, and within that.
+    replies = [(b"", b""), (start[:7], b""), (start, b""), (start, end[:7]), (start, end)]
+    with socket.create_server(("127.0.0.1", 0)) as server:
+        server.settimeout(SECONDS)
+        sender = sending(server.getsockname()[1], path)
+        for first, last in replies:
+            connection, _ = server.accept()
+            with connection, connection.makefile("rb") as received:
+                connection.sendall(first)
+                if first == start:
+                    assert received.read() == STORY
+                connection.sendall(last)
+        errors = sender.communicate(timeout=SECONDS)[1]
+    assert errors == "the receiver is lost: connecting again\n" * 4
+    assert sender.returncode == 0
 
 
 def test_says_what_it_rejects(library: Path, tmp_path: Path) -> None:
@@ -104,3 +171,16 @@ def test_says_what_it_rejects(library: Path, tmp_path: Path) -> None:
     )
     assert receiver.kill() == "2 refused at octet 100 by layer dataset on 0:00, cause 1 Marker\n"
     assert stored(receiver.folder) == [(1, 0, 114, 1)]
+
+
+def test_says_what_it_rejects_before_much_else(library: Path, tmp_path: Path) -> None:
+    path = tmp_path / "stream.iim"
+    path.write_bytes(STORY + b"\xff" + MUCH)
+    receiver = Receiving(tmp_path / "stored")
+    sender = sending(receiver.port, path)
+    try:
+        errors = sender.communicate(timeout=60)[1]
+    finally:
+        sender.kill()
+    assert errors == f"the receiver rejected byte {len(STORY)} of the file\n"
+    assert receiver.kill() == "2 refused at octet 0 by layer dataset on 0:00, cause 1 Marker\n"
