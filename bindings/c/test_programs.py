@@ -84,11 +84,13 @@ def run_receiver(program: Path, port: int, room: Path, kill: Optional[float]) ->
 def test_receiver_survives_kills(receiver: Path, tmp_path: Path, seed: int) -> None:
     chance = random.Random(seed)
     stream = (SAMPLES / "story.iim").read_bytes() * 40
-    kills = 0
+    kills, until = 0, chance.uniform(0.02, 0.2)
     with slow_sender(stream, chance) as port:
-        while (status := run_receiver(receiver, port, tmp_path, chance.uniform(0.02, 0.2))) < 0:
+        # (each run is longer, so that a slow machine, too, receives all of it)
+        while (status := run_receiver(receiver, port, tmp_path, until)) < 0:
             kills += 1
             assert kills < 200
+            until = chance.uniform(0.02, 0.2) * (1 + kills / 20)
     assert status == 0
     assert kills >= 3
     assert (tmp_path / "output").read_bytes() == STORY * 40
