@@ -25,6 +25,10 @@
 /* The number of datasets for which no memory is allocated. */
 #define FEW_DATASETS 64
 
+/* The number of recent datasets whose objects are used again, and the most bytes of their values. */
+#define RECENT 1024
+#define RECENT_BYTES 40
+
 /* ---- The library */
 
 static struct {
@@ -479,20 +483,148 @@ static PyObject *octets_of(PyObject *type, const void *bytes, size_t count)
     return made;
 }
 
-/* Returns a list of a named tuple (record, number, octets) for each of these datasets. */
-static PyObject *list_datasets(const char *ticket, const iim_dataset *found, size_t count,
-                               PyTypeObject *type, PyObject *octets)
+/* ---- Datasets */
+
+/*
+ * Most datasets of an envelope are equal to one of an envelope before it: versions, the service, the
+ * date, a category. Their objects are immutable, so that equal datasets can share one. An object of
+ * a recent dataset is in a slot that its numbers and its value select.
+ */
+typedef struct {
+    PyObject *object; /* NULL in an empty slot */
+    uint8_t rec, set, count, value[RECENT_BYTES];
+} recent;
+
+typedef struct {
+    PyObject *type, *octets; /* the types of all objects in the slots */
+    recent slots[RECENT];
+} module_state;
+
+/* Empties all slots. */
+static int clear_recent(PyObject *module)
 {
+    module_state *state = PyModule_GetState(module);
+
+    if (state == NULL)
+        return 0;
+    Py_CLEAR(state->type);
+    Py_CLEAR(state->octets);
+    for (size_t i = 0; i < RECENT; i++)
+        Py_CLEAR(state->slots[i].object);
+    return 0;
+}
+
+static int traverse_recent(PyObject *module, visitproc visit, void *arg)
+{
+    module_state *state = PyModule_GetState(module);
+
+    if (state == NULL)
+        return 0;
+    Py_VISIT(state->type);
+    Py_VISIT(state->octets);
+    for (size_t i = 0; i < RECENT; i++)
+        Py_VISIT(state->slots[i].object);
+    return 0;
+}
+
+static void free_recent(void *module)
+{
+    clear_recent(module);
+}
+
+/* Makes the slots be for objects of these types. */
+static void set_types(PyObject *module, PyObject *type, PyObject *octets)
+{
+    module_state *state = PyModule_GetState(module);
+
+    if (state->type == type && state->octets == octets)
+        return;
+    while (state->type != NULL)
+        clear_recent(module);
+    Py_INCREF(type);
+    Py_INCREF(octets);
+    state->type = type;
+    state->octets = octets;
+}
+
+/* Returns the slot of a dataset with a short value (FNV-1a). */
+static recent *slot_of(module_state *state, const iim_dataset *it, const uint8_t *value)
+{
+    uint32_t hash = 2166136261u;
+
+    hash = (hash ^ it->rec) * 16777619u;
+    hash = (hash ^ it->set) * 16777619u;
+    for (size_t i = 0; i < it->data.count; i++)
+        hash = (hash ^ value[i]) * 16777619u;
+    return &state->slots[(hash ^ hash >> 16) % RECENT];
+}
+
+static bool is_of(const recent *slot, const iim_dataset *it, const uint8_t *value)
+{
+    return slot->object != NULL && slot->rec == it->rec && slot->set == it->set &&
+           slot->count == it->data.count && memcmp(slot->value, value, it->data.count) == 0;
+}
+
+static void fill(recent *slot, const iim_dataset *it, const uint8_t *value, PyObject *object)
+{
+    PyObject *before = slot->object;
+
+    slot->rec = it->rec;
+    slot->set = it->set;
+    slot->count = (uint8_t)it->data.count;
+    memcpy(slot->value, value, it->data.count);
+    Py_INCREF(object);
+    slot->object = object;
+    Py_XDECREF(before);
+}
+
+/* Returns a new named tuple (record, number, octets) for a dataset. */
+static PyObject *new_dataset(const iim_dataset *it, const uint8_t *value, PyObject *type,
+                             PyObject *octets)
+{
+    PyObject *items[] = {
+        PyLong_FromLong(it->rec),
+        PyLong_FromLong(it->set),
+        octets_of(octets, value, it->data.count),
+    };
+
+    return tuple_of((PyTypeObject *)type, items, 3);
+}
+
+/* Returns the named tuple of a dataset: that of an equal recent one, or a new one. */
+static PyObject *dataset_of(module_state *state, const iim_dataset *it, const uint8_t *value,
+                            PyObject *type, PyObject *octets)
+{
+    recent *slot;
+    PyObject *made;
+
+    if (it->data.count > RECENT_BYTES)
+        return new_dataset(it, value, type, octets);
+    slot = slot_of(state, it, value);
+    if (is_of(slot, it, value)) {
+        Py_INCREF(slot->object);
+        return slot->object;
+    }
+    made = new_dataset(it, value, type, octets);
+    /* (a call for other types may have been made meanwhile, by a type that Python code implements) */
+    if (made != NULL && state->type == type && state->octets == octets)
+        fill(slot, it, value, made);
+    return made;
+}
+
+/* Returns a list of the named tuples of these datasets. */
+static PyObject *list_datasets(PyObject *module, const char *ticket, const iim_dataset *found,
+                               size_t count, PyObject *type, PyObject *octets)
+{
+    module_state *state = PyModule_GetState(module);
     PyObject *list = PyList_New((Py_ssize_t)count);
 
     for (size_t i = 0; list != NULL && i < count; i++) {
-        PyObject *items[] = {
-            PyLong_FromLong(found[i].rec),
-            PyLong_FromLong(found[i].set),
-            octets_of(octets, ticket + found[i].data.offset, found[i].data.count),
-        };
-        PyObject *one = tuple_of(type, items, 3);
+        const uint8_t *value = (const uint8_t *)ticket + found[i].data.offset;
+        PyObject *one;
 
+        set_types(module, type, octets);
+        one = dataset_of(state, &found[i], value, type, octets);
         if (one == NULL)
             Py_CLEAR(list);
         else
@@ -504,7 +636,8 @@ static PyObject *list_datasets(const char *ticket, const iim_dataset *found, siz
 PyDoc_STRVAR(datasets_doc, "datasets(ticket, field, octets)\n--\n\n"
                            "Return the datasets of a ticket, in the order sent.\n\n"
                            "Each is a `field`, a subclass of tuple, of the record, the number and\n"
-                           "the value as `octets`, a subclass of bytes. None if it is no ticket.");
+                           "the value as `octets`, a subclass of bytes. Equal datasets may be one\n"
+                           "object, so both types must be immutable. None if it is no ticket.");
 
 static PyObject *datasets(PyObject *module, PyObject *arguments)
 {
@@ -514,7 +647,6 @@ static PyObject *datasets(PyObject *module, PyObject *arguments)
     iim_dataset few[FEW_DATASETS], *found = few;
     iim_answer answer;
 
-    (void)module;
     if (!PyArg_ParseTuple(arguments, "y#OO", &ticket, &length, &type, &octets))
         return NULL;
     if (!PyType_Check(type) || !PyType_IsSubtype((PyTypeObject *)type, &PyTuple_Type)) {
@@ -531,13 +663,15 @@ static PyObject *datasets(PyObject *module, PyObject *arguments)
         library.fields((const uint8_t *)ticket, (size_t)length, 0, found, count, &answer);
     }
     if (answer.status == IIM_DONE)
-        list = list_datasets(ticket, found, answer.written, (PyTypeObject *)type, octets);
+        list = list_datasets(module, ticket, found, answer.written, type, octets);
     if (found != few)
         free(found);
     if (list == NULL && !PyErr_Occurred())
         Py_RETURN_NONE;
     return list;
 }
+
+/* ---- Rows */
 
 static PyObject *none_or(bool is_there, int64_t number)
 {
@@ -655,12 +789,12 @@ static PyModuleDef definition = {
     PyModuleDef_HEAD_INIT,
     "iim._iim",
     "What the package iim does for each envelope, dataset and row, in C.",
-    0,
+    sizeof(module_state),
     module_functions,
     module_slots,
-    NULL,
-    NULL,
-    NULL,
+    traverse_recent,
+    clear_recent,
+    free_recent,
 };
 
 PyMODINIT_FUNC PyInit__iim(void)

@@ -4,6 +4,7 @@ from __future__ import annotations
 import contextlib
 import ctypes
 import gc
+import random
 import shutil
 import sys
 import threading
@@ -12,7 +13,8 @@ from typing import Any, Callable, Dict, Iterator, List, Tuple
 
 import iim
 import pytest
-from envelopes import SMALLEST, STORY, VARIED
+import rules
+from envelopes import SMALLEST, SMALLEST_FIELDS, SMALLEST_HEAD, STORY, STORY_FIELDS, VARIED
 from iim import _library
 from support.bindings.paths import HEADER, TOP, unmeasured
 from support.bindings.running import run_text, samples
@@ -137,6 +139,57 @@ def test_makes_fields_of_the_right_types(module: Any) -> None:
     for wrong in int, 3, None:
         pytest.raises(TypeError, module.datasets, envelope._ticket, wrong, iim.Octets)
     assert module.datasets(b"no ticket", iim.Field, iim.Octets) is None
+
+
+def sent_with(fields: List[Tuple[int, int, bytes]]) -> bytes:
+    """Return an envelope of these datasets."""
+    return rules.packed(fields, rules.object_of(SMALLEST_HEAD, [b""], b""), 1_024)
+
+
+def test_shares_equal_datasets_that_are_immutable(module: Any) -> None:
+    first, second = iim.read(STORY * 2)
+    assert all(one is other for one, other in zip(first.datasets, second.datasets))
+    assert first.datasets is not second.datasets
+    for value in first.datasets[0], first.datasets[0].octets:
+        assert not hasattr(value, "__dict__")
+
+
+def test_distinguishes_datasets(module: Any) -> None:
+    chance = random.Random(7)
+    # Sizes at both sides of those that are shared, equal values of several datasets, more values
+    # than there are slots, and many that differ in the last byte alone.
+    values = [b"x" * size + end for size in (0, 30, 31) for end in (b"a", b"b")]
+    values += [b"keyword %d" % number for number in range(1_000)]
+    numbers = [20, 25, 80, 85, 250]
+    rows = [(2, number, value) for number in numbers for value in values]
+    rows += [(2, 25, b"x" * size + end) for size in (38, 39, 40, 41) for end in (b"a", b"b")]
+    rows += [(2, 250, b"some" + bytes([octet])) for octet in range(256)] * 20
+    sent = [[*SMALLEST_FIELDS, *chance.choices(rows, k=100)] for _ in range(150)]
+    # Equal numbers and values in both records.
+    both = [(b"%d" % number, SMALLEST_FIELDS[:-1], SMALLEST_FIELDS[-1]) for number in range(5_000)]
+    sent += [[*first, (1, 5, value), second, (2, 5, value)] for value, first, second in both]
+    for fields, envelope in zip(sent, iim.read(b"".join(map(sent_with, sent)))):
+        assert envelope.datasets == fields
+
+
+def test_makes_datasets_of_the_types_of_each_call(module: Any) -> None:
+    class Row(Tuple[int, int, bytes]):
+        """A tuple."""
+
+    class Value(bytes):
+        """Bytes whose creation makes datasets of other types."""
+
+        def __new__(cls, octets: bytes) -> "Value":
+            """Create them."""
+            module.datasets(ticket, iim.Field, iim.Octets)
+            return super().__new__(cls, octets)
+
+    ticket = next(iim.read(STORY))._ticket
+    kinds: List[Tuple[type, type]] = [(Row, Value), (iim.Field, iim.Octets), (Row, iim.Octets)]
+    for row, octets in kinds * 3:
+        found = module.datasets(ticket, row, octets)
+        assert found == STORY_FIELDS
+        assert {(type(it), type(it[2])) for it in found} == {(row, octets)}
 
 
 def test_rejects_a_call_while_another_thread_reads(module: Any) -> None:

@@ -8,6 +8,9 @@ from typing import BinaryIO, Union, cast
 class Octets(bytes):
     """Bytes as they were sent: `bytes` with a method that decodes them."""
 
+    # (without attributes of its own a value is immutable, and the garbage collector ignores it)
+    __slots__ = ()
+
     def text(self, encoding: str, errors: str = "strict") -> str:
         """Return the bytes decoded as text. IIM does not state the encoding: ask the sender.
 
