@@ -67,7 +67,10 @@ DEPENDS = {
     "iimwire": r"libc6 \(>= 2[.\d]+\)",
     "libiim1": r"libc6 \(>= 2[.\d]+\)",
     "libiim-dev": rf"libiim1 \(= {RELEASE}\)",
-    "python3-iim": rf"python3 .*, python3:any, libc6 \(>= 2[.\d]+\), libiim1 \(>= {RELEASE}\)",
+    "python3-iim": (
+        r"python3 \(>= [.\d]+~\), python3:any \(>= 3\.8~\), libc6 \(>= 2[.\d]+\), "
+        rf"libiim1 \(>= {RELEASE}\)"
+    ),
     "iim-doc": "",
 }
 
