@@ -82,7 +82,7 @@ FAULTS = [
         CORPUS,
     ),
     fault(
-        "explain/charsets.py",
+        "designations.py",
         '0x4C: ("iso8859-5", 144)',
         '0x4C: ("iso8859-7", 144)',
         "explain_numbers::lists_all_lines_of_a_story",

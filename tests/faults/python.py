@@ -181,9 +181,9 @@ FAULTS = [
         "archive_access::migrates_an_old_index_without_loss",
     ),
     fault(
-        "archive/texts.py",
-        """    b"B": "iso8859-2",""",
-        """    b"B": "iso8859-1",""",
+        "designations.py",
+        """0x42: ("iso8859-2", 101)""",
+        """0x42: ("iso8859-1", 101)""",
         "archive_words::decodes_by_1_90",
     ),
     fault(

@@ -3,6 +3,7 @@ from __future__ import annotations
 
 import pytest
 
+from iim.designations import encoding_of
 from iim.explain import charsets, page, recognition
 from support.running import TOP
 
@@ -12,12 +13,12 @@ from support.running import TOP
     [(b"\x1b%G", "utf-8"), (b"\x1b-A", "iso8859-1"), (b"\x1b(B", "ascii"), (b"", None)],
 )
 def test_reads_designations(designations: bytes, name: str | None) -> None:
-    assert charsets.encoding_of(designations) == name
+    assert encoding_of(designations) == name
 
 
 @pytest.mark.parametrize("designations", [b"%G", b"\x1b!A", b"\x1b-~", b"\x1b%~"])
 def test_reads_no_other_designations(designations: bytes) -> None:
-    assert charsets.encoding_of(designations) is None
+    assert encoding_of(designations) is None
 
 
 @pytest.mark.parametrize(

@@ -34,6 +34,36 @@ def with_dates(*more: Tuple[int, int, bytes]) -> iim.Envelope:
     return envelope
 
 
+# The escape sequences of ISO 2022 with the final bytes of the register ISO-IR: 196 UTF-8, 6 ASCII,
+# 100 Latin-1, 101 Latin-2, 144 Cyrillic, 203 Latin-9, 58 GB 2312, 87 JIS X 0208, 149 KS C 5601. 69
+# is a French set of 94 characters, and the last two values are no complete sequence.
+@pytest.mark.parametrize(
+    "sequences, want",
+    [
+        (None, None),
+        (b"\x1b%G", "utf-8"),
+        (b"\x1b(B", "ascii"),
+        (b"\x1b-A", "iso8859-1"),
+        (b"\x1b.A", "iso8859-1"),
+        (b"\x1b(B\x1b-B", "iso8859-2"),
+        (b"\x1b/L", "iso8859-5"),
+        (b"\x1b-b", "iso8859-15"),
+        (b"\x1b$)A", "gb2312"),
+        (b"\x1b$)B", "euc_jp"),
+        (b"\x1b$)C", "euc_kr"),
+        (b"\x1b(f", None),
+        (b"\x1b-", None),
+        (b"utf-8", None),
+    ],
+)
+def test_has_the_declared_encoding(sequences: Optional[bytes], want: Optional[str]) -> None:
+    more = [] if sequences is None else [(1, 90, sequences)]
+    envelope = with_dates(*more)
+    assert (envelope.coded_character_set, envelope.encoding) == (sequences, want)
+    if want is not None:
+        assert b"Rates".decode(want) == "Rates"
+
+
 # (the instants of the worked report: sent an hour before noon, held until 13:00)
 @pytest.mark.parametrize(
     "name, more, want",

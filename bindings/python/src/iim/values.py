@@ -12,6 +12,7 @@ from iim import _library
 from iim._deprecated import warn_of_old_name
 from iim._library import library
 from iim.datasets import ATTRIBUTES, TITLES, NamedDatasets
+from iim.designations import encoding_of
 from iim.octets import AnyOctets, Octets, as_bytes
 
 # The maximum size of an object, and the maximum of a limit.
@@ -427,6 +428,14 @@ class Envelope(NamedDatasets):
         Without a time it is the last second of the day in UTC.
         """
         return instant_of(self.expiration_date, self.expiration_time or b"235959+0000")
+
+    @property
+    def encoding(self) -> Optional[str]:
+        """The encoding that 1:90 declares, by its name in Python such as "utf-8", or `None`.
+
+        It is `None` if 1:90 is missing, or declares a set that is not in the table of this package.
+        """
+        return encoding_of(self.coded_character_set or b"")
 
     @functools.cached_property
     def _message(self) -> _library.Message:

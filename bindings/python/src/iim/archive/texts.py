@@ -3,10 +3,11 @@ from __future__ import annotations
 
 import codecs
 import re
-from typing import Dict, List, Optional, Tuple
+from typing import List, Optional, Tuple
 
 import iim
 from iim.archive.schema import row_of_text
+from iim.designations import OF_96
 from iim.receiver import Receiver
 
 # A row of the full-text index: its number, slug, headline, by-lines, keywords, categories, city,
@@ -16,25 +17,7 @@ TextRow = Tuple[int, str, str, str, str, str, str, str, str]
 # The maximum number of bytes of a story that are indexed.
 LONGEST_STORY = 1 << 20
 
-# The part of the ISO 8859 family that 1:90 designates as a set of 96 characters, by the last byte
-# of the escape sequence.
-PARTS: Dict[bytes, str] = {
-    b"A": "iso8859-1",
-    b"B": "iso8859-2",
-    b"C": "iso8859-3",
-    b"D": "iso8859-4",
-    b"F": "iso8859-7",
-    b"G": "iso8859-6",
-    b"H": "iso8859-8",
-    b"L": "iso8859-5",
-    b"M": "iso8859-9",
-    b"T": "iso8859-11",
-    b"V": "iso8859-10",
-    b"Y": "iso8859-13",
-    b"_": "iso8859-14",
-    b"b": "iso8859-15",
-    b"f": "iso8859-16",
-}
+# What 1:90 designates: UTF-8, or a set of 96 characters, by the last byte of its sequence.
 UTF_8 = b"\x1b%G"
 SET_OF_96 = re.compile(rb"\x1b[-./]([A-Z_bf])")
 
@@ -51,7 +34,7 @@ def encoding_of(coded_character_set: Optional[bytes], otherwise: str) -> str:
     if UTF_8 in coded_character_set:
         return "utf-8"
     found = SET_OF_96.search(coded_character_set)
-    return PARTS.get(found[1], otherwise) if found else otherwise
+    return OF_96.get(found[1][0], (otherwise, 0))[0] if found else otherwise
 
 
 def is_encoding(name: str) -> bool:

@@ -6,7 +6,8 @@ import re
 from typing import AbstractSet, Iterable, List, Optional, Tuple
 
 import iim
-from iim.explain.charsets import columns_of, encoding_of
+from iim.designations import encoding_of
+from iim.explain.charsets import columns_of
 
 NAMED = {
     0: "NUL",
