@@ -8,7 +8,7 @@ from typing import BinaryIO, Union, cast
 class Octets(bytes):
     """Bytes as they were sent: `bytes` with a method that decodes them."""
 
-    # (without attributes of its own a value is immutable, and the garbage collector ignores it)
+    # (a value without a dictionary is immutable, and the garbage collector ignores it)
     __slots__ = ()
 
     def text(self, encoding: str, errors: str = "strict") -> str:
