@@ -8,9 +8,9 @@ One in 100 is damaged, one in 1,000 is empty, and a third of the ids are drawn a
 writes a manifest for each size. The tree is indexed without workers, with 1 and 4 workers, and on
 Dask with 2 workers of 4 threads each. Each index is compared with the manifests, and so are the
 rows and the outcomes of verifications. Then runs that index and verify are killed N times
-[default: 20] at random moments and continued. Last, one byte of one file is damaged, which `verify`
-alone must find. What each step takes is printed, in elapsed time and in processor time of all its
-processes.
+[default: 20] at random moments while they read, and continued. Last, one byte of one file is
+damaged, which `verify` alone must find. What each step takes is printed, in elapsed time and in
+processor time of all its processes. A million files take 4 GB and a million inodes.
 
 The status is 0 if all are equal. The gate does not run this.
 """
@@ -43,6 +43,7 @@ from measure import (  # type: ignore[import]  # noqa: E402
     SMALL,
     TOP,
     envelope,
+    remove,
     rules,
 )
 
@@ -146,31 +147,58 @@ def index_and_verify(index: str, folder: Path, words: List[str]) -> List[Any]:
 
 
 def kill_at_random(words: List[str], chance: random.Random, longest: float) -> bool:
-    """Start a run, kill it, and return whether it was still running."""
-    started = subprocess.Popen(
-        [*ARCHIVE, *words], stdout=subprocess.DEVNULL, env=ENVIRONMENT, start_new_session=True
-    )
+    """Start a run, kill it, and return whether it was still running.
+
+    It is killed at most `longest` seconds after it has begun, which it logs.
+    """
+    with tempfile.TemporaryFile() as log:
+        started = subprocess.Popen(
+            [*ARCHIVE, *words, "--verbose"],
+            stdout=subprocess.DEVNULL,
+            stderr=log,
+            env=ENVIRONMENT,
+            start_new_session=True,
+        )
+        while not os.fstat(log.fileno()).st_size and started.poll() is None:
+            time.sleep(0.01)
     with contextlib.suppress(subprocess.TimeoutExpired):
-        started.wait(chance.uniform(0.3, longest))
-    running = started.poll() is None
-    if running:
-        with contextlib.suppress(ProcessLookupError):
-            os.killpg(started.pid, signal.SIGKILL)
-    started.wait()
-    return running
+        started.wait(chance.uniform(0, longest))
+    with contextlib.suppress(ProcessLookupError):
+        os.killpg(started.pid, signal.SIGKILL)
+    return started.wait() == -signal.SIGKILL
+
+
+def seconds_of(words: List[str]) -> float:
+    """Run a command to its end, and return the seconds that it takes."""
+    began = time.monotonic()
+    run(words)
+    return time.monotonic() - began
 
 
 def survive(index: str, folder: Path, kills: int) -> List[Any]:
-    """Index and verify all files by runs that are killed, and return the results."""
-    chance, tree, hit = random.Random(2), [str(folder / size) for size in SIZES], 0
+    """Index and verify all files by runs that are killed, and return the results.
+
+    All kills hit a run. A run continues the killed one before it, and if one ends by itself, the
+    next one begins anew.
+    """
+    chance, tree, hits = random.Random(2), [str(folder / size) for size in SIZES], 0
     reading = ["--now", NOW, "--workers", "2", "--into", index, *tree]
     verifying = ["verify", "--workers", "2", "--not-since", "2000-01-01", index]
-    for words in reading, verifying:
-        for _ in range(kills // 2):
-            hit += kill_at_random(words, chance, 3)
+    anew = ["verify", "--workers", "2", index]
+    longest = seconds_of(reading) / 4
+    remove(index)
+    while hits < kills // 2:
+        is_hit = kill_at_random(reading, chance, longest)
+        hits += is_hit
+        if not is_hit and hits < kills // 2:
+            remove(index)
     sums = json.loads(run(reading)[0])
+    longest, words = seconds_of(anew) / 4, anew
+    while hits < kills:
+        is_hit = kill_at_random(words, chance, longest)
+        hits, words = hits + is_hit, verifying if is_hit else anew
     run(verifying)
-    print(f"{hit} of {kills} kills hit a run", flush=True)
+    print(f"{hits} kills hit a run", flush=True)
     return [{**sums, "unchanged": 0}, *results_of(index, folder)]
 
 

@@ -69,7 +69,7 @@ def test_zsh_completes_what_help_lists(run: Command) -> None:
         assert options == {option: it for option, it in want.items() if option != "--help"}, name
 
 
-@pytest.mark.parametrize("name", ["_iimwire", "_iim-explain"])
+@pytest.mark.parametrize("name", ["_iimwire", "_iim-explain", "_iim-archive"])
 def test_zsh_completions_have_no_syntax_error(name: str) -> None:
     if not shutil.which("zsh"):
         pytest.skip("zsh is not there")

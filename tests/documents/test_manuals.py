@@ -75,7 +75,7 @@ def options_of(module: str, *words: str) -> List[str]:
     program = [sys.executable, "-B", "-m", module, *words, "--help"]
     env = {**os.environ, "COLUMNS": "200", "PYTHONPATH": PACKAGE}
     ran = subprocess.run(program, stdout=subprocess.PIPE, text=True, env=env, check=True)
-    return sorted(set(re.findall(r"^ +(?:-h, )?(--[a-z]+)", ran.stdout, re.M)))
+    return sorted(set(re.findall(r"^ +(?:-h, )?(--[a-z-]+)", ran.stdout, re.M)))
 
 
 def options_in_the_page(name: str, section: str) -> List[str]:
@@ -86,19 +86,22 @@ def options_in_the_page(name: str, section: str) -> List[str]:
         .split("\n.SH ")[0]
     )
     tags = re.findall(r"^\.T[PQ]\n(.*)$", text, re.M)
-    return sorted(set(re.findall(r"--[a-z]+", " ".join(tags))))
+    return sorted(set(re.findall(r"--[a-z-]+", " ".join(tags))))
+
+
+# The sections of the manual page of iim-archive, by the command whose options they have.
+SECTIONS: Dict[Tuple[str, ...], str] = {
+    (): '"OPTIONS OF A RUN"',
+    ("query",): '"OPTIONS OF QUERY"',
+    ("report",): '"OPTIONS OF REPORT"',
+    ("verify",): '"OPTIONS OF VERIFY"',
+    ("manifest",): '"OPTIONS OF MANIFEST"',
+}
 
 
 def test_names_all_options_in_the_manuals() -> None:
     """Compare the options of the Python programs with their manual pages."""
-    sections: Dict[Tuple[str, ...], str] = {
-        (): '"OPTIONS OF A RUN"',
-        ("query",): '"OPTIONS OF QUERY"',
-        ("report",): '"OPTIONS OF REPORT"',
-        ("verify",): '"OPTIONS OF VERIFY"',
-        ("manifest",): '"OPTIONS OF MANIFEST"',
-    }
-    for words, section in sections.items():
+    for words, section in SECTIONS.items():
         # (of all of them, the page has --help once)
         named = {*options_in_the_page("iim-archive", section), "--help"}
         assert (words, sorted(named)) == (words, options_of("iim.archive", *words))
@@ -108,6 +111,55 @@ def test_names_all_options_in_the_manuals() -> None:
         for option in options_of("iim", "explain")
         if option not in explain and option != "--help"
     ] == []
+
+
+def help_of_archive(*words: str) -> str:
+    """Return the help of a command of iim-archive, each option on one line."""
+    program = [sys.executable, "-B", "-m", "iim.archive", *words, "--help"]
+    env = {**os.environ, "COLUMNS": "1000", "PYTHONPATH": PACKAGE}
+    return subprocess.run(program, stdout=subprocess.PIPE, text=True, env=env, check=True).stdout
+
+
+def words_of(option: str, value: str, text: str) -> List[str]:
+    """Return what the entry of an option must name: its value, or the values that it lists."""
+    if value.startswith("{"):
+        return re.findall(r"\w+", value)
+    if value == "KIND":
+        return re.findall(r"\w+", text.partition(": ")[2].replace(" or ", " "))
+    if option in ("--where", "--fields"):
+        return re.findall(r"\w+", re.split(": |one of ", text)[-1])
+    return re.findall(r"\w+|%", value) + re.findall(r"\[default: ([0-9]+)", text)
+
+
+def test_names_all_words_of_iim_archive_in_the_manual() -> None:
+    """Compare the commands, values, choices and columns in the help with the manual page."""
+    page = re.sub(r"\\f.", "", read_roff(text_of(f"{TOP}/packages/python/iim-archive.1")))
+    named = set(re.findall(r"^\.B iim-archive (\w+)$", page.partition("\n.SH DESC")[0], re.M))
+    assert named == set(re.findall(r"`(?:iim-archive )?(\w+)`? ", help_of_archive()))
+    absent = []
+    for command, section in SECTIONS.items():
+        text = page.split(f"\n.SH {section}\n")[1].split("\n.SH ")[0]
+        for option, value, use in re.findall(
+            r"^  (--[a-z-]+)(.*?)(?:  +|\n +)(\S.*)$", help_of_archive(*command), re.M
+        ):
+            entry = entry_of(option, text)
+            if "As for a run" in entry:
+                entry += entry_of(option, page)
+            if option == "--fields":
+                entry += entry_of("--where", text)
+            lost = [word for word in words_of(option, value, use) if not has_word(entry, word)]
+            absent += [(*command, option, word) for word in lost]
+    assert absent == []
+
+
+def entry_of(option: str, text: str) -> str:
+    """Return the first entry of an option in a manual page, with its tag."""
+    return first_match(rf"^\.T[PQ]\n\.[BIR]+ {option}\b(?:.|\n(?!\.TP))*", text, re.M)[0]
+
+
+def has_word(text: str, word: str) -> bool:
+    """Check whether a text has a word."""
+    return re.search(rf"(?<!\w){re.escape(word)}(?!\w)", text) is not None
 
 
 def test_has_an_entry_for_each_option_of_iimwire() -> None:

@@ -85,6 +85,36 @@ FAULTS = [
         "archive_access::leaves_a_rollback_journal",
     ),
     fault(
+        "archive/index.py",
+        'database.execute("PRAGMA foreign_keys = ON")',
+        'database.execute("PRAGMA foreign_keys = OFF")',
+        "archive_access::replaces_a_path_without_orphans",
+    ),
+    fault(
+        "archive/index.py",
+        "run = {self.run}, verified = NULL, fixity = NULL",
+        "run = {self.run}",
+        "archive_runs::reads_again_what_a_checksum_contradicts",
+    ),
+    fault(
+        "archive/index.py",
+        "FROM files WHERE file = ? AND sha256 <> ?",
+        "FROM files WHERE file = ? AND sha256 = ?",
+        "archive_runs::reads_again_what_a_checksum_contradicts",
+    ),
+    fault(
+        "archive/index.py",
+        '("deletion", "warning") if gone else ("recovery", "success")',
+        '("recovery", "success") if gone else ("deletion", "warning")',
+        "archive_fixity::maps_events_to_premis",
+    ),
+    fault(
+        "archive/index.py",
+        "SELECT run FROM runs WHERE started >= ?",
+        "SELECT run FROM runs WHERE started < ?",
+        "archive_fixity::verifies_a_sample_and_what_is_due",
+    ),
+    fault(
         "archive/manifests.py",
         """b"\\r": b"%0D\"""",
         """b"\\r": b"%0d\"""",
@@ -107,6 +137,12 @@ FAULTS = [
         """return STOPPED if stopped else 3 if sums["failed"] else 1 if sums["refused"] else 0""",
         """return STOPPED if stopped else 1 if sums["refused"] else 3 if sums["failed"] else 0""",
         "archive_numbers::fails_if_files_failed_and_others_were_refused",
+    ),
+    fault(
+        "archive/query.py",
+        "BY_SERVICE if is_by_service else BY_IDS",
+        "BY_IDS if is_by_service else BY_SERVICE",
+        "archive_words::reads_only_what_a_query_selects",
     ),
     fault(
         "archive/query.py",
@@ -151,6 +187,30 @@ FAULTS = [
         "archive_numbers::holds_and_expires_at_exact_seconds",
     ),
     fault(
+        "archive/report.py",
+        "SELECT sum(n - 1) FROM",
+        "SELECT count(*) FROM",
+        "archive_numbers::counts_repeats_refusals_and_services",
+    ),
+    fault(
+        "archive/report.py",
+        "e.sent % 86400 / 3600",
+        "(e.sent + 1) % 86400 / 3600",
+        "archive_numbers::counts_sizes_days_and_hours",
+    ),
+    fault(
+        "archive/report.py",
+        "AND e.fixity <> 'intact'",
+        "AND e.fixity = 'damaged'",
+        "archive_numbers::reports_runs_and_fixity",
+    ),
+    fault(
+        "archive/report.py",
+        '"(stopped)" if ended is None else instant(ended)',
+        "instant(ended or started)",
+        "archive_runs::stores_no_end_of_a_stopped_run",
+    ),
+    fault(
         "archive/rows.py",
         "read = block[-1][0] + block[-1][1]",
         "read = block[-1][0]",
@@ -185,6 +245,12 @@ FAULTS = [
         """0x42: ("iso8859-2", 101)""",
         """0x42: ("iso8859-1", 101)""",
         "archive_words::decodes_by_1_90",
+    ),
+    fault(
+        "archive/updating.py",
+        "        for gone in self._marks:\n            self._mark(gone, 1)\n",
+        "        self._mark(False, 1)\n",
+        "archive_index::marks_only_files_that_are_gone",
     ),
     fault(
         "archive/updating.py",

@@ -31,6 +31,8 @@ ARCHITECTURES = {
 ARCHIVE = f"iimwire-{RELEASE}-x86_64-linux.tar.gz"
 WHEEL_TAG = "manylinux_2_17_x86_64"
 WHEEL = f"iim-{RELEASE}-cp38-abi3-{WHEEL_TAG}.whl"
+# The directories of the completions in a package.
+BASH, ZSH = "usr/share/bash-completion/completions", "usr/share/zsh/vendor-completions"
 # The directory of the site in the package iim-doc.
 SITE = "usr/share/doc/iim-doc/html"
 # Of each path the file of the repository that it is, or None.
@@ -81,8 +83,8 @@ def files_of_packages() -> dict[str, Files]:
     return {
         "iimwire": {
             "usr/bin/iimwire": None,
-            "usr/share/bash-completion/completions/iimwire": "completions/iimwire.bash",
-            "usr/share/zsh/vendor-completions/_iimwire": "completions/_iimwire",
+            f"{BASH}/iimwire": "completions/iimwire.bash",
+            f"{ZSH}/_iimwire": "completions/_iimwire",
             "usr/share/man/man1/iimwire.1.gz": "docs/iimwire.1",
             **guides("iimwire", "command"),
             **{f"usr/share/doc/iimwire/{sample}": sample for sample in tracked("samples")},
@@ -101,8 +103,8 @@ def files_of_packages() -> dict[str, Files]:
             **python_files("usr/lib/python3/dist-packages"),
             **{f"usr/bin/{name}": f"packages/python/{name}" for name in COMMANDS},
             **{f"usr/share/man/man1/{it}.1.gz": f"packages/python/{it}.1" for it in COMMANDS},
-            "usr/share/bash-completion/completions/iim-explain": "completions/iim-explain.bash",
-            "usr/share/zsh/vendor-completions/_iim-explain": "completions/_iim-explain",
+            **{f"{BASH}/{name}": f"completions/{name}.bash" for name in COMMANDS},
+            **{f"{ZSH}/_{name}": f"completions/_{name}" for name in COMMANDS},
             **guides("python3-iim", "python", "archive", "explain"),
         },
         # (packages/build has built the site)

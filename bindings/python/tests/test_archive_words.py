@@ -299,7 +299,7 @@ def test_reads_only_what_a_query_selects(folder: str, monkeypatch: pytest.Monkey
     for words, columns in (
         (["--date", "20240301"], "by_id (date_sent=?"),
         (["--date", "20240301..20240303"], "by_id (date_sent>? AND date_sent<?"),
-        (["--service", "S3", "--only", "envelope"], "by_service (service=?"),
+        (["--service", "S3", "--only", "envelope"], "by_id (date_sent=? AND service=?"),
         (["--date", "20240301", "--repeats"], "by_id (date_sent=?"),
         (["--cause", "Cause15"], "by_cause_name (cause_name=?"),
         (["--cause", "15"], "by_cause (cause=?"),

@@ -33,9 +33,19 @@ WHERE = (*OF_FILES, *OF_IDS, *OF_ENVELOPES, *OF_REFUSALS, *TEXT_COLUMNS)
 FILE_COLUMNS = "f.path, f.state, f.reason, f.target, f.gone, f.sha256, f.run, f.verified, f.fixity"
 WITH_TEXT = ", ".join(f"t.{name}" for name in TEXT_COLUMNS)
 
-# All envelopes by their files, or those that a condition selects, and then their files.
+# All envelopes by their files, or those that a condition selects, before their files.
 BY_FILES = "files AS f CROSS JOIN envelopes AS e ON e.file = f.file"
-BY_IDS = "envelopes AS e CROSS JOIN files AS f ON f.file = e.file"
+BY_IDS = "envelopes AS e"
+# The envelopes of a service: `by_id` is searched for each date that occurs.
+BY_SERVICE = """(
+    WITH RECURSIVE dates (date_sent) AS (
+        SELECT min(date_sent) FROM envelopes
+        UNION ALL
+        SELECT (SELECT min(date_sent) FROM envelopes WHERE date_sent > dates.date_sent)
+        FROM dates WHERE dates.date_sent IS NOT NULL
+    ) SELECT date_sent FROM dates
+) AS dates CROSS JOIN envelopes AS e ON e.date_sent = dates.date_sent"""
+WITH_FILES = " CROSS JOIN files AS f ON f.file = e.file"
 BY_REPEATS = (
     "temp.many CROSS JOIN envelopes AS e USING (date_sent, service, number)"
     " CROSS JOIN files AS f ON f.file = e.file"
@@ -175,9 +185,10 @@ class Selection:
         return " AND ".join(self._words) or None
 
     @property
-    def is_by_ids(self) -> bool:
-        """Whether the rows have to be looked up by their ids."""
-        return bool(self.ids)
+    def is_by_service(self) -> bool:
+        """Whether the conditions on the ids are on a service, and not on a date."""
+        names = {text.split()[0] for text, _ in self.ids}
+        return "e.service" in names and "e.date_sent" not in names
 
 
 def sql_of(conditions: Iterable[Tuple[str, Any]]) -> Tuple[str, List[Any]]:
@@ -197,10 +208,17 @@ class Part:
         """
         self.path, self._selection = path, selection
         self._database = open_readonly(path, is_immutable)
-        found = self._rows("SELECT 1 FROM sqlite_master WHERE name = 'texts'")
-        self._has_text = next(found, None) is not None
+        self._has_text = self._has("texts")
+        # (before the end of the first run there is no SQL index, and no search for each date)
+        is_by_service = selection.is_by_service and self._has("by_id")
+        self._by_ids = BY_SERVICE if is_by_service else BY_IDS
         if selection.words is not None and not self._has_text:
             raise NoIndex(f"{path}: has no full-text index (a run with --text makes one)")
+
+    def _has(self, name: str) -> bool:
+        """Check whether the index has a table or an SQL index."""
+        found = self._rows("SELECT 1 FROM sqlite_master WHERE name = ?", (name,))
+        return next(found, None) is not None
 
     def _rows(self, text: str, values: Iterable[Any] = ()) -> Iterator[Any]:
         """Yield the rows of a statement.
@@ -218,7 +236,9 @@ class Part:
     def _from(self, has_text: bool = False, by_repeats: bool = False) -> Tuple[str, List[Any]]:
         """Return the tables and the conditions of the selected envelopes, and the values."""
         chosen = self._selection
-        tables = BY_REPEATS if by_repeats else BY_IDS if chosen.is_by_ids else BY_FILES
+        tables = self._by_ids + WITH_FILES if chosen.ids else BY_FILES
+        if by_repeats:
+            tables = BY_REPEATS
         words = [("texts MATCH ?", chosen.words)] if chosen.words is not None else []
         if words:
             tables = BY_WORDS
@@ -233,18 +253,16 @@ class Part:
         Args:
             is_alone: Whether this is the only index: then only ids of several envelopes count.
         """
-        chosen = self._selection
+        chosen, columns = self._selection, "e.date_sent, e.service, e.number"
         where, values = sql_of(chosen.ids)
         if next(self._rows("SELECT 1 FROM files WHERE gone = 1 LIMIT 1"), None):
             where += " AND e.file NOT IN (SELECT file FROM files WHERE gone = 1)"
         if chosen.words is not None or chosen.files or chosen.envelopes:
             of_chosen, more = self._from()
-            ids = "(e.date_sent, e.service, e.number)"
-            where += f" AND {ids} IN (SELECT e.date_sent, e.service, e.number FROM {of_chosen})"
+            where += f" AND ({columns}) IN (SELECT {columns} FROM {of_chosen})"
             values += more
-        columns = "date_sent, service, number"
         several = "HAVING count(*) > 1" if is_alone else ""
-        text = f"SELECT {columns}, count(*) FROM envelopes AS e WHERE 1 = 1{where}"
+        text = f"SELECT {columns}, count(*) FROM {self._by_ids} WHERE 1 = 1{where}"
         for *found, count in self._rows(f"{text} GROUP BY {columns} {several}", values):
             yield (found[0], found[1], found[2]), count
 
@@ -282,7 +300,7 @@ class Part:
         chosen = self._selection
         where, values = sql_of([*chosen.ids, *chosen.files, *chosen.refusals])
         is_some = chosen.ids or chosen.refusals
-        tables = (BY_IDS if is_some else BY_FILES).replace("envelopes", "refusals")
+        tables = (BY_IDS + WITH_FILES if is_some else BY_FILES).replace("envelopes", "refusals")
         text = f"SELECT {FILE_COLUMNS}, e.envelope, e.told FROM {tables} WHERE f.gone = 0{where}"
         for row in self._rows(f"{text} ORDER BY f.path", values):
             yield (row[0], row[9]), Row("refused", row[:9], row[9:])

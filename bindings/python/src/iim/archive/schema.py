@@ -128,18 +128,22 @@ SELECT
 FROM happened JOIN files USING (file) JOIN runs ON runs.run = happened.run;
 """
 
-TABLES = RUNS + FILES + ENVELOPES + REFUSALS + SUMS + VIEWS
+# The SQL indexes on the few envelopes with an instant of release or expiration. They are created
+# with the tables: then a run need not look for these envelopes in all rows.
+OF_INSTANTS = """
+CREATE INDEX IF NOT EXISTS by_release ON envelopes (release) WHERE release IS NOT NULL;
+CREATE INDEX IF NOT EXISTS by_expires ON envelopes (expires) WHERE expires IS NOT NULL;
+"""
+
+TABLES = RUNS + FILES + ENVELOPES + REFUSALS + SUMS + VIEWS + OF_INSTANTS
 
 # The names of the tables, by which an index is recognised.
 NAMES_OF_TABLES = "files", "envelopes", "refusals", "sums"
 
-# The SQL indexes. They are created at the end of a run, since rows are inserted faster without
-# them.
-INDEXES = """
+# The SQL indexes. All others are created at the end of a run, since rows are inserted faster
+# without them. `by_id` also finds the envelopes of a service: there are few dates to look at.
+INDEXES = f"""{OF_INSTANTS}
 CREATE INDEX IF NOT EXISTS by_id ON envelopes (date_sent, service, number);
-CREATE INDEX IF NOT EXISTS by_service ON envelopes (service);
-CREATE INDEX IF NOT EXISTS by_release ON envelopes (release) WHERE release IS NOT NULL;
-CREATE INDEX IF NOT EXISTS by_expires ON envelopes (expires) WHERE expires IS NOT NULL;
 CREATE INDEX IF NOT EXISTS by_gone ON files (file) WHERE gone = 1;
 CREATE INDEX IF NOT EXISTS by_state ON files (state) WHERE state <> 'accepted';
 CREATE INDEX IF NOT EXISTS by_cause ON refusals (cause);
