@@ -8,7 +8,7 @@ from typing import Callable, List
 
 import pytest
 from support.bindings.harness import ALL, HERE, SANITIZERS, STRICT
-from support.bindings.paths import BUILT, SAMPLES
+from support.bindings.paths import BUILT
 from support.bindings.running import Name, run_text
 
 COUNTING = ["-Wl,--wrap=malloc", "-Wl,--wrap=realloc"]
@@ -87,24 +87,6 @@ def test_unpacker_leaks_nothing(compiled: Callable[..., Path], compiler: str) ->
     check: List[Name] = ["valgrind", "-q", "--leak-check=full", "--error-exitcode=9"]
     status, _, errors = run_text([*check, program, *FEW])
     assert (status, errors) == (0, "")
-
-
-THREADS = ["-pthread", str(BUILT / "libiim.a")]
-STREAM = SAMPLES / "stream.iim"
-AGREE = "5 passed, 0 failed\n"
-
-
-def test_unpackers_on_threads_agree(compiled: Callable[..., Path], compiler: str) -> None:
-    program = compiled(compiler, "threads", "threads.c", THREADS)
-    assert run_text([program, STREAM]) == (0, AGREE, "")
-
-
-def test_unpackers_race_for_nothing(compiled: Callable[..., Path], compiler: str) -> None:
-    if shutil.which("valgrind") is None:
-        pytest.skip("valgrind is not installed")
-    program = compiled(compiler, "threads", "threads.c", THREADS)
-    check: List[Name] = ["valgrind", "-q", "--tool=helgrind", "--error-exitcode=9"]
-    assert run_text([*check, program, STREAM]) == (0, AGREE, "")
 
 
 @pytest.mark.parametrize("name", FAULTS)
