@@ -6,6 +6,7 @@ from faults.fault import PACKAGES, PYTHON_TESTS, C, Fault
 HEADER = f"{C}/iim.h"
 GUIDES, MANUALS = "tests/documents/test_guides.py", "tests/documents/test_manuals.py"
 DECLARED = f"{PYTHON_TESTS}/test_header.py"
+STATUSES = f"{DECLARED}::test_has_functions_and_statuses_of_the_header"
 BUFFERS = f"{C}/test_harness.py::test_passes_the_checks_of_its_buffers"
 KILLS = f"{C}/test_programs.py::test_receiver_survives_kills"
 FAULTS = [
@@ -44,6 +45,9 @@ FAULTS = [
         "#define IIM_VERSION 2\n",
         f"{DECLARED}::test_has_functions_and_statuses_of_the_header",
     ),
+    Fault(HEADER, "    IIM_MORE = 1, ", "    IIM_MORE = 2, ", STATUSES),
+    Fault(HEADER, "    IIM_NONE = 4, ", "    IIM_NONE = 5, ", STATUSES),
+    Fault(HEADER, "    IIM_BAD_INSTANT = 9, ", "    IIM_BAD_INSTANT = 8, ", STATUSES),
     Fault(
         HEADER,
         " * @param limits  limits on records 1 and 2\n",

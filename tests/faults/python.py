@@ -344,8 +344,8 @@ FAULTS = [
     ),
     fault(
         "explain/words.py",
-        "text[: max(0, most - 3)]",
-        "text[: max(0, most)]",
+        'return PART_OF_ESCAPE.sub("", kept) + "..."',
+        'return kept + "..."',
         "explain_text::truncates_texts_between_escapes",
     ),
     fault(
@@ -450,8 +450,8 @@ FAULTS = [
     ),
     fault(
         "program.py",
-        "return max([_print_named(name, limits) for name in arguments.files])",
-        "return min([_print_named(name, limits) for name in arguments.files])",
+        "return max([_print_named(name, limits, arguments.encoding) for name in arguments.files])",
+        "return min([_print_named(name, limits, arguments.encoding) for name in arguments.files])",
         "module::prints_many_files_with_their_names",
     ),
     fault(

@@ -8,11 +8,13 @@ from pathlib import Path
 from typing import Any, Dict, List, Tuple
 
 import pytest
+import rules
 from envelopes import SMALLEST, STORY
 from iim.archive import report
 from iim.archive.index import Index
 from iim.archive.page import PAGES, Pages
 from iim.archive.rows import Batch
+from newsroom import NORWEGIAN
 from support.bindings.archive import called, rows_called
 from support.bindings.indexes import RULES, envelope_cells, made_index, rows_in
 from support.bindings.paths import NOW
@@ -95,6 +97,15 @@ def test_stores_offsets_and_sizes(folder: str) -> None:
         (1, 0, one),
         (2, one, two),
     ]
+
+
+def test_stores_the_words_of_a_story(folder: str) -> None:
+    index = f"{folder}/index"
+    write_file(folder, "tree/a.iim", NORWEGIAN.octets)
+    called("--into", index, f"{folder}/tree")
+    announced, counted = int(NORWEGIAN.head[4]), rules.words_of(NORWEGIAN.lines)
+    assert announced != counted
+    assert rows_in(index, "SELECT announced, counted FROM envelopes") == [(announced, counted)]
 
 
 def test_fails_if_files_failed_and_others_were_refused(folder: str) -> None:
@@ -262,7 +273,8 @@ def test_reports_runs_and_fixity(folder: str) -> None:
 def test_writes_fifty_pages_and_escapes_links(folder: str) -> None:
     paths = [write_file(folder, f"tree/{at}.iim", STORY + b"\x1d") for at in range(PAGES + 2)]
     pages = Pages(f"{folder}/a b#c?.html", (65_536, 512), [], False)
-    links = [pages.page_of(os.fsencode(path)) for path in paths]
+    known = [(os.stat(path).st_size, os.stat(path).st_mtime_ns) for path in paths]
+    links = [pages.page_of(os.fsencode(path), each) for path, each in zip(paths, known)]
     assert (PAGES, links[50:]) == (50, [None, None])
     assert links[0] == "a%20b%23c%3F.files/1.html"
     assert links[49] == "a%20b%23c%3F.files/50.html"
@@ -270,3 +282,15 @@ def test_writes_fifty_pages_and_escapes_links(folder: str) -> None:
         f"{at}.html" for at in range(1, 51)
     )
     assert "6.iim" in Path(f"{folder}/a b#c?.files/7.html").read_text(encoding="utf-8")
+
+
+def test_says_that_a_file_differs_from_the_index(folder: str) -> None:
+    path = os.fsencode(write_file(folder, "tree/a.iim", STORY + b"\x1d"))
+    now = os.stat(path).st_size, os.stat(path).st_mtime_ns
+    second = 1_709_294_400 * 10**9
+    pages = Pages(f"{folder}/report.html", (65_536, 512), [], False)
+    for nth, known in enumerate([now, (now[0] - 1, now[1]), (now[0], second)], 1):
+        assert pages.page_of(path, known) == f"report.files/{nth}.html"
+        page = Path(f"{folder}/report.files/{nth}.html").read_text(encoding="utf-8")
+        assert (known, "The file was changed after" in page) == (known, known != now)
+    assert f"then it had {len(STORY) + 1} octets of 2024-03-01T12:00:00Z, and now it has" in page

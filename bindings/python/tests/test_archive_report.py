@@ -4,11 +4,13 @@ from __future__ import annotations
 import os
 import re
 import subprocess
+from typing import List
 
 import envelopes
 import rules
 from envelopes import SMALLEST
-from support.bindings.browser import MARK, opened, pixels
+from support.bindings.accessibility import value_of
+from support.bindings.browser import MARK, Controlled, opened, pixels
 from support.bindings.explaining import archive_text, elements, explained_samples, indexed
 from support.bindings.paths import environment, NOW, SECONDS
 from support.bindings.running import python_with, text_of, write_file
@@ -103,13 +105,23 @@ def test_reports_an_archive_as_a_page(folder: str) -> None:
     page = text_of(f"{folder}/out.html")
     assert [each in page for each in ("<script", "\x1b", "\u202e")] == [False] * 3
     assert "&lt;script&gt;\\u202E.iim" in page and "&lt;$x$&gt;\\xE2" in page, page
+    # (what an operator acts on comes first, and the legend has the words whose totals are not 0)
+    assert re.findall(r"<h2>(.*?)</h2>", page)[:3] == ["Sums", "Damaged files", "Legend"]
+    sums = re.findall(r"<div><dt>(\w+)</dt><dd>([\d,]+)</dd></div>", page)
+    legend = page.partition("<dl class=legend>")[2].partition("</dl>")[0]
+    assert re.findall(r"<dt>(\w+)</dt><dd>\w", legend) == [
+        name for name, count in sums[3:] if count != "0"
+    ]
+    assert ("refused", "3") in sums and "<th>" not in page
+    narrow, wide = widths_at(folder, f"{folder}/out.html")
+    assert (narrow <= 390, wide <= 768) == (True, True), f"{narrow} and {wide}: sideways"
     links = [attributes["href"] for tag, attributes in elements(page) if tag == "a"]
     assert sorted(links) == [f"out.files/{nth}.html" for nth in (1, 2, 3)]
     for link in links:
         assert "<mark" in text_of(f"{folder}/{link}"), link
     console, asked, picture = opened(folder, page)
     assert (console, asked) == ([], [])
-    ((count, _, _),) = pixels(picture, (0x2F, 0x6F, 0x9F))
+    ((count, _, _),) = pixels(picture, (0x3A, 0x80, 0xB5))
     assert count > 1_000, f"{count} points of the bars"
     # (a page that it links to, and a request that its policy prevents)
     console, asked, picture = opened(folder, text_of(f"{folder}/{links[0]}"))
@@ -121,6 +133,18 @@ def test_reports_an_archive_as_a_page(folder: str) -> None:
         folder, planted.replace("default-src 'none'; style-src 'unsafe-inline'", "")
     )
     assert any("planted.example" in each for each in asked), f"a request is not found: {asked}"
+
+
+def widths_at(folder: str, path: str) -> List[int]:
+    """Return the width of a page in windows of 390 and of 768 pixels."""
+    found: List[int] = []
+    with Controlled(folder) as asked:
+        asked.seconds(path)
+        for width in 390, 768:
+            metrics = {"width": width, "height": 900, "deviceScaleFactor": 1, "mobile": False}
+            asked.ask("Emulation.setDeviceMetricsOverride", **metrics)
+            found.append(value_of(asked, "String(document.documentElement.scrollWidth)"))
+    return found
 
 
 def test_draws_each_bar(folder: str) -> None:

@@ -25,6 +25,7 @@ from support.bindings.running import run, samples, write_file
 from support.bindings.streams import made, OnlyRead
 
 pytestmark = pytest.mark.usefixtures("way")
+UTC = datetime.timezone.utc
 
 
 def audited(command: Path, octets: bytes, now: str = NOW) -> Tuple[List[str], Optional[str]]:
@@ -310,3 +311,24 @@ def test_reports_dangling_links(folder: str) -> None:
         "",
         [None, "Too many levels of symbolic links", "No such file or directory"],
     )
+
+
+def test_accepts_instants_up_to_the_last() -> None:
+    # (9999-12-30T22:00:00Z: a day and two hours before the end of the year 9999)
+    last = datetime.datetime(9999, 12, 30, 22, tzinfo=UTC)
+    assert iim.LAST_SECOND == (last - datetime.datetime(1970, 1, 1, tzinfo=UTC)).total_seconds()
+    (row,) = iim.audit(io.BytesIO(STORY), now=last)
+    assert row.length == len(STORY)
+    with pytest.raises(ValueError, match="the last instant"):
+        iim.Auditor(now=last + datetime.timedelta(seconds=1))
+
+
+def test_reads_the_instants_of_copy() -> None:
+    fields = [*STORY_FIELDS, (2, 30, b"20240301"), (2, 35, b"120000+0100")]
+    fields += [(2, 37, b"20240302"), (2, 38, b"000000-0200")]
+    octets = rules.packed(sorted(fields), rules.object_of(STORY_HEAD, [b"a"], b""), 1024)
+    (row,) = iim.audit(io.BytesIO(octets), now=datetime.datetime(2024, 3, 1, tzinfo=UTC))
+    release = datetime.datetime(2024, 3, 1, 11, tzinfo=UTC)
+    expires = datetime.datetime(2024, 3, 2, 2, tzinfo=UTC)
+    assert (row.release, row.expires) == (release.timestamp(), expires.timestamp())
+    assert row.copy == "held"

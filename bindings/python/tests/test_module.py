@@ -12,8 +12,10 @@ import sys
 
 import envelopes
 import pytest
+import rules
 from envelopes import SMALLEST, STORY, STORY_FIELDS
 from iim import _library
+from newsroom import COPIES, RUSSIAN
 from support.bindings.paths import environment, SAMPLES, SECONDS, TOP
 from support.bindings.running import run, write_file
 
@@ -255,3 +257,30 @@ def test_names_a_library_that_is_too_old(folder: str) -> None:
         f" ({folder}/old.so: undefined symbol: iim_fields)\n"
     )
     assert (status, output, errors.decode()) == (3, b"", wanted)
+
+
+def test_writes_text_in_the_encoding_asked_for(folder: str) -> None:
+    declared = {"norwegian": None, "french": "utf-8", "russian": "iso8859-5"}
+    for name, copy in COPIES.items():
+        path = write_file(folder, f"{name}.iim", copy.octets)
+        headline = rules.first(copy.fields, 2, 105)
+        assert headline is not None
+        for asked, encoding in (copy.encoding, None), ("declared", declared[name]):
+            status, (line,), errors = module(["--encoding", asked, path])
+            assert (status, errors) == (0, "")
+            assert line["named"]["headline"] == headline.decode(copy.encoding)
+            assert line["lines"] == [each.decode(copy.encoding) for each in copy.lines]
+            assert line["header"]["info"] == copy.head[5].decode(copy.encoding)
+            # (numbers are not text)
+            assert line["named"]["file_format"] == "\0\2"
+            if asked == "declared":
+                assert line["encoding"] == encoding
+    path = write_file(folder, "cut.iim", RUSSIAN.octets[:-1])
+    status, (line,), _ = module(["--encoding", "declared", path])
+    (by_line,) = [field["octets"] for field in line["fields"] if field["dataset"] == "2:80"]
+    assert (status, by_line, line["encoding"]) == (1, "Мария Иванова", "iso8859-5")
+    # (bytes that are not of the encoding, and names of no encoding)
+    status, (line,), _ = module(["--encoding", "ascii", path])
+    assert (status, line["encoding"], "\\xbc" in json.dumps(line)) == (1, "ascii", True)
+    for wrong in "utf-16", "rot13", "none":
+        assert module(["--encoding", wrong, path])[0] == 2

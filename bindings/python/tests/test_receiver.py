@@ -197,6 +197,16 @@ def test_keeps_datasets_before_a_refusal() -> None:
         assert (refused.datasets, refused.id) == ([], (None, None, None))
 
 
+def test_keeps_the_first_of_each_dataset_of_an_id() -> None:
+    with pytest.raises(iim.TruncatedError) as caught:
+        list(iim.read(STORY[:100]))
+    refused = caught.value
+    other = [iim.Field(1, number, iim.Octets(b"OTHER")) for number in (30, 40, 70)]
+    known = refused.id
+    refused.datasets = [*refused.datasets, *other]
+    assert known == refused.id == (b"TST", b"00000002", b"20240301")
+
+
 def test_accepts_more_after_a_truncation() -> None:
     receiver = iim.Receiver()
     receiver.feed(STORY[:200])

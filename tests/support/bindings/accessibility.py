@@ -74,6 +74,9 @@ for (const element of document.querySelectorAll("body *")) {
   if (element.matches("a[href]") && !hidden(element) && (box.height < 24 || box.width < 24)) {
     say("target of " + box.width.toFixed(0) + " x " + box.height.toFixed(0), element);
   }
+  // (on a telephone a row of bytes is wrapped)
+  const lines = box.height / parseFloat(style.lineHeight);
+  if (innerWidth > 700 && element.matches("pre i") && lines > 1.5) say("a broken row", element);
   if (element.matches("th") && !element.hasAttribute("scope")) say("no scope", element);
   if (element.matches("[role=group]") && !element.hasAttribute("aria-label")) say("name", element);
 }

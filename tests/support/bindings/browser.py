@@ -7,6 +7,7 @@ writes the picture of README.md, the page of a damaged sample, to OUT.
 from __future__ import annotations
 
 import contextlib
+import hashlib
 import json
 import os
 import re
@@ -19,13 +20,14 @@ import sys
 import tempfile
 import threading
 import time
+import zlib
 from pathlib import Path
-from typing import Any, Dict, List, Optional, Sequence, Tuple
+from typing import Any, Dict, Iterator, List, Optional, Sequence, Tuple
 
 import pytest
 from iim.explain.page import page as page_of
 from support.bindings.explaining import case_of
-from support.bindings.paths import SAMPLES, SECONDS
+from support.bindings.paths import SECONDS, TOP
 from support.bindings.running import Name, python_with, run_text, write_file
 
 # The colour of the marked byte, which nothing else on a page has.
@@ -212,13 +214,42 @@ class Controlled:
         return max(seen["firstContentfulPaint"], seen["load"])
 
 
+# The sample of the picture, and the size of its window, as the guide has them.
+PICTURED, WINDOW = "samples/damaged/bad_value.iim", (1180, 1360)
+
+
+def pictured_page() -> str:
+    """Return the page of the picture, without what differs each time: the instant."""
+    octets = Path(TOP, PICTURED).read_bytes()
+    page = page_of(case_of(octets, name=PICTURED))
+    return re.sub(r", at [0-9-]+T[0-9:]+Z</p>", "</p>", page)
+
+
+def digest_of(page: str) -> bytes:
+    """Return the digest of a page that its picture has. The links differ with the directory."""
+    return hashlib.sha256(re.sub(r'href="[^"]*"', "", page).encode()).hexdigest().encode()
+
+
+def chunks_of(picture: bytes) -> Iterator[Tuple[bytes, bytes]]:
+    """Yield the type and the data of each chunk of a PNG picture."""
+    at = 8
+    while at < len(picture):
+        size = int.from_bytes(picture[at : at + 4], "big")
+        yield picture[at + 4 : at + 8], picture[at + 8 : at + 8 + size]
+        at += 12 + size
+
+
 def make_picture(out: str) -> None:
-    """Write the picture of README.md: the page of a damaged sample."""
-    octets = (SAMPLES / "damaged" / "bad_value.iim").read_bytes()
-    page = page_of(case_of(octets, name="bad_value.iim"))
+    """Write the picture, with the digest of its page in a chunk of text."""
+    page = pictured_page()
     # (a process of a browser may write in its profile for a moment after the browser has ended)
     with tempfile.TemporaryDirectory(ignore_cleanup_errors=True) as folder:
-        opened(folder, page, (1180, 900), str(Path(out).absolute()))
+        opened(folder, page, WINDOW, f"{folder}/page.png")
+        made = Path(folder, "page.png").read_bytes()
+    text = b"tEXtPage\0" + digest_of(page)
+    chunk = (len(text) - 4).to_bytes(4, "big") + text + zlib.crc32(text).to_bytes(4, "big")
+    # (the first chunk, of 13 bytes, must stay the first)
+    Path(out).write_bytes(made[:33] + chunk + made[33:])
 
 
 if __name__ == "__main__":

@@ -315,7 +315,141 @@ def instants(file: File, text: str) -> Iterator[Told]:
         yield Told(words, found and found[1], computed)
 
 
+# --- The whole file, and its likely reason
+
+
+def verdict(file: File, text: str) -> Iterator[Told]:
+    """Yield the numbers of the verdict, and of the lines of the envelopes."""
+    found = re.search(r"([\d,]+) octets?, ([\d,]+) envelopes? accepted, envelope ([\d,]+)", text)
+    assert found, text
+    printed = number(found[1]), number(found[2]), number(found[3])
+    yield Told(found[0], printed, (len(file.octets), file.nth - 1, file.nth))
+
+
+def envelopes_of(octets: bytes) -> List[int]:
+    """Return the sizes of the envelopes at the beginning of some bytes, by the test oracle."""
+    sizes: List[int] = []
+    at = 0
+    while at < len(octets) and (read := rules.read(octets[at:])).is_done:
+        sizes.append(read.at)
+        at += read.at
+    return sizes
+
+
+def likely(file: File, text: str) -> Iterator[Told]:
+    """Yield the numbers of the likely reason."""
+    own, reason = file.own, text.partition("Likely reason: ")[2]
+    here = re.search(r"It is in (\d):(\d\d+)[^;]*, which begins at ([\d,]+); it has ([\d,]+)", text)
+    found = re.match(r"\d:\d+[^.]*: it counts ([\d,]+); at (most|least) ([\d,]+), or", reason)
+    if found and here:
+        row = rules.row_of(int(here[1]), int(here[2]))
+        assert row, text
+        least_or_most = row.most if found[2] == "most" else row.least
+        yield Told(found[0], (number(found[1]), number(found[3])), (number(here[4]), least_or_most))
+    found = re.match(r"(a subfile|the object) has ([\d,]+) octets, and 7:(\d\d) allows", reason)
+    if found and here:
+        before = rules.read(own[: file.octet])
+        size = number(here[4]) + (before.total if found[1] == "the object" else 0)
+        limit = number(reason[found.end() :].split(" ")[1].rstrip("."))
+        yield Told(found[0], (number(found[2]), limit), (size, before.numbers[int(found[3])]))
+    found = re.search(r"octets of the object: ([\d,]+) octets? fewer than 7:90", reason)
+    if found:
+        before = rules.read(own[: file.octet])
+        yield Told(found[0], number(found[1]), before.numbers[90] - before.total)
+    found = re.match(r"([\d,]+) octets? follow the last envelope", reason)
+    if found:
+        yield Told(found[0], number(found[1]), len(own))
+
+
+def whole_file(file: File, text: str) -> Iterator[Told]:
+    """Yield the numbers of what was tried with the file as a whole."""
+    own = file.own
+    found = re.search(r"Without the first ([\d,]+) octets?[^.]*it is accepted: ([\d,]+)", text)
+    if found:
+        sizes = envelopes_of(own[number(found[1]) :])
+        yield Told(found[0], number(found[2]), len(sizes))
+        yield Told(found[0], sum(sizes), len(own) - number(found[1]))
+    found = re.search(
+        r"At octet ([\d,]+)(?: \(octet ([\d,]+) of the file\))? another envelope begins: from there"
+        r" on, the bytes are accepted: ([\d,]+)",
+        text,
+    )
+    if found:
+        at = number(found[1])
+        sizes = envelopes_of(own[at:])
+        yield Told(found[0], (number(found[3]), at + sum(sizes)), (len(sizes), len(own)))
+        in_file = number(found[2]) if found[2] else 0
+        yield Told(found[0], in_file, file.at + at if file.at else 0)
+    for found in re.finditer(
+        r"\. Without octets ([\d,]+) to ([\d,]+) \(([\d,]+) octets?\)[^:]*: the envelope is", text
+    ):
+        first, last, count = (number(found[nth]) for nth in (1, 2, 3))
+        rest = own[:first] + own[last + 1 :]
+        yield Told(found[0], (count, True), (last + 1 - first, accepted(rest)))
+    found = re.search(r"is there ([\d,]+) times?, first at octet ([\d,]+): octets are lost", text)
+    if found:
+        mark = b"\xef\xbf\xbd"
+        yield Told(
+            found[0], (number(found[1]), number(found[2])), (own.count(mark), own.index(mark))
+        )
+    found = re.search(r"below 256: these ([\d,]+) octets have none\.", text)
+    if found:
+        yield Told(found[0], (number(found[1]), False), (len(own), b"\0" in own))
+    found = re.search(r"At octet ([\d,]+) a record 2 begins", text)
+    if found:
+        yield Told(found[0], own[number(found[1]) :][:2], b"\x1c\2")
+
+
+def corrected(file: File, text: str) -> Iterator[Told]:
+    """Yield whether the envelope is accepted with each other form of the invalid value."""
+    here = re.search(r"It is in \d:\d\d+[^;]*, which begins at ([\d,]+); it has ([\d,]+)", text)
+    if here is None:
+        return
+    begin, size = number(here[1]), number(here[2])
+    own = file.own
+    for found in re.finditer(
+        r"\. With (\d):(\d\d+) [A-Z][^.:]*? as '?([0-9+-]+)'?, [^:]*?(: the envelope is accepted)",
+        text,
+    ):
+        value = found[3].encode()
+        put = rules.dataset_of(int(found[1]), int(found[2]), value)
+        made = own[:begin] + put + own[begin + 5 + size :]
+        yield Told(found[0], True, accepted(made))
+
+
+def limits(file: File, text: str) -> Iterator[Told]:
+    """Yield the numbers of a limit that is exceeded."""
+    found = re.search(
+        r"With it, records 1 and 2 have ([\d,]+) (octets of data|datasets); at most ([\d,]+)", text
+    )
+    here = re.search(r"It is in \d:\d\d+[^;]*, which begins at [\d,]+; it has ([\d,]+)", text)
+    if found is None or here is None:
+        return
+    # (the oracle stops before the dataset that exceeds the limit)
+    fields = rules.read(file.own[: file.octet]).fields
+    octets = sum(len(data) for _, _, data in fields) + number(here[1])
+    computed = (octets, 65_536) if found[2] != "datasets" else (len(fields) + 1, 512)
+    yield Told(found[0], (number(found[1]), number(found[3])), computed)
+
+
 # --- Rows
+
+
+def listing(file: File, text: str) -> Iterator[Told]:
+    """Yield the lines of the accepted envelopes: number, offset, size and id."""
+    own = text.partition("\nENVELOPES\n")[2].partition("\n\n")[0]
+    rows = re.findall(r"^ +([\d,]+)  at ([\d,]+) +([\d,]+) octets?  (\S+ \S+ \S+)$", own, re.M)
+    at = 0
+    sizes = envelopes_of(file.octets)
+    for row, size in zip(rows, sizes):
+        read = rules.read(file.octets[at : at + size])
+        ids = (rules.first(read.fields, 1, each) or b"" for each in (30, 40, 70))
+        name = " ".join(rules.shown(part) for part in ids)
+        nth = sizes.index(size) + 1 if sizes.count(size) == 1 else number(row[0])
+        yield Told(
+            " ".join(row), (number(row[0]), *map(number, row[1:3]), row[3]), (nth, at, size, name)
+        )
+        at += size
 
 
 def dumps(file: File, text: str) -> Iterator[Told]:
@@ -347,7 +481,10 @@ def items(file: File, text: str) -> Iterator[Told]:
         yield Told(f"{at} {record}:{dataset}", printed, (tag[1], tag[2], count))
 
 
-ALL = (where, values, single_bytes, places, ends, asked, sizes, instants)
+ALL = (
+    *(verdict, where, values, likely, whole_file, corrected, single_bytes, places, ends, asked),
+    *(sizes, instants, limits),
+)
 
 
 def told(octets: bytes, text: str) -> Iterator[Told]:
@@ -356,5 +493,5 @@ def told(octets: bytes, text: str) -> Iterator[Told]:
     plain = re.sub(r"\s+", " ", text)
     for each in ALL:
         yield from each(file, plain)
-    for rows in (dumps, items):
+    for rows in (dumps, items, listing):
         yield from rows(file, text)

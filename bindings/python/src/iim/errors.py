@@ -3,7 +3,7 @@ from __future__ import annotations
 
 import json
 from dataclasses import dataclass
-from typing import Any, Dict, List, Tuple
+from typing import Any, Dict, List, Optional, Tuple
 
 from iim._deprecated import warn_of_old_name
 from iim.octets import Octets
@@ -116,8 +116,12 @@ class RefusedError(IimError):
             first.setdefault((record, number), octets)
         return PartialId(first.get((1, 30)), first.get((1, 40)), first.get((1, 70)))
 
-    def to_dict(self) -> Dict[str, Any]:
-        """Return the error as a dictionary for JSON, with bytes as Latin-1."""
+    def to_dict(self, encoding: Optional[str] = None) -> Dict[str, Any]:
+        """Return the error as a dictionary for JSON, with bytes as Latin-1.
+
+        Args:
+            encoding: The encoding of text, or `None` for Latin-1.
+        """
         names = "layer", "dataset", "octet", "octet_in_file", "cause", "cause_name"
         refused = {name: getattr(self, name) for name in names}
         parts = self.id._asdict().items()
@@ -126,12 +130,16 @@ class RefusedError(IimError):
             "at": self.at,
             "refused": {**refused, "name": dataset_name(self.record, self.number)},
             "id": {name: None if octets is None else as_latin(octets) for name, octets in parts},
-            "fields": [field.to_dict() for field in self.datasets],
+            "fields": [field.to_dict(encoding) for field in self.datasets],
         }
 
-    def to_json(self) -> str:
-        """Return the error as a line of JSON, with bytes as Latin-1."""
-        return json.dumps(self.to_dict())
+    def to_json(self, encoding: Optional[str] = None) -> str:
+        """Return the error as a line of JSON, with bytes as Latin-1.
+
+        Args:
+            encoding: The encoding of text, or `None` for Latin-1.
+        """
+        return json.dumps(self.to_dict(encoding))
 
     def as_json(self) -> Dict[str, Any]:
         """Return the same as `to_dict`. Deprecated."""

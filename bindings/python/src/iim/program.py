@@ -10,11 +10,11 @@ import signal
 import sys
 import threading
 from pathlib import Path
-from typing import Any, Dict, Iterator, List, Optional, Sequence, Tuple
+from typing import Any, Dict, Iterator, List, Optional, Sequence, Tuple, Union
 
 from iim.errors import RefusedError
 from iim.reader import read
-from iim.values import GREATEST_LIMIT, WIRE, Limits
+from iim.values import GREATEST_LIMIT, WIRE, Envelope, Limits
 
 # The exit status of a failure, and that of a program ended by a signal.
 FAILED = 3
@@ -91,13 +91,38 @@ def print_line(value: Dict[str, Any]) -> None:
     print_text(json.dumps(value) + "\n")
 
 
-def _print_file(named: Dict[str, str], file: Any, limits: Limits) -> int:
+# The name of the encoding that 1:90 declares, or else Latin-1.
+DECLARED = "declared"
+
+
+def _encoding_for(name: Optional[str], coded_character_set: Optional[bytes]) -> Optional[str]:
+    """Return the encoding of an envelope: that of a name, or the declared one, or `None`."""
+    if name != DECLARED:
+        return name
+    from iim.explain.charsets import encoding_of
+
+    return encoding_of(coded_character_set or b"")
+
+
+def _line_of(envelope: Union[Envelope, RefusedError], name: Optional[str]) -> Dict[str, Any]:
+    """Return the line of an envelope or of a refusal, with the encoding if one is wanted."""
+    if name is None:
+        return envelope.to_dict()
+    key = (1, 90)
+    sets = (field.octets for field in envelope.datasets if (field.record, field.number) == key)
+    encoding = _encoding_for(name, next(sets, None))
+    return {**envelope.to_dict(encoding), "encoding": encoding}
+
+
+def _print_file(
+    named: Dict[str, str], file: Any, limits: Limits, encoding: Optional[str] = None
+) -> int:
     """Print the lines of a file, and return the exit status."""
     try:
         for envelope in read(file, limits):
-            print_line({**named, **envelope.to_dict()})
+            print_line({**named, **_line_of(envelope, encoding)})
     except RefusedError as refusal:
-        print_line({**named, **refusal.to_dict()})
+        print_line({**named, **_line_of(refusal, encoding)})
         return 1
     except OSError as fault:
         print_line({**named, "failed": f"cannot read: {fault.strerror or fault}"})
@@ -105,7 +130,7 @@ def _print_file(named: Dict[str, str], file: Any, limits: Limits) -> int:
     return 0
 
 
-def _print_named(name: str, limits: Limits) -> int:
+def _print_named(name: str, limits: Limits, encoding: Optional[str]) -> int:
     """Open a file, print its lines, each with the file's name, and return the exit status."""
     with naming(name if name.isprintable() else ascii(name)[1:-1]):
         try:
@@ -114,7 +139,7 @@ def _print_named(name: str, limits: Limits) -> int:
             print_line({"file": name, "failed": f"cannot open: {fault.strerror}"})
             return FAILED
         with file:
-            return _print_file({"file": name}, file, limits)
+            return _print_file({"file": name}, file, limits, encoding)
 
 
 def _explain(arguments: List[str]) -> int:
@@ -143,6 +168,22 @@ def check_limits(parser: argparse.ArgumentParser, limits: Sequence[int]) -> None
         parser.error(f"a limit must be from 1 to {GREATEST_LIMIT}")
 
 
+def encoding_named(name: str) -> str:
+    """Return the normal name of an encoding. Raise an error for the parser if there is none."""
+    from iim.explain.charsets import known_encoding
+
+    known = known_encoding(name)
+    if known is None:
+        reason = "no encoding of text with ASCII is known by this name"
+        raise argparse.ArgumentTypeError(f"{name!r}: {reason}")
+    return known
+
+
+def _encoding_named(name: str) -> str:
+    """Return the normal name of an encoding, or `DECLARED`."""
+    return name if name == DECLARED else encoding_named(name)
+
+
 def _print_files(words: List[str]) -> int:
     """Print the lines of the files given, or of standard input, and return the exit status."""
     parser = argparse.ArgumentParser(
@@ -154,16 +195,23 @@ def _print_files(words: List[str]) -> int:
     parser.add_argument(
         "files", metavar="FILE", nargs="*", help="file to read [default: standard input]"
     )
+    parser.add_argument(
+        "--encoding",
+        metavar="NAME",
+        type=_encoding_named,
+        help="write text in this encoding, such as utf-8, or with `declared` in that which 1:90"
+        " declares; other bytes are written as Latin-1 [default: all bytes as Latin-1]",
+    )
     add_limits(parser)
     arguments = parser.parse_args(words)
     check_limits(parser, arguments.limits)
     limits = Limits(*arguments.limits)
     if arguments.files:
-        return max([_print_named(name, limits) for name in arguments.files])
+        return max([_print_named(name, limits, arguments.encoding) for name in arguments.files])
     with naming("standard input"):
         if sys.stdin is None:
             raise OSError(errno.EBADF, os.strerror(errno.EBADF))
-        return _print_file({}, sys.stdin.buffer, limits)
+        return _print_file({}, sys.stdin.buffer, limits, arguments.encoding)
 
 
 def _prepare() -> None:

@@ -192,9 +192,14 @@ class Field(NamedTuple):
         """
         return self.octets.text(encoding, errors)
 
-    def to_dict(self) -> Dict[str, Any]:
-        """Return the dataset as a dictionary for JSON, with its bytes as Latin-1."""
-        return {"dataset": self.dataset, "name": self.name, "octets": as_latin(self.octets)}
+    def to_dict(self, encoding: Optional[str] = None) -> Dict[str, Any]:
+        """Return the dataset as a dictionary for JSON, with its bytes as Latin-1.
+
+        Args:
+            encoding: The encoding of text, or `None` for Latin-1.
+        """
+        octets = decoded(self.record, self.number, self.octets, encoding)
+        return {"dataset": self.dataset, "name": self.name, "octets": octets}
 
     def as_json(self) -> Dict[str, Any]:
         """Return the same as `to_dict`. Deprecated."""
@@ -491,31 +496,46 @@ class Envelope(NamedDatasets):
         """
         return "\n".join(line.text(encoding, errors) for line in self.story_lines())
 
-    def to_json(self) -> str:
-        """Return the envelope as a line of JSON, with bytes as Latin-1."""
-        return json.dumps(self.to_dict())
+    def to_json(self, encoding: Optional[str] = None) -> str:
+        """Return the envelope as a line of JSON, with bytes as Latin-1.
+
+        Args:
+            encoding: The encoding of text, or `None` for Latin-1.
+        """
+        return json.dumps(self.to_dict(encoding))
 
     def as_json(self) -> Dict[str, Any]:
         """Return the same as `to_dict`. Deprecated."""
         warn_of_old_name("as_json", "to_dict")
         return self.to_dict()
 
-    def to_dict(self) -> Dict[str, Any]:
-        """Return the envelope as a dictionary for JSON, with bytes as Latin-1."""
+    def to_dict(self, encoding: Optional[str] = None) -> Dict[str, Any]:
+        """Return the envelope as a dictionary for JSON, with bytes as Latin-1.
+
+        Args:
+            encoding: The encoding of text, or `None` for Latin-1. Bytes that are not of it are
+                written as `\\x` and two digits.
+        """
+
+        def text(octets: bytes) -> str:
+            """Return text of the message."""
+            return as_text(octets, encoding)
+
         named: Dict[str, Any] = {}
         for name, (record, number, repeats) in ATTRIBUTES.items():
-            found = [as_latin(octets) for octets in self.all(record, number)]
+            values = self.all(record, number)
+            found = [decoded(record, number, octets, encoding) for octets in values]
             if found:
                 named[name] = found if repeats else found[0]
-        lines = None if self.story is None else [as_latin(line) for line in self.story_lines()]
+        lines = None if self.story is None else [text(line) for line in self.story_lines()]
         return {
             "envelope": self.nth,
             "at": self.at,
             "length": self.length,
             "named": named,
-            "fields": [field.to_dict() for field in self.datasets],
-            "header": {name: as_latin(octets) for name, octets in self.header._asdict().items()},
-            "trailer": as_latin(self.trailer),
+            "fields": [field.to_dict(encoding) for field in self.datasets],
+            "header": {name: text(octets) for name, octets in self.header._asdict().items()},
+            "trailer": text(self.trailer),
             "sizes": self.sizes._asdict(),
             "lines": lines,
         }
@@ -524,3 +544,21 @@ class Envelope(NamedDatasets):
 def as_latin(octets: bytes) -> str:
     """Return bytes decoded as Latin-1."""
     return octets.decode("latin-1")
+
+
+def as_text(octets: bytes, encoding: Optional[str]) -> str:
+    """Return text decoded from an encoding, or from Latin-1 if it is `None`."""
+    return octets.decode(encoding or "latin-1", "backslashreplace")
+
+
+# The kinds of values that are text, by their numbers in the tables.
+_TEXTS = range(1, 6)
+
+
+def decoded(record: int, number: int, octets: bytes, encoding: Optional[str]) -> str:
+    """Return a value decoded from an encoding if it is text, and otherwise from Latin-1."""
+    if encoding is None:
+        return as_latin(octets)
+    rule = row(record, number)
+    is_text = rule is not None and rule.kind in _TEXTS
+    return as_text(octets, encoding if is_text else None)

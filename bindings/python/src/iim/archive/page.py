@@ -16,11 +16,12 @@ import matplotlib
 from markupsafe import Markup
 
 import iim
-from iim.archive.report import Bars, Content, named
+from iim.archive.report import Bars, Content, instant, named
 from iim.archive.rows import open_regular
 from iim.explain import page as explain_page
 from iim.explain.case import Case
 from iim.explain.walk import Source
+from iim.explain.words import counted
 from iim.safe_output import LINK, PAGE_HEAD, Input, OutputRefused, replace_file
 
 # The maximum number of damaged files that get a page.
@@ -59,8 +60,12 @@ class Pages:
         self._limits, self._count = iim.Limits(*limits), 0
         self._inputs, self._force = inputs, force
 
-    def page_of(self, path: bytes) -> Optional[str]:
+    def page_of(self, path: bytes, known: Tuple[int, int]) -> Optional[str]:
         """Write the page of a file, and return its link.
+
+        Args:
+            path: The path of the file.
+            known: Its size, and the time of its last change in nanoseconds, as the index has them.
 
         Returns:
             The link, or `None` if the file can't be read, or if there are `PAGES` pages already.
@@ -69,7 +74,7 @@ class Pages:
             OSError: The page can't be written.
             OutputRefused: The page must not be written.
         """
-        text = self._text_of(path) if self._count < PAGES else None
+        text = self._text_of(path, known) if self._count < PAGES else None
         if text is None:
             return None
         if self._folder.is_symlink() and not self._force:
@@ -82,15 +87,34 @@ class Pages:
             to.write(text)
         return f"{urllib.parse.quote(os.fsencode(self._folder.name))}/{page.name}"
 
-    def _text_of(self, path: bytes) -> Optional[str]:
+    def _text_of(self, path: bytes, known: Tuple[int, int]) -> Optional[str]:
         """Return the page of a file, or `None` if it can't be read."""
         try:
             # (a path that is no longer a regular file could block without end)
             os.close(open_regular(path))
             with Source(os.fsdecode(path)) as source:
-                return explain_page.page(Case(source, self._limits))
+                status = os.fstat(source.given)
+                notes = notes_of(known, (status.st_size, status.st_mtime_ns))
+                return explain_page.page(Case(source, self._limits), notes)
         except OSError:
             return None
+
+
+def notes_of(known: Tuple[int, int], now: Tuple[int, int]) -> List[str]:
+    """Return the note on a file that differs from what the index has of it.
+
+    Args:
+        known: The size and the time of its last change, in nanoseconds, in the index.
+        now: The same of the file.
+    """
+    if known == now:
+        return []
+    (old, before), (new, after) = known, now
+    return [
+        f"The file was changed after it was indexed: then it had {counted(old, 'octet')} of"
+        f" {instant(before // 10**9)}, and now it has {counted(new, 'octet')} of"
+        f" {instant(after // 10**9)}. This page shows the file as it is now."
+    ]
 
 
 def picture(bars: Bars) -> Markup:
@@ -101,7 +125,7 @@ def picture(bars: Bars) -> Markup:
     counts = [count for _, count in bars.rows]
     figure = Figure(figsize=(6.4, 0.5 + 0.24 * len(names)))
     axes = figure.add_subplot()
-    drawn = axes.barh(range(len(names)), counts, color="#2f6f9f", height=0.75)
+    drawn = axes.barh(range(len(names)), counts, color="#3a80b5", height=0.75)
     axes.bar_label(drawn, labels=[f"{count:,}" for count in counts], padding=3)
     axes.set_yticks(range(len(names)), names)
     axes.invert_yaxis()

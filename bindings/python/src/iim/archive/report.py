@@ -38,6 +38,23 @@ AGES = [
 ]
 
 
+# Writes the page of a file, and returns its link or `None`. It is called with the path, and with
+# the size and the time of the last change that the index has.
+PageOf = Callable[[bytes, Tuple[int, int]], Optional[str]]
+
+# The words of a report, and what they mean.
+LEGEND = {
+    "repeated": "envelopes with the service, the number and the date sent of an earlier one",
+    "held": "envelopes whose copy must not be used before its release",
+    "expired": "envelopes whose copy must not be used any more",
+    "refused": "files with an envelope that was rejected; the envelopes before it count",
+    "empty": "files without octets",
+    "failed": "files that could not be read",
+    "linked": "other names of files, which are counted once",
+    "gone": "files of the index that no longer exist; nothing else counts them",
+}
+
+
 class Bars(NamedTuple):
     """A bar chart.
 
@@ -106,6 +123,11 @@ class Content(NamedTuple):
     tables: List[Table]
     damaged: List[Damaged]
     more: int = 0
+
+    @property
+    def legend(self) -> List[Tuple[str, str]]:
+        """The words whose totals are not 0, and what they mean."""
+        return [(name, LEGEND[name]) for name, count in self.sums if count and name in LEGEND]
 
 
 class Queries:
@@ -240,17 +262,17 @@ class Queries:
         ]
         return Table(title, ["file", "envelope", "id", "at"], cells)
 
-    def damaged(self, page_of: Callable[[bytes], Optional[str]]) -> Iterator[Damaged]:
+    def damaged(self, page_of: PageOf) -> Iterator[Damaged]:
         """Yield the files with a rejected envelope."""
         parts_of_id = (f"coalesce(e.{name}, '?')" for name in ("service", "number", "date_sent"))
-        query = f"""SELECT f.path, e.envelope,
+        query = f"""SELECT f.path, f.size, f.changed, e.envelope,
                 json_extract(e.told, '$.refused.octet_in_file'),
                 json_extract(e.told, '$.refused.dataset'),
                 e.cause || ' ' || e.cause_name, {" || ' ' || ".join(parts_of_id)}
             FROM refusals AS e JOIN files AS f ON f.file = e.file AND f.gone = 0
             ORDER BY f.path LIMIT {DAMAGED}"""
-        for path, nth, at, dataset, cause, name in self.rows(query):
-            link = page_of(full_path(self._root, path))
+        for path, size, changed, nth, at, dataset, cause, name in self.rows(query):
+            link = page_of(full_path(self._root, path), (size, changed))
             yield Damaged(path, nth, at, dataset, cause, shown(name), link)
 
     def fixity(self) -> Bars:
@@ -292,9 +314,7 @@ class Queries:
         names = ["run", "command", "release", "started", "ended", "files read last", "totals"]
         return Table("Runs", names, cells)
 
-    def all(
-        self, name: str, page_of: Callable[[bytes], Optional[str]]
-    ) -> Iterator[Tuple[str, Any]]:
+    def all(self, name: str, page_of: PageOf) -> Iterator[Tuple[str, Any]]:
         """Yield the name and the value of each part of the report."""
         yield "name", words.printable(name)
         yield "now", instant(self._second)
@@ -381,7 +401,7 @@ def parts(arguments: argparse.Namespace) -> Iterator[Tuple[str, Any]]:
     """
     root = None if arguments.root is None else os.fsencode(os.path.abspath(arguments.root))
     queries = Queries(arguments.index, arguments.now, root, arguments.immutable)
-    page_of = no_page
+    page_of: PageOf = no_page
     output, force = arguments.html, arguments.force
     if output is not None:
         arguments.inputs = queries.inputs(arguments.index, output)
@@ -393,7 +413,7 @@ def parts(arguments: argparse.Namespace) -> Iterator[Tuple[str, Any]]:
     yield from queries.all(arguments.index, page_of)
 
 
-def no_page(path: bytes) -> Optional[str]:
+def no_page(path: bytes, known: Tuple[int, int]) -> Optional[str]:
     """Return no link, for a report without pages of damaged files."""
     return None
 

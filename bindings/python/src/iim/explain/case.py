@@ -70,8 +70,13 @@ class Whole:
         ticket = refusal.ticket if refusal else b""
         partial = iim.Envelope(ticket, nth=found.nth, at=found.at, length=found.length)
         self.view = self.walk.envelope or partial
-        text = b"\n".join(item.text for item in self.walk.items if item.text is not None)
-        self.encoding = charsets.choose(encoding, self.view.first(1, 90), text)
+        texts = (
+            # (of a long text only the beginning is stored, and may end inside a character)
+            item.text if len(item.text) == item.text_size else charsets.complete(item.text)
+            for item in self.walk.items
+            if item.text is not None
+        )
+        self.encoding = charsets.choose(encoding, self.view.first(1, 90), b"\n".join(texts))
 
     def items(self, most: int, lines: int) -> Iterator[Optional[Item]]:
         """Yield its items, with `None` for those that are left out of a long one."""

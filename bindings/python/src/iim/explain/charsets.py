@@ -21,6 +21,8 @@ class Encoding(NamedTuple):
 
     def __str__(self) -> str:
         """Return a sentence about the encoding."""
+        if (self.name, self.source) == ("ascii", "guessed"):
+            return "Text is ASCII."
         known = {
             "given": "as --encoding gives it",
             "declared": "as 1:90 declares it",
@@ -39,14 +41,28 @@ def known_encoding(name: str) -> Optional[str]:
         return None
 
 
+# An incomplete character of UTF-8 at the end of a text.
+PART_OF_UTF_8 = re.compile(
+    rb"(?:[\xc2-\xdf]|[\xe0-\xef][\x80-\xbf]?|[\xf0-\xf4][\x80-\xbf]{0,2})\Z"
+)
+
+
+def complete(text: bytes) -> bytes:
+    """Return text without an incomplete character of UTF-8 at its end."""
+    return PART_OF_UTF_8.sub(b"", text)
+
+
 def guess_of(text: bytes) -> str:
     """Return the likely encoding of text that does not declare one."""
+    if text.isascii():
+        return "ascii"
+    # (an incomplete last character is left out, if there are others)
+    front = complete(text)
     try:
-        # (an incomplete last character is left out)
-        codecs.getincrementaldecoder("utf-8")().decode(text)
+        (text if front.isascii() else front).decode("utf-8")
     except UnicodeDecodeError:
         return "cp1252" if any(0x80 <= octet < 0xA0 for octet in text) else "iso8859-1"
-    return "utf-8" if any(octet >= 0x80 for octet in text) else "ascii"
+    return "utf-8"
 
 
 def choose(given: Optional[str], designations: Optional[bytes], text: bytes) -> Encoding:

@@ -139,12 +139,18 @@ class Findings:
         """Whether the file is a bare message."""
         return not self._tries.at and BARE.match(self.octets) is not None
 
-    def _result(self, how: str, outcome: Outcome, least: int = 0) -> Optional[str]:
-        """Return a sentence on a change that makes more of the envelope valid, or `None`."""
+    def _result(
+        self, how: str, outcome: Outcome, least: int = 0, edit: Optional[Edit] = None
+    ) -> Optional[str]:
+        """Return a sentence on a change that makes more of the envelope valid, or `None`.
+
+        Its offset is that in the file, or in the changed bytes if many of them were changed.
+        """
         if outcome.envelopes:
             return f"{how}: the envelope is accepted{after_it(outcome)}."
         if outcome.reach > max(self._octet + FURTHER, least):
-            return f"{how}: it is valid up to octet {outcome.reach:,}."
+            of = "" if edit else " of the changed octets"
+            return f"{how}: it is valid up to octet {reach_of(outcome, edit):,}{of}."
         return None
 
     def _tried(
@@ -160,7 +166,7 @@ class Findings:
     ) -> Iterator[Finding]:
         """Try bytes in place of those of the envelope, and yield a finding if that helps."""
         outcome = self._judge(octets)
-        text = self._result(how, outcome, least)
+        text = self._result(how, outcome, least, edit)
         if text is not None:
             yield Finding(likelihood, kind, text, outcome, reason, advice, edit)
 
@@ -433,7 +439,7 @@ class Findings:
     def _place(self, place: Located) -> Iterator[Finding]:
         """Try a place, and yield a finding if it helps."""
         outcome = self._judge(place.edit.of(self.octets))
-        reach = outcome.reach + place.edit.cut - len(place.edit.put)
+        reach = reach_of(outcome, place.edit)
         if outcome.envelopes:
             end = f"the envelope is accepted{after_it(outcome)}"
         elif reach > self._octet + FURTHER + 8:
@@ -832,6 +838,13 @@ MANDATORY = {(1, 0), (1, 20), (1, 22), (1, 30), (1, 40), (1, 70), (2, 0), (7, 10
 BARE = re.compile(
     rb"[\0\n\r\x16]{0,32}\x01[A-Za-z]{1,8}\d{1,8} ?\d? ?[A-Za-z0-9]{0,8} ?\d{0,6}[^\x02]{0,100}\x02"
 )
+
+
+def reach_of(outcome: Outcome, edit: Optional[Edit]) -> int:
+    """Return the offset up to which an envelope is valid with an edit, in the envelope as it is."""
+    if edit is None:
+        return outcome.reach
+    return max(edit.at, outcome.reach + edit.cut - len(edit.put))
 
 
 def inserted(at: int, put: bytes, octets: bytes) -> bytes:

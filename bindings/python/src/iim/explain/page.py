@@ -149,7 +149,13 @@ def linked(case: Case, text: str) -> str:
         named = f"Cause {refusal.cause} {refusal.cause_name}"
         link = f"<a href=#cause{refusal.cause}>{named}</a>"
         text = text.replace(named, link, 1)
-    return re.sub(r"`(format[.]md)`", f'<a href="{document("format.md")}">\\1</a>', text)
+    return of_documents(text)
+
+
+def of_documents(text: str) -> str:
+    """Return a text of HTML with links to documents, and with code, in place of backticks."""
+    text = re.sub(r"`(format[.]md)`", f'<a href="{document("format.md")}">\\1</a>', text)
+    return re.sub(r"`([^`<]*)`", r"<code>\1</code>", text)
 
 
 def document(name: str) -> str:
@@ -170,8 +176,8 @@ def of_cause(case: Case) -> str:
     return (
         f"<section id=cause{number}><h2>Cause {number} {name}</h2>"
         f"<p>{html.escape(sentence(number))}</p>"
-        f"<p>Likely reasons in general: {html.escape(entry.reason)}.</p>"
-        f"<p>What to do: {html.escape(entry.advice)}.</p>"
+        f"<p>Likely reasons in general: {of_documents(html.escape(entry.reason))}.</p>"
+        f"<p>What to do: {of_documents(html.escape(entry.advice))}.</p>"
         f'<p><a href="{link}">All causes</a></p></section>'
     )
 

@@ -25,7 +25,6 @@ from typing import Any, List, NamedTuple, Optional
 
 import iim
 from iim.explain.case import Case
-from iim.explain.charsets import known_encoding
 from iim.explain.progress import Progress
 from iim.explain.release import release
 from iim.explain.text import Paint, lines
@@ -37,6 +36,7 @@ from iim.program import (
     add_limits,
     check_limits,
     complain,
+    encoding_named,
     naming,
     print_text,
     program_name,
@@ -167,15 +167,6 @@ def write_page(path: str, page: str, source: Source, force: bool) -> None:
                 to.write(page)
         except OutputRefused as fault:
             raise Failed(printable(str(fault))) from None
-
-
-def encoding_named(name: str) -> str:
-    """Return the normal name of an encoding. Raise an error for the parser if there is none."""
-    known = known_encoding(name)
-    if known is None:
-        reason = "no encoding of text with ASCII is known by this name"
-        raise argparse.ArgumentTypeError(f"{name!r}: {reason}")
-    return known
 
 
 class Version(argparse.Action):

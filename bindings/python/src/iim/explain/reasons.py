@@ -254,7 +254,7 @@ def of_sizes(tries: Tries) -> Optional[Reason]:
         limits: List[Tuple[str, Optional[int]]] = [("7:20", sizes.subfile)]
         if cause == 23:
             limits = [("7:90", sizes.announced), ("7:95", sizes.maximum)]
-        total = here.size if cause == 22 else sizes.total - 0
+        total = here.size if cause == 22 else sizes.total
         for which, most in limits:
             if most is not None and (cause == 22 or total + here.size > most):
                 size = here.size if cause == 22 else total + here.size

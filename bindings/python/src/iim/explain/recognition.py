@@ -406,21 +406,31 @@ def of_script(octets: bytes) -> Opened:
     yield "Packed", iim.pack(text if b"\ntext\n" in text else text + b"text\n")
 
 
+# The offset in front of a line of a dump, and the text after its bytes.
+OFFSET = re.compile(rb"\s*([0-9A-Fa-f]{6,16})(:|\s|\Z)")
+TEXT_COLUMN = re.compile(rb"\s[|>].*|(?<=[0-9A-Fa-f])  +\S{1,32}\s*\Z")
+
+
 def hexadecimal(octets: bytes) -> Optional[bytes]:
     """Return the bytes of a hexadecimal dump, or `None`. An incomplete last line is left out."""
-    parts: List[bytes] = []
+    made = bytearray()
     for line in octets.splitlines():
-        found = re.match(
-            rb"\s*(?:[0-9A-Fa-f]{6,16}[:  ]\s*)?((?:(?:0x)?[0-9A-Fa-f]{2}[ ,:]{0,2})+)", line
-        )
-        if found is None:
-            if parts and (not line.strip() or re.fullmatch(rb"[0-9A-Fa-f]{6,16}|\*", line.strip())):
-                continue
-            return None
-        digits = re.sub(rb"0x|[ ,:]", b"", re.split(rb"  +(?=\S{1,16}\Z|\|)", found[1])[0])
-        parts.append(bytes.fromhex(digits.decode("ascii")))
-    made = b"".join(parts)
-    return made if made[:2] == b"\x1c\x01" else None
+        offset = OFFSET.match(line)
+        if offset is not None and is_offset(offset[1], offset[2], len(made)):
+            line = b" " + line[offset.end() :]
+        if line.strip() in (b"", b"*"):
+            continue
+        digits = re.sub(rb"0x|\\x|[\s,:;]", b"", TEXT_COLUMN.sub(b"", line))
+        if not re.fullmatch(rb"(?:[0-9A-Fa-f]{2})+", digits):
+            return bytes(made) if made[:2] == b"\x1c\x01" else None
+        made += bytes.fromhex(digits.decode("ascii"))
+    return bytes(made) if made[:2] == b"\x1c\x01" else None
+
+
+def is_offset(digits: bytes, mark: bytes, size: int) -> bool:
+    """Check whether a number in front of a line is its offset, also if it is written in octal."""
+    is_octal = re.fullmatch(rb"[0-7]+", digits) is not None
+    return mark == b":" or int(digits, 16) == size or is_octal and int(digits, 8) == size
 
 
 def of_hexadecimal(octets: bytes) -> Opened:
