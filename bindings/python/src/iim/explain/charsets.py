@@ -2,6 +2,7 @@
 from __future__ import annotations
 
 import codecs
+import re
 import unicodedata
 from typing import List, NamedTuple, Optional, Tuple
 
