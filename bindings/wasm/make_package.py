@@ -8,20 +8,21 @@ package iim.explain.
 """
 from __future__ import annotations
 
+import importlib
 import json
 import re
 import shutil
 import sys
 from pathlib import Path
-from typing import List
+from typing import Any, List
 
 HERE = Path(__file__).resolve().parent
 TOP = HERE.parents[1]
 sys.path.insert(0, str(HERE))
 sys.dont_write_bytecode = True
 
-import declarations  # noqa: E402
-import tables  # noqa: E402
+declarations: Any = importlib.import_module("declarations")
+tables: Any = importlib.import_module("tables")
 
 RELEASE = TOP / "crates" / "iim_request" / "src" / "commands.rt"
 FILES = ["index.mjs", "index.d.ts", "core.mjs", "errors.mjs", "receiver.mjs", "README.md"]

@@ -20,7 +20,8 @@ from support.bindings.explaining import case_of, of_lines
 from support.bindings.javascript import WASM, node
 from support.bindings.running import samples
 
-DAMAGED = 500
+# The damaged files of each seed: together 500.
+DAMAGED, SEEDS = 125, range(4)
 # The greatest number that is exact as a number of JavaScript: a greater one is a bigint.
 MOST_EXACT = 2**53 - 1
 # What only iim-explain has: the file's name and checksum, the release, and the format of the file.
@@ -113,11 +114,12 @@ def test_explains_the_samples_as_iim_explain(
     count_cases(len(inputs) + len(more))
 
 
+@pytest.mark.parametrize("seed", SEEDS)
 @pytest.mark.usefixtures("single_bytes")
 def test_explains_damaged_files_as_iim_explain(
-    installed: Path, count_cases: Callable[[int], None]
+    installed: Path, seed: int, count_cases: Callable[[int], None]
 ) -> None:
-    dice = random.Random(7)
+    dice = random.Random(seed)
     small = [octets for octets in samples().values() if 60 < len(octets) < 1_000]
     inputs = [damaged(dice, dice.choice(small), small) for _ in range(DAMAGED)]
     assert differences(installed, inputs) == []

@@ -47,9 +47,7 @@ class Page:
         self.run("delete document.body.dataset.shown")
         document = self._browser.ask("DOM.getDocument")["root"]["nodeId"]
         found = self._browser.ask("DOM.querySelector", nodeId=document, selector="#files")
-        self._browser.ask(
-            "DOM.setFileInputFiles", files=[*map(str, paths)], nodeId=found["nodeId"]
-        )
+        self._browser.ask("DOM.setFileInputFiles", files=[*map(str, paths)], nodeId=found["nodeId"])
         self.wait("document.body.dataset.shown")
 
     def drop(self, *paths: Path) -> None:

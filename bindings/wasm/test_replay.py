@@ -19,7 +19,14 @@ ALLOCATING |= {"iim_pack_size", "iim_unpacker_open", "iim_unpacker_restore"}
 def replayed(built: Path, native: Path, folder: Path, calls: int, seed: int) -> Dict[str, Any]:
     """Record calls of the native library, replay them, and return the report."""
     trace = folder / "trace"
-    words: List[Name] = [sys.executable, WASM / "tests" / "trace.py", native, trace, str(calls), str(seed)]
+    words: List[Name] = [
+        sys.executable,
+        WASM / "tests" / "trace.py",
+        native,
+        trace,
+        str(calls),
+        str(seed),
+    ]
     subprocess.run(words, check=True, stdout=subprocess.DEVNULL)
     replay, layout = str(WASM / "tests" / "replay.mjs"), str(built / "package" / "layout.mjs")
     ran = node(folder, replay, layout, str(built / "iim.wasm"), str(trace))

@@ -3,9 +3,10 @@ from __future__ import annotations
 
 from typing import List
 
-from faults import c_and_packages, explaining, python
+from faults import c_and_packages, explaining, javascript, python
 from faults.fault import Fault
 
 FAULTS: List[Fault] = [*python.FAULTS, *explaining.FAULTS, *c_and_packages.FAULTS]
+FAULTS += javascript.FAULTS
 # One in each fifth of the list, always the same.
 SAMPLE = [FAULTS[len(FAULTS) * nth // 5] for nth in range(5)]

@@ -10,6 +10,7 @@ little-endian. A buffer is recorded without the bytes AA at its end.
 from __future__ import annotations
 
 import ctypes
+import importlib
 import random
 import struct
 import sys
@@ -21,7 +22,7 @@ TOP = HERE.parents[2]
 sys.path.insert(0, str(HERE.parent))
 sys.dont_write_bytecode = True
 
-import declarations  # noqa: E402
+declarations: Any = importlib.import_module("declarations")
 
 HEADER = TOP / "bindings" / "c" / "iim.h"
 DECLARED = declarations.declared(HEADER.read_text(encoding="utf-8"))
