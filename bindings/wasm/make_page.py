@@ -65,7 +65,7 @@ def policy(style: str, script: str) -> str:
 
 
 def commit() -> str:
-    """Return the commit of the sources, or a note if there is none."""
+    """Return the commit of the sources, or `unknown` outside of a clone."""
     words = ["git", "-C", str(TOP), "rev-parse", "HEAD"]
     ran = subprocess.run(words, capture_output=True, text=True)
     return ran.stdout.strip() or "unknown"

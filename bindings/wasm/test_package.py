@@ -61,19 +61,22 @@ def test_runs_the_example_of_its_readme(installed: Path) -> None:
 
 
 def test_has_strict_types(installed: Path) -> None:
-    def errors(text: str) -> str:
-        (installed / "use.mts").write_text(text, encoding="utf-8")
+    def errors(*names: str) -> str:
         words = "--strict --noEmit --target es2022 --module nodenext --moduleResolution nodenext"
-        command = [require("tsc"), *words.split(), "--lib", "es2022,dom", "use.mts"]
+        command = [require("tsc"), *words.split(), "--lib", "es2022,dom", *names]
         ran = subprocess.run(
             command, cwd=installed, capture_output=True, text=True, timeout=SECONDS
         )
         return ran.stdout
 
     (installed / "package.json").write_text('{"type": "module"}', encoding="utf-8")
-    assert errors(USE) == ""
-    for wrong in WRONG:
-        assert "error TS" in errors(f"{USE}\n{wrong}\n"), wrong
+    (installed / "use.mts").write_text(USE, encoding="utf-8")
+    assert errors("use.mts") == ""
+    names = [f"wrong{nth}.mts" for nth in range(len(WRONG))]
+    for name, wrong in zip(names, WRONG):
+        (installed / name).write_text(f"{USE}\n{wrong}\n", encoding="utf-8")
+    found = errors(*names)
+    assert [name for name in names if f"{name}(" not in found] == []
 
 
 def test_declares_what_it_exports(installed: Path) -> None:

@@ -110,8 +110,8 @@ async function show(id, wanted = null) {
   document.title = `${file.name}: iim`;
   const of = (isFirst) => explained.sections.filter((each) => FIRST.includes(each.title) === isFirst).map(card);
   const parts = [of(true), around ? bytesAround(around) : null, envelopes(id, explained), of(false)];
-  const told = (cards) => (Array.isArray(cards) ? (cards.length ? make("section", { className: "told" }, ...cards) : "") : cards ?? "");
-  $("result").replaceChildren(make("h2", { textContent: file.name, className: "vh" }), ...parts.map(told), buttons(id), ...explained.shown.map((each, nth) => article(each, bytes[nth], explained)));
+  const laidOut = (cards) => (Array.isArray(cards) ? (cards.length ? make("section", { className: "told" }, ...cards) : "") : cards ?? "");
+  $("result").replaceChildren(make("h2", { textContent: file.name, className: "vh" }), ...parts.map(laidOut), buttons(id), ...explained.shown.map((each, nth) => article(each, bytes[nth], explained)));
   document.body.dataset.shown = `${id} ${wanted ?? ""}`;
 }
 

@@ -26,7 +26,7 @@ export function encodingOf(designations) {
   return found;
 }
 
-/** Returns the size of the character at an offset of UTF-8, below 0 if these bytes are none. */
+/** Returns the size of the character at an offset of UTF-8, below 0 if these bytes are invalid. */
 function sizeOfCharacter(octets, at) {
   const first = octets[at];
   if (first < 0x80) return 1;
