@@ -3,7 +3,7 @@ from __future__ import annotations
 
 from typing import List
 
-from faults import archiving, c_and_packages, explaining, python
+from faults import archiving, c_and_packages, explaining, javascript, python
 from faults.fault import Fault
 
 FAULTS: List[Fault] = [
@@ -11,6 +11,7 @@ FAULTS: List[Fault] = [
     *explaining.FAULTS,
     *archiving.FAULTS,
     *c_and_packages.FAULTS,
+    *javascript.FAULTS,
 ]
 # One in each fifth of the list, always the same.
 SAMPLE = [FAULTS[len(FAULTS) * nth // 5] for nth in range(5)]

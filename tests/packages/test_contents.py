@@ -110,7 +110,7 @@ def test_lists_the_sums_of_what_was_made(packages: Packages) -> None:
     lines = (packages.out / "PROVENANCE").read_text().splitlines()
     made = [line.partition(": ")[2] for line in lines if line.startswith("made: ")]
     assert made == (packages.out / "SHA256SUMS").read_text().splitlines()
-    assert len(made) == 7
+    assert len(made) == 9
     words = "--check", "--strict", "--quiet", "SHA256SUMS"
     run(["sha256sum", *words], cwd=packages.out)
 
@@ -118,9 +118,9 @@ def test_lists_the_sums_of_what_was_made(packages: Packages) -> None:
 def test_documents_name_the_release(packages: Packages) -> None:
     page = text_of("README.md")
     assert re.findall(r"^This is release (\d+)", page, re.M) == [RELEASE]
-    named = re.findall(r"`([\w.-]+\.(?:deb|whl|gz))`", page)
+    named = re.findall(r"`([\w.-]+\.(?:deb|whl|gz|tgz|html))`", page)
     debs = [packages.path(name).name for name in ARCHITECTURES]
-    assert sorted(named) == sorted([ARCHIVE, WHEEL, *debs])
+    assert sorted(named) == sorted([ARCHIVE, WHEEL, *debs, f"iim-{RELEASE}.tgz", "iim.html"])
     there = {path.name for path in packages.out.iterdir()}
     assert sorted(there - {"PROVENANCE", "SHA256SUMS"}) == sorted(named)
 

@@ -196,6 +196,11 @@ class Controlled:
         result: Dict[str, Any] = answer["result"]
         return result
 
+    def events(self) -> List[Dict[str, Any]]:
+        """Return the events that have arrived, and forget them."""
+        found, self._events = self._events, []
+        return found
+
     def seconds(self, path: str) -> float:
         """Return the seconds until a page has shown something and is complete.
 
