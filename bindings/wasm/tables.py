@@ -14,7 +14,8 @@ TOP = Path(__file__).resolve().parents[2]
 sys.path.insert(0, str(TOP / "bindings" / "python" / "src"))
 sys.dont_write_bytecode = True
 
-from iim.explain import case, charsets, findings  # noqa: E402
+from iim import designations  # noqa: E402
+from iim.explain import case, findings  # noqa: E402
 from iim.explain import reasons, sections, tries, walk, words  # noqa: E402
 from iim.explain.causes import CAUSES  # noqa: E402
 
@@ -74,12 +75,12 @@ def of_sections() -> Dict[str, Any]:
 
 def of_charsets() -> Dict[str, Any]:
     """Return the character sets."""
-    encodings = [*SINGLE, *(name for name, _ in charsets.OF_96.values())]
+    encodings = [*SINGLE, *(name for name, _ in designations.OF_96.values())]
     return {
-        "OF_96": {final: name for final, (name, _) in charsets.OF_96.items()},
-        "OF_94_BY_94": {final: name for final, (name, _) in charsets.OF_94_BY_94.items()},
-        "OTHERS": {text.decode(): name for text, (name, _) in charsets.OTHERS.items()},
-        "ASCII_SETS": list(charsets.ASCII_SETS),
+        "OF_96": {final: name for final, (name, _) in designations.OF_96.items()},
+        "OF_94_BY_94": {final: name for final, (name, _) in designations.OF_94_BY_94.items()},
+        "OTHERS": {text.decode(): name for text, (name, _) in designations.OTHERS.items()},
+        "ASCII_SETS": list(designations.ASCII_SETS),
         "CHARACTERS": {name: "".join(map(str, characters(name))) for name in encodings},
         "LABELS": LABELS,
     }

@@ -41,7 +41,7 @@ SETS = {
 @pytest.mark.parametrize("designations", SETS)
 def test_decodes_the_sets_of_the_register(designations: bytes) -> None:
     octets, letters = SETS[designations]
-    name = charsets.encoding_of(designations)
+    name = encoding_of(designations)
     assert name is not None and octets.decode(name) == letters
     chosen = charsets.choose(None, designations, octets)
     assert (chosen.name, chosen.source) == (name, "declared")

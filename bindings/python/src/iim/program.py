@@ -99,7 +99,7 @@ def _encoding_for(name: Optional[str], coded_character_set: Optional[bytes]) -> 
     """Return the encoding of an envelope: that of a name, or the declared one, or `None`."""
     if name != DECLARED:
         return name
-    from iim.explain.charsets import encoding_of
+    from iim.designations import encoding_of
 
     return encoding_of(coded_character_set or b"")
 
