@@ -23,6 +23,7 @@ SCRIPTS = [
     "packages/sbom",
     "tests/minutes",
     "tests/mutate",
+    "tests/speed/compare",
     "tests/speed/measure",
     "tests/speed/measure_handle",
     "tests/write_pages",

@@ -1,12 +1,13 @@
 """Count what is the same in each run: instructions (by valgrind) and writes."""
 from __future__ import annotations
 
+import functools
 import os
 import re
 import subprocess
 import tempfile
 from pathlib import Path
-from typing import Dict, List
+from typing import Dict, List, Tuple
 
 from support import preloaded
 
@@ -30,6 +31,50 @@ def instructions(words: List[str]) -> int:
     found = re.search(r"^(?:totals|summary): (\d+)$", callgrind(words), re.M)
     assert found, "callgrind wrote no sum"
     return int(found[1])
+
+
+# The committed instructions of `check` and `story` for each small shape, and how much more a build
+# may need.
+TABLE = Path(__file__).resolve().parent / "counts.txt"
+MARGIN = 1.03
+COMMANDS = "check", "story"
+
+
+def of_input(command: str, name: str, octets: bytes) -> int:
+    """Return the instructions of a run over these octets.
+
+    Each path has the same length, since the instructions of the loader depend on it.
+    """
+    with tempfile.TemporaryDirectory() as folder:
+        path = Path(folder, "stream.iim")
+        path.write_bytes(octets)
+        return instructions([command, name, str(path)])
+
+
+@functools.lru_cache(maxsize=None)
+def of_nothing(command: str, name: str) -> int:
+    """Return the instructions of a run over no octets."""
+    return of_input(command, name, b"")
+
+
+def above_nothing(command: str, name: str, octets: bytes) -> int:
+    """Return the instructions of a run over these octets, less those of a run over none."""
+    return of_input(command, name, octets) - of_nothing(command, name)
+
+
+def table() -> Dict[Tuple[str, str], int]:
+    """Return the committed instructions of each shape and command."""
+    rows = [line.split("\t") for line in TABLE.read_text(encoding="utf-8").splitlines()[1:]]
+    return {(row[0], name): int(each) for row in rows for name, each in zip(COMMANDS, row[1:])}
+
+
+def write_table(command: str, shapes: Dict[str, bytes]) -> None:
+    """Count the instructions of each shape, and write the table."""
+    lines = ["\t".join(["shape", *COMMANDS])]
+    for shape, octets in shapes.items():
+        counts = [above_nothing(command, name, octets) for name in COMMANDS]
+        lines.append("\t".join([shape, *map(str, counts)]))
+    TABLE.write_text("\n".join(lines) + "\n", encoding="utf-8")
 
 
 def functions(words: List[str]) -> Dict[str, int]:

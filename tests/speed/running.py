@@ -54,6 +54,12 @@ def plain(folder: str, name: str) -> Optional[str]:
     return compiled(folder, name, words)
 
 
+def best(folder: str) -> Optional[str]:
+    """Compile the fastest reader in C, for the same processor as the command."""
+    words = [os.environ.get("CC", "cc"), "-O2", "-march=x86-64-v2", f"{HERE}/best.c"]
+    return compiled(folder, "best", words)
+
+
 def feeder(folder: str) -> Optional[str]:
     """Compile the program that feeds a file to the C library.
 

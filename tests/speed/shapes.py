@@ -3,13 +3,16 @@ from __future__ import annotations
 
 import os
 import random
-from typing import List, Tuple
+from typing import Dict, List, Tuple
 
 import rules
 from envelopes import SMALLEST, SMALLEST_FIELDS, SMALLEST_HEAD, STORY, STORY_FIELDS, STORY_HEAD
 
 TOP = os.path.dirname(os.path.dirname(os.path.dirname(os.path.realpath(__file__))))
 PROSE = b"The bank kept its rates where they were, as it had said it may"
+# Rows of tables as in reports of markets.
+WIDE_ROW = b"Frankfurt    DAX     16,213.90   +0.41 %"
+NARROW_ROW = b"DAX 16,213"
 PLACES = [
     (2, 5, b"Rates"),
     (2, 15, b"ECO"),
@@ -31,23 +34,31 @@ def prose(lines: int, header: List[Tuple[int, int, bytes]], subfile: int) -> byt
     return rules.packed(header, rules.object_of(STORY_HEAD, [PROSE] * lines, b""), subfile)
 
 
-def short_lines(end: bytes) -> bytes:
-    """Return an envelope whose text is 340,000 lines of one octet, with these line ends."""
+def lines_of(line: bytes, lines: int) -> bytes:
+    """Return an envelope whose text repeats this line, with its line end."""
     head, tail = rules.object_of(STORY_HEAD, [b""], b"").split(b"\2")
-    return rules.packed(SMALLEST_FIELDS, head + b"\2" + (b"x" + end) * 340_000 + tail, 32_768)
+    return rules.packed(SMALLEST_FIELDS, head + b"\2" + line * lines + tail, 32_768)
 
 
-SHAPES = {
-    "envelopes of 114 octets": SMALLEST * 9000,
-    "envelopes of 246 octets": STORY * 4000,
-    "stories of 4 KB, 22 datasets": prose(64, [*STORY_FIELDS, *PLACES], 32_768) * 240,
-    "400 keywords of 8 octets": keywords(8) * 190,
-    "400 keywords of 64 octets": keywords(64) * 38,
-    "long text, subfiles of 32 KB": prose(16_384, SMALLEST_FIELDS, 32_768),
-    "lines of one octet, CR LF": short_lines(b"\r\n"),
-    "lines of one octet, LF": short_lines(b"\n"),
-    "subfiles of one octet": prose(2560, SMALLEST_FIELDS, 1),
-}
+def shapes(times: int) -> Dict[str, bytes]:
+    """Return the shapes, each of about 100,000 octets times this number."""
+    return {
+        "envelopes of 114 octets": SMALLEST * 900 * times,
+        "envelopes of 246 octets": STORY * 400 * times,
+        "stories of 4 KB, 22 datasets": prose(64, [*STORY_FIELDS, *PLACES], 32_768) * 24 * times,
+        "400 keywords of 8 octets": keywords(8) * 19 * times,
+        "400 keywords of 64 octets": keywords(64) * 4 * times,
+        "long text, subfiles of 32 KB": prose(1640 * times, SMALLEST_FIELDS, 32_768),
+        "tables, lines of 40 octets": lines_of(b"%s\r\n" % WIDE_ROW, 2500 * times),
+        "tables, lines of 10 octets": lines_of(b"%s\r\n" % NARROW_ROW, 8500 * times),
+        "lines of one octet, CR LF": lines_of(b"x\r\n", 34_000 * times),
+        "lines of one octet, LF": lines_of(b"x\n", 34_000 * times),
+        "subfiles of one octet": prose(256 * times, SMALLEST_FIELDS, 1),
+    }
+
+
+# The measured shapes, and those whose instructions the gate counts.
+SHAPES, SMALL_SHAPES = shapes(10), shapes(1)
 # Of each script the line of its story, how often it occurs there, and the words that `pack` is
 # given.
 SCRIPTS: "dict[str, tuple[bytes, int, list[str]]]" = {

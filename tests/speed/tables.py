@@ -14,17 +14,29 @@ from speed.shapes import AUDITS, SCRIPTS, SHAPES, TOP
 PAGE = f"{TOP}/docs/SPEED.md"
 # How the line begins that says what was measured, and what stands where something wasn't there.
 SAID, NOT_THERE = "Measured of ", "–"
-BESIDE = [
-    "Shape",
-    "check",
-    "plain Rust",
-    "ratio",
-    "story",
-    "plain Rust",
-    "ratio",
-    "show",
-    "audit",
-    "iim_feed",
+# The columns of envelopes: a run, or two runs whose ratio it is. Runs are those of the command, of
+# `best` (best.c), `plain` (reader.rs) and `feed` (feed.c), of `cat`, and of `wc` (`wc -l`).
+Column = Tuple[str, str, str]
+COUNTED: List[Column] = [
+    ("check", "check", ""),
+    ("÷ best.c", "check", "best check"),
+    ("÷ plain Rust", "check", "plain check"),
+    ("story", "story", ""),
+    ("÷ best.c", "story", "best story"),
+    ("÷ plain Rust", "story", "plain story"),
+    ("show", "show", "check"),
+    ("audit", "audit", "check"),
+    ("iim_feed", "feed check", "check"),
+]
+TIMED: List[Column] = [
+    *COUNTED[:2],
+    ("÷ cat", "check", "cat"),
+    COUNTED[2],
+    *COUNTED[3:5],
+    ("÷ cat", "story", "cat"),
+    *COUNTED[5:],
+    ("cat", "cat", ""),
+    ("wc -l", "wc", ""),
 ]
 PACKED = ["Script", "pack", "plain Rust", "ratio"]
 # What memory is measured with: the shape or script, and how often it occurs in the input.
@@ -41,8 +53,11 @@ PACKAGE = {
 }
 # Of each part its tables: the names of their columns, and those of their rows.
 PARTS: Dict[str, List[Tuple[List[str], Collection[str]]]] = {
-    "counts": [([*BESIDE, "writes of check", "of story"], SHAPES), ([*PACKED, "writes"], SCRIPTS)],
-    "times": [(BESIDE, SHAPES), (PACKED, SCRIPTS)],
+    "counts": [
+        (["Shape", *(each[0] for each in COUNTED), "writes of check", "of story"], SHAPES),
+        ([*PACKED, "writes"], SCRIPTS),
+    ],
+    "times": [(["Shape", *(each[0] for each in TIMED)], SHAPES), (PACKED, SCRIPTS)],
     "audits": [(["Envelopes", "check", "audit", "ratio", "memory of the audit"], AUDITS)],
     "memory": [(["Input", "check", "show", "story", "pack"], MEMORY)],
     "package": [(["Python", "extension", "ratio", "ctypes", "ratio"], PACKAGE)],
