@@ -113,3 +113,11 @@ def test_compiles_the_header_as_cpp() -> None:
         pytest.skip("no C++ compiler is installed")
     strict = ["-std=c++17", "-Wall", "-Wextra", "-Werror", "-fsyntax-only", "-x", "c++"]
     assert run_text(["c++", *strict, HEADER]) == (0, "", "")
+
+
+@pytest.mark.parametrize("argument", ["--help", "--gates", ""])
+def test_build_rejects_other_arguments(argument: str) -> None:
+    build = HERE.parent / "build"
+    ran = subprocess.run([build, argument], capture_output=True, text=True, timeout=60)
+    assert ran.returncode == 2
+    assert ran.stderr == "usage: bindings/build [--module] [--gate]\n"
