@@ -55,7 +55,7 @@ def plain(folder: str, name: str) -> Optional[str]:
 
 
 def best(folder: str) -> Optional[str]:
-    """Compile the fastest reader in C, for the same processor as the command."""
+    """Compile the reader in C, for the same processor as the command."""
     words = [os.environ.get("CC", "cc"), "-O2", "-march=x86-64-v2", f"{HERE}/best.c"]
     return compiled(folder, "best", words)
 
