@@ -238,8 +238,8 @@ FAULTS = [
         "explain_json::says_how_long_a_line_is",
     ),
     # Encodings, and what is inside of text.
-    fault("explain/charsets.py", '0x62: ("iso8859-15", 203)', '0x62: ("iso8859-1", 203)', SETS),
-    fault("explain/charsets.py", '0x43: ("euc_kr", 149)', '0x43: ("euc_jp", 149)', SETS),
+    fault("designations.py", '0x62: ("iso8859-15", 203)', '0x62: ("iso8859-1", 203)', SETS),
+    fault("designations.py", '0x43: ("euc_kr", 149)', '0x43: ("euc_jp", 149)', SETS),
     fault("explain/charsets.py", "any(0x80 <= octet < 0xA0", "any(0x81 <= octet < 0x9F", GUESSES),
     fault(
         "explain/charsets.py",
