@@ -6,7 +6,7 @@ from typing import Dict, List, NamedTuple, Optional, Tuple
 import iim
 from iim.explain import recognition, words
 from iim.explain.causes import CAUSES
-from iim.explain.findings import BIT, OTHER, Finding, Findings
+from iim.explain.findings import BIT, Finding, Findings
 from iim.explain.tries import Tries
 from iim.explain.words import counted, name, titled
 
@@ -97,6 +97,8 @@ def reason_of(tries: Tries, findings: Findings) -> Reason:
         )
     if own is not None:
         return own
+    if any(each.kind in GUESSES for each in findings.all) and not tries.ends:
+        return SEVERAL
     if (
         refusal.cause == 1
         and not findings.octets[:1] == b"\x1c"
@@ -110,13 +112,26 @@ def reason_of(tries: Tries, findings: Findings) -> Reason:
     return default(tries)
 
 
+# The kinds of findings that are seen in the file, whatever is accepted after them; and of those
+# that are changes of some bytes, which only explain a refusal if the envelope is accepted then.
+SEEN = "inside", "bare message", "record 1"
+GUESSES = "single byte", "place"
+SEVERAL = Reason(
+    "no single change that was tried makes the envelope accepted: a span of octets may be"
+    " replaced, or more than one place is damaged",
+    "transfer the file again in binary mode, and compare both",
+)
+
+
 def best_of(findings: Findings) -> Optional[Finding]:
-    """Return the finding that explains a refusal, or `None`."""
-    found = findings.all
-    for each in found:
-        if each.is_whole or each.outcome is None and each.reason:
+    """Return the finding that explains a refusal, or `None`.
+
+    That is one after which the envelope is accepted, or one that is seen in the file.
+    """
+    for each in findings.all:
+        if each.is_whole or each.reason and (each.outcome is None or each.kind in SEEN):
             return each
-    return found[0] if found and found[0].likelihood < OTHER else None
+    return None
 
 
 def default(tries: Tries) -> Reason:
