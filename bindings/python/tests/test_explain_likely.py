@@ -3,7 +3,7 @@ from __future__ import annotations
 
 import re
 
-from newsroom import NORWEGIAN
+from newsroom import FRENCH, NORWEGIAN
 from support.bindings.explaining import case_of, text_told, unwrapped
 
 
@@ -26,3 +26,44 @@ def test_no_reason_without_an_accepted_change() -> None:
     text = explained(replaced)
     assert reason_in(text).startswith("no single change that was tried makes the envelope accepted")
     assert "the envelope is accepted." not in text
+
+
+def test_names_a_value_that_is_too_short() -> None:
+    copy = FRENCH.with_field(2, 120, b"La foule. " * 9 + b"Fin de rue")
+    octets = copy.octets[: copy.place(8, 10, 1)[0]] + b"X"
+    at, data, end = copy.place(2, 120)
+    assert end - data == 100
+    for count, lost in (1, "1 octet"), (3, "3 octets"):
+        text = explained(octets[: data + 4] + octets[data + 4 + count :])
+        assert reason_in(text) == (
+            f"2:120 Caption/Abstract at {at:,} is {lost} shorter than it counts (100): the next"
+            " dataset begins inside it"
+        )
+
+
+def test_names_texts_converted_to_latin_1() -> None:
+    fields = [(*field[:2], latin_only(field[2])) for field in FRENCH.fields]
+    lines = ["Les députés ont voté.".encode("utf-8")] * 20
+    copy = FRENCH._replace(fields=fields, lines=lines)
+    copy = copy.with_field(2, 120, "é à ".encode("utf-8") * 30)
+    octets = copy.octets.decode("utf-8", "replace").encode("latin-1", "replace")
+    assert len(copy.octets) - len(octets) > 60
+    said = explained(octets)
+    assert reason_in(said) == (
+        "the texts were converted from UTF-8, which 1:90 declares, to Latin-1"
+    )
+    assert "UTF-8 again where the counts ask for it: the envelope is accepted." in said
+
+
+def latin_only(value: bytes) -> bytes:
+    """Return UTF-8 text without the characters that Latin-1 lacks."""
+    return value.decode("utf-8").encode("latin-1", "ignore").decode("latin-1").encode("utf-8")
+
+
+def test_names_a_transfer_of_seven_bits() -> None:
+    copy = FRENCH.with_field(2, 120, "é à ".encode("utf-8") * 30)
+    at, data, end = copy.place(2, 120)
+    assert end - data == 180 and copy.octets[data - 1] == 0xB4
+    text = explained(bytes(octet & 0x7F for octet in copy.octets))
+    assert reason_in(text) == "a transfer of seven bits cleared the top bit of each octet above 7F"
+    assert "counts and sizes that need it: the envelope is accepted." in text

@@ -1,11 +1,12 @@
 """Choose the likely reason of a refusal, and what to do: by what was tried, or by the dataset."""
 from __future__ import annotations
 
-from typing import Dict, List, NamedTuple, Optional, Tuple
+from typing import Dict, Iterator, List, NamedTuple, Optional, Tuple
 
 import iim
 from iim.explain import recognition, words
 from iim.explain.causes import CAUSES
+from iim.explain.channels import Tag, plain_tags
 from iim.explain.findings import BIT, Finding, Findings
 from iim.explain.tries import Tries
 from iim.explain.words import counted, name, titled
@@ -165,7 +166,33 @@ def of_value(tries: Tries) -> Optional[Reason]:
     rule = iim.row(tries.refusal.record, tries.refusal.number)
     if rule is None:
         return None
-    return OF_TEXTS if rule.kind in range(1, 4) else OF_KINDS.get(rule.kind)
+    return short_value(tries) or (OF_TEXTS if rule.kind in range(1, 4) else OF_KINDS.get(rule.kind))
+
+
+def short_value(tries: Tries) -> Optional[Reason]:
+    """Return the reason of a value inside which the next dataset begins, or `None`."""
+    here = tries.here
+    if here is None or here.size is None or tries.place.begun != "data":
+        return None
+    # (a line end in the tag may be the octet that is rejected)
+    begins = range(max(here.at + here.head, tries.octet - 4), tries.octet + 1)
+    found = [begin for begin in begins if any(tag_in(tries.take(begin, 5)))]
+    if not found:
+        return None
+    missing = counted(here.at + here.head + here.size - found[-1], "octet")
+    return Reason(
+        f"{titled(here.record, here.number)} at {here.at:,} is {missing} shorter than it counts"
+        f" ({here.size:,}): the next dataset begins inside it",
+        "transfer the file again in binary mode",
+    )
+
+
+def tag_in(head: bytes) -> Iterator[Tag]:
+    """Yield the tag of which some bytes are the head, if its dataset is known."""
+    for tag in plain_tags(head, 0):
+        rule = iim.row(tag.record, tag.number)
+        if rule is not None and rule.least <= tag.size <= rule.greatest:
+            yield tag
 
 
 def of_count(tries: Tries) -> Optional[Reason]:
