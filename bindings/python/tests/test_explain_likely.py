@@ -2,8 +2,10 @@
 from __future__ import annotations
 
 import re
+from typing import Callable, List
 
 from newsroom import FRENCH, NORWEGIAN
+from rules import dataset_of
 from support.bindings.explaining import case_of, text_told, unwrapped
 
 
@@ -67,3 +69,40 @@ def test_names_a_transfer_of_seven_bits() -> None:
     text = explained(bytes(octet & 0x7F for octet in copy.octets))
     assert reason_in(text) == "a transfer of seven bits cleared the top bit of each octet above 7F"
     assert "counts and sizes that need it: the envelope is accepted." in text
+
+
+def with_subfiles(change: Callable[[List[bytes]], List[bytes]]) -> bytes:
+    """Return a story in subfiles of 512 octets, changed, with the sizes as they were before."""
+    message = NORWEGIAN.message
+    sized = [dataset_of(7, 10, b"\1"), dataset_of(7, 20, (512).to_bytes(4, "big"))]
+    size = len(message).to_bytes(4, "big")
+    subfiles = [message[at : at + 512] for at in range(0, len(message), 512)]
+    front = b"".join(dataset_of(*field) for field in NORWEGIAN.fields)
+    made = [*sized, dataset_of(7, 90, size), *(dataset_of(8, 10, x) for x in change(subfiles))]
+    return front + b"".join(made) + dataset_of(9, 10, size)
+
+
+def test_names_a_lost_subfile() -> None:
+    text = explained(with_subfiles(lambda all: all[:2] + all[3:]))
+    assert reason_in(text) == (
+        "1 subfile of 512 octets is lost, with its tag; after which subfile is not known"
+    )
+    assert "with 1 subfile put in between them: the envelope is accepted." in text
+    assert "a mutilated story would pass with that change." in text
+    assert text.count("the envelope is accepted") == 2
+    assert text.endswith("Ask NTB for 00004711 of 20241007 again.")
+
+
+def test_names_a_story_changed_after_packing() -> None:
+    text = explained(with_subfiles(lambda all: [all[0], all[1][:90] + all[1][100:], *all[2:]]))
+    assert reason_in(text).startswith("the object is 10 octets shorter than 7:90 and 9:10 both")
+    assert "octets are lost" not in text and "a mutilated story would pass" in text
+
+
+def test_names_a_subfile_that_is_there_twice() -> None:
+    octets = with_subfiles(lambda all: all[:2] + all[1:])
+    second = octets.index(b"\x1c\x08\x0a", octets.index(b"\x1c\x08\x0a") + 1)
+    text = explained(octets)
+    assert f"The subfiles at {second:,} and {second + 517:,} are equal: without the second:" in text
+    assert reason_in(text) == f"the subfile at {second:,} was sent or stored twice"
+    assert text.count("a mutilated story would pass with that change.") == 1

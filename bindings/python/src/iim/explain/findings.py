@@ -19,6 +19,7 @@ from iim.explain.rebuilding import (
     placeholder,
     rebuilt,
     record_1,
+    split,
 )
 from iim.explain.tries import FURTHER, MESSAGE, MISSING, NEAR, RECORD, STORY, Fix, Tries
 from iim.explain.trying import Outcome, judge
@@ -445,11 +446,20 @@ class Findings:
         if item is not None:
             total = self._sizes.announced
             best: List[Finding] = []
-            for place in located(self.octets, item, self._octet, total):
+            places = located(self.octets, item, self._octet, total)
+            for place in () if self._has_all_tags else places:
                 best += self._place(place)
             best.sort(key=Finding.order)
             yield from best[: 1 if best and best[0].is_whole else 2]
         yield from self._joined()
+
+    @property
+    def _has_all_tags(self) -> bool:
+        """Whether only sizes disagree: each dataset has what it counts, up to 9:10."""
+        if self._refusal.cause not in (23, 24, 25):
+            return False
+        parts, _ = split(self.octets)
+        return bool(parts) and parts[-1].record == 9 and parts[0].record == 1
 
     def _suspect(self) -> Optional[Item]:
         """Return the dataset that may be longer or shorter than it counts."""
@@ -579,9 +589,10 @@ class Findings:
                 )
         if refusal.layer in (RECORD, "object"):
             for each in rebuilt(self.octets):
-                yield from self._tried(
+                for found in self._tried(
                     DATASET, "rebuilt", each.how, each.octets, each.reason, each.advice
-                )
+                ):
+                    yield found._replace(text=found.text + each.warning)
         yield from self._skipped()
 
     def _without(self, here: Item) -> Iterator[Finding]:

@@ -8,6 +8,7 @@ from iim.explain import recognition, words
 from iim.explain.causes import CAUSES
 from iim.explain.channels import Tag, plain_tags
 from iim.explain.findings import BIT, Finding, Findings
+from iim.explain.rebuilding import split, sums_of
 from iim.explain.tries import Tries
 from iim.explain.words import counted, name, titled
 
@@ -23,6 +24,9 @@ class Reason(NamedTuple):
     reason: str
     advice: str
 
+
+# The octets of an envelope of which the sizes are added.
+SUMMED = 1 << 21
 
 # The formats of an object, by the value of 1:20 (IIM 4, appendix A).
 FORMATS = {
@@ -285,6 +289,14 @@ def of_sizes(tries: Tries) -> Optional[Reason]:
     envelope = iim.Envelope(tries.refusal.ticket, nth=1, at=0, length=tries.octet)
     sizes = envelope.sizes
     if cause == 24 and sizes.announced is not None:
+        sums = sums_of(split(tries.take(0, SUMMED))[0])
+        if sums is not None and sizes.total == sum(sums.sizes):
+            less = counted(sums.stated - sizes.total, "octet")
+            return Reason(
+                f"the object is {less} shorter than 7:90 and 9:10 both state, and each subfile has"
+                " what it counts: a subfile is lost, or the story was changed after it was packed",
+                "do not use the story as it is; ask for it again",
+            )
         missing = sizes.announced - sizes.total
         return Reason(
             f"a subfile is missing, or octets of the object: {counted(missing, 'octet')} fewer than"
