@@ -106,3 +106,13 @@ def test_names_a_subfile_that_is_there_twice() -> None:
     assert f"The subfiles at {second:,} and {second + 517:,} are equal: without the second:" in text
     assert reason_in(text) == f"the subfile at {second:,} was sent or stored twice"
     assert text.count("a mutilated story would pass with that change.") == 1
+
+
+def test_names_chunks_of_http() -> None:
+    octets = NORWEGIAN.octets
+    chunks = [octets[at : at + 1_000] for at in range(0, len(octets), 1_000)]
+    made = b"".join(b"%x\r\n%s\r\n" % (len(each), each) for each in chunks)
+    text = explained(made + b"0\r\n\r\n")
+    assert "With the sizes of its chunks removed, it is accepted: 1 envelope." in text
+    assert reason_in(text) == "the file is a body of HTTP in chunks, with the sizes between them"
+    assert text.endswith("Nothing has to be sent again.")
