@@ -194,8 +194,7 @@ class Case:
         if self.refusal is None:
             return ""
         listed = self.listed()
-        found = self.findings.all[:1] if self.findings else []
-        if any(each.kind == "inside" and each.outcome and each.outcome.is_all for each in found):
+        if self.findings and self.findings.has_received_all:
             return "Nothing has to be sent again."
         return ask(self.refusal, listed[-2].id if len(listed) > 1 else None)
 
