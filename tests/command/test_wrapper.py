@@ -131,7 +131,7 @@ TOOLCHAINS = [
 ]
 
 
-@pytest.mark.parametrize("program, status", [("iimwire", 3), ("bindings/build", 1)])
+@pytest.mark.parametrize("program, status", [("iimwire check", 3), ("bindings/build --gate", 1)])
 @pytest.mark.parametrize("toolchain, want", TOOLCHAINS)
 def test_reports_a_missing_toolchain(
     made: Repository, program: str, status: int, toolchain: Optional[str], want: str
@@ -142,7 +142,8 @@ def test_reports_a_missing_toolchain(
     if toolchain is not None:
         write_program(made.top / "bin/rt", f"#!/bin/sh\n{toolchain}\n")
     env = {**os.environ, "PATH": f"{made.top}/bin"}
-    ran = Command(made.top / program)(["check"], env=env, stdin=subprocess.DEVNULL)
+    name, argument = program.split()
+    ran = Command(made.top / name)([argument], env=env, stdin=subprocess.DEVNULL)
     assert ran == (status, b"", want.encode())
     assert (made.builds(), made.leftovers()) == (0, [])
     assert not (made.top / "bindings/out").exists()
