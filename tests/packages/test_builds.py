@@ -23,7 +23,7 @@ def test_is_made_again_of_the_same_bytes(packages: Packages, tmp_path: Path) -> 
     left_out = shutil.ignore_patterns("out", "__pycache__")
     shutil.copytree(TOP, again, symlinks=True, ignore=left_out, copy_function=shutil.copy)
     for built in INPUTS:
-        (again / built).parent.mkdir(parents=True)
+        (again / built).parent.mkdir(parents=True, exist_ok=True)
         shutil.copy(TOP / built, again / built)
     room = {"HOME": str(tmp_path), "TMPDIR": str(tmp_path), "GIT_CONFIG_GLOBAL": "/dev/null"}
     env = {**os.environ, **ODD, **room}

@@ -13,7 +13,11 @@ from support.running import TOP, Argument
 HERE = TOP / "packages"
 TRIPLE = "x86_64-linux-gnu"
 # What the packages are made of, besides the files of the repository.
-INPUTS = "crates/iimwire/out/iimwire", "crates/iim_exports/out/libiim_exports.a"
+INPUTS = (
+    "crates/iimwire/out/iimwire",
+    "crates/iim_exports/out/libiim_exports.a",
+    "crates/iim_exports/out/module.bc",
+)
 SECONDS = 900
 # The commands of the Python package.
 COMMANDS = "iim-archive", "iim-explain"
