@@ -274,8 +274,8 @@ def _with_sizes(parts: List[Part], rest: bytes) -> Iterator[Rebuilt]:
         ]
         sums = sums_of(parts)
         warning = (
-            " But 7:90 and 9:10 agree with each other: if text is lost or doubled, a mutilated story"
-            " would pass with that change."
+            " But 7:90 and 9:10 agree with each other: if text is lost or doubled, a mutilated"
+            " story would pass with that change."
         )
         gone = [words.titled(*key) for key in sorted(old) if key not in new]
         how_in_all = [*how, *(f"no {each}" for each in gone)]
