@@ -129,12 +129,3 @@ def test_names_a_lost_beginning() -> None:
         assert f"At octet {junk} a record 2 begins" in text
         assert "With a record 1 inserted there, everything after it is accepted." in text
         assert "picture" not in text and "exiftool" not in text
-
-
-def test_names_spaces_in_place_of_plus() -> None:
-    text = explained(NORWEGIAN.octets.replace(b"00+0200", b"00 0200"))
-    assert reason_in(text) == "a space is where + was in a time, as after URL decoding"
-    assert (
-        "With + in place of the space in 1:80 Time Sent, 2:35 Release Time: the envelope is"
-        " accepted." in text
-    )

@@ -15,7 +15,6 @@ from iim.explain.channels import CHANNELS, CONVERSIONS, Part, encoded, undone
 from iim.explain.corrections import corrections
 from iim.explain.locating import Edit, Located, hole_at, joined_at, located, tags_after
 from iim.explain.rebuilding import (
-    named,
     object_changed,
     placeholder,
     rebuilt,
@@ -428,7 +427,6 @@ class Findings:
         begin = here.at + here.head
         value = self.octets[begin : begin + here.size]
         title = titled(here.record, here.number)
-        yield from self._plus_of_space(value)
         if len(value) < here.size or here.size > 1 << 16:
             return
         for each in list(corrections(here.record, here.number, value))[:4]:
@@ -446,25 +444,6 @@ class Findings:
                 edit,
                 here.at + len(put),
             )
-
-    def _plus_of_space(self, value: bytes) -> Iterator[Finding]:
-        """Try + in all times that have a space in its place, as URL decoding leaves it."""
-        if not SPACED_TIME.fullmatch(value):
-            return
-        parts, end = split(self.octets)
-        changed = [part for part in parts if part.record < 7 and SPACED_TIME.fullmatch(part.data)]
-        made = [
-            part._replace(data=part.data.replace(b" ", b"+")) if part in changed else part
-            for part in parts
-        ]
-        yield from self._tried(
-            TRANSFER,
-            "plus",
-            f"With + in place of the space in {named(changed)}",
-            encoded(made) + self.octets[end:],
-            "a space is where + was in a time, as after URL decoding",
-            "transfer the file again without URL decoding, or encode + as %2B",
-        )
 
     # --- Places
 
@@ -899,9 +878,6 @@ ENDED = re.compile(
     )
 )
 MANDATORY = {(1, 0), (1, 20), (1, 22), (1, 30), (1, 40), (1, 70), (2, 0), (7, 10), (7, 20), (9, 10)}
-
-# A time with a space in place of its sign.
-SPACED_TIME = re.compile(rb"[0-9]{6} [0-9]{4}")
 
 # The tags of 7:10 and of a subfile, which pictures do not have.
 HEAD_OF_OBJECT = re.compile(rb"\x1c\x07\x0a\x00\x01[\x00\x01]\x1c\x07|\x1c\x08\x0a[\x00-\x80]")
