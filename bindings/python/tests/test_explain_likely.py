@@ -116,16 +116,3 @@ def test_names_chunks_of_http() -> None:
     assert "With the sizes of its chunks removed, it is accepted: 1 envelope." in text
     assert reason_in(text) == "the file is a body of HTTP in chunks, with the sizes between them"
     assert text.endswith("Nothing has to be sent again.")
-
-
-def test_names_a_lost_beginning() -> None:
-    octets = NORWEGIAN.octets
-    begin = NORWEGIAN.place(2, 100)[0]
-    for junk in 0, 4:
-        text = explained(octets[begin - junk :])
-        assert reason_in(text) == (
-            "the beginning of the file is lost: record 1, and the first part of record 2"
-        )
-        assert f"At octet {junk} a record 2 begins" in text
-        assert "With a record 1 inserted there, everything after it is accepted." in text
-        assert "picture" not in text and "exiftool" not in text

@@ -303,16 +303,11 @@ class Findings:
         at = begin.start()
         before = record_1()
         before = before.replace(placeholder(1, 20), b"\x1c\1\x14\0\2\0\2")
-        if self.octets[at + 2 : at + 3] != b"\0":
-            # (the beginning of record 2 is lost, too)
-            before += placeholder(2, 0)
         outcome = self._judge(before + self.octets[at:])
         reach = outcome.first - len(before) + at
         found = f"At octet {at:,} a record 2 begins, and there is no record 1 before it"
         valid = f"it is valid up to octet {reach:,}"
         lost, advice = "record 1 is lost", "ask for the file again"
-        if self.octets[at + 2 : at + 3] != b"\0":
-            lost = "the beginning of the file is lost: record 1, and the first part of record 2"
         inserted = f"{found}: record 1 is lost. With a record 1 inserted there,"
         if outcome.is_all:
             text = f"{inserted} everything after it is accepted."
@@ -320,8 +315,6 @@ class Findings:
             text = f"{inserted} the envelope is accepted, and ends before octet {reach:,}."
         elif self._record_of(outcome, before) > 2:
             text = f"{inserted} {valid}."
-        elif HEAD_OF_OBJECT.search(front):
-            text = f"{inserted} {valid}. The message follows, so this is no block of a picture."
         elif reach >= at + 5 and not self._tries.at:
             alone = "this is a block of record 2 alone, as pictures carry it, and no wire copy"
             text, lost = f"{found}. With one inserted there, {valid}: {alone}.", alone
@@ -878,9 +871,6 @@ ENDED = re.compile(
     )
 )
 MANDATORY = {(1, 0), (1, 20), (1, 22), (1, 30), (1, 40), (1, 70), (2, 0), (7, 10), (7, 20), (9, 10)}
-
-# The tags of 7:10 and of a subfile, which pictures do not have.
-HEAD_OF_OBJECT = re.compile(rb"\x1c\x07\x0a\x00\x01[\x00\x01]\x1c\x07|\x1c\x08\x0a[\x00-\x80]")
 
 # The beginning of a bare message.
 BARE = re.compile(
