@@ -164,14 +164,7 @@ def test_isolates_right_to_left_text() -> None:
 @pytest.mark.parametrize(
     "octets, sentence",
     [
-        (SMALLEST + b"\1junk", "Ask for the envelope after TST 00000001 20240301 again."),
-        (SMALLEST + b"\x1c\1\1junk", "Ask for the envelope after TST 00000001 20240301 again."),
-        (SMALLEST + b"junk", "Nothing has to be sent again."),
-        (SMALLEST + b"\n", "Nothing has to be sent again."),
-        (SMALLEST + b"\x1a" * 14, "Nothing has to be sent again."),
-        (SMALLEST + SMALLEST[-40:], "Nothing has to be sent again."),
-        (SMALLEST + b"\n" + SMALLEST, "Nothing has to be sent again."),
-        (STORY_OBJECT, "Nothing has to be sent again."),
+        (SMALLEST + b"junk", "Ask for the envelope after TST 00000001 20240301 again."),
         (b"junk", "Ask the sender for this file again."),
         (SMALLEST[:29], "Ask TST for this envelope again."),
         (SMALLEST[:42], "Ask TST for 00000001 again."),

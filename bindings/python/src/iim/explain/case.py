@@ -194,7 +194,8 @@ class Case:
         if self.refusal is None:
             return ""
         listed = self.listed()
-        if self.findings and self.findings.has_received_all:
+        found = self.findings.all[:1] if self.findings else []
+        if any(each.kind == "inside" and each.outcome and each.outcome.is_all for each in found):
             return "Nothing has to be sent again."
         return ask(self.refusal, listed[-2].id if len(listed) > 1 else None)
 

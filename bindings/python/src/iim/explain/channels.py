@@ -7,7 +7,7 @@ from __future__ import annotations
 
 import itertools
 import re
-from typing import Callable, Dict, Iterator, List, Match, NamedTuple, Optional, Set, Tuple
+from typing import Callable, Dict, Iterator, List, NamedTuple, Optional, Set, Tuple
 
 import iim
 from iim.explain import words
@@ -17,10 +17,6 @@ TAG = 0x1C
 RECORDS, STATES = (1, 2, 7, 8, 9), 50_000
 # The line ends of a value that are changed while others stay.
 PARTLY = 8
-# Controls that no text has (ETX and EOT end one) where UTF-8 has more octets of a character.
-AFTER_LETTERS = rb"(?<=[@-\x7f])[\0-\x02\x05-\x09\x0b\x0c\x0e-\x1f]{1,3}"
-# The octets in which 1:90 is looked for.
-LATER = 1 << 12
 # What follows an envelope: another one, or nothing.
 ENDS = b"\x1c", b""
 BINARIES = words.BINARY, words.MODE, words.SIZE, words.SIZE_FROM_ONE
@@ -229,52 +225,6 @@ def character_values(octets: bytes, tag: Tag) -> Iterator[Tuple[bytes, int]]:
         yield octets[tag.end : at], at
 
 
-def latin_values(octets: bytes, tag: Tag) -> Iterator[Tuple[bytes, int]]:
-    """Yield the value after a tag, as it is, and with Latin-1 made UTF-8 of the size it counts."""
-    yield from (each for each in raw_values(octets, tag) if b"\x1c" not in each[0])
-    made, at = bytearray(), tag.end
-    while len(made) < tag.size and at < len(octets):
-        made += octets[at : at + 1].decode("latin-1").encode("utf-8")
-        at += 1
-    if len(made) == tag.size and at != tag.end + tag.size and b"\x1c" not in made:
-        yield bytes(made), at
-
-
-def latin_tags(octets: bytes, at: int) -> Iterator[Tag]:
-    """Yield the tags at an offset, also with a count above 7F that had become a question mark."""
-    for tag in plain_tags(octets, at):
-        yield tag
-        if tag.size & 0xFF == 0x3F and tag.end == at + 5:
-            for low in range(0x80, 0x100):
-                yield tag._replace(size=tag.size & 0xFF00 | low)
-
-
-def declares_utf_8(octets: bytes) -> bool:
-    """Check whether the first 1:90 declares UTF-8, as ESC % G does."""
-    return b"\x1c\x01\x5a\x00\x03\x1b%G" in octets[:LATER]
-
-
-def seven_bit_tags(octets: bytes, at: int) -> Iterator[Tag]:
-    """Yield the tags at an offset of which the top bit of the count may have been cleared."""
-    for tag in plain_tags(octets, at):
-        yield tag
-        if tag.end == at + 5 and tag.size & 0xFF < 0x80:
-            yield tag._replace(size=tag.size | 0x80)
-
-
-def seven_bit_values(octets: bytes, tag: Tag) -> Iterator[Tuple[bytes, int]]:
-    """Yield the value after a tag, with the top bit set again of controls that no text has."""
-    for value, end in raw_values(octets, tag):
-        if tag.record == 8 or kind_of(tag) in words.TEXTS:
-            value = re.sub(AFTER_LETTERS, with_top_bits, value)
-        yield value, end
-
-
-def with_top_bits(found: Match[bytes]) -> bytes:
-    """Return the bytes that were found with their top bits set."""
-    return bytes(octet | 0x80 for octet in found[0])
-
-
 def kind_of(tag: Tag) -> int:
     """Return the kind of the value of a dataset."""
     rule = iim.row(tag.record, tag.number)
@@ -403,8 +353,6 @@ def encoded(parts: List[Part]) -> bytes:
 
 # The channels after which the NULs of a number may be elsewhere.
 MOVED = "no nul", "space of nul"
-# The channels whose changes are made of values, and not of all octets alike.
-UNCHECKED = "characters", "latin-1 of utf-8"
 
 
 def undone(channel: Channel, octets: bytes) -> Optional[bytes]:
@@ -418,10 +366,7 @@ def undone(channel: Channel, octets: bytes) -> Optional[bytes]:
     made = b"".join(encoded(sized(parts, channel.key in MOVED)) for parts in found)
     if not found or octets[:end] in (made, b"".join(map(encoded, found))):
         return None
-    if channel.key not in UNCHECKED and channel.change(made) != octets[:end]:
-        return None
-    if channel.key == "seven bits" and sum(map(int.__ne__, made, octets)) < 2:
-        # (one bit is likelier to be a single error)
+    if channel.key != "characters" and channel.change(made) != octets[:end]:
         return None
     return made + octets[end:]
 
@@ -500,22 +445,6 @@ CHANNELS: Dict[str, Channel] = {
             lambda octets: octets,
             plain_tags,
             character_values,
-        ),
-        Channel(
-            "latin-1 of utf-8",
-            "the texts were converted from UTF-8, which 1:90 declares, to Latin-1",
-            "With Latin-1 text made UTF-8 again where the counts ask for it",
-            lambda octets: octets if declares_utf_8(octets) else b"",
-            latin_tags,
-            latin_values,
-        ),
-        Channel(
-            "seven bits",
-            "a transfer of seven bits cleared the top bit of each octet above 7F",
-            "With the top bit set again in counts and sizes that need it",
-            lambda octets: bytes(octet & 0x7F for octet in octets),
-            seven_bit_tags,
-            seven_bit_values,
         ),
     )
 }

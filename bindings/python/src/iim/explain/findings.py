@@ -19,7 +19,6 @@ from iim.explain.rebuilding import (
     placeholder,
     rebuilt,
     record_1,
-    split,
 )
 from iim.explain.tries import FURTHER, MESSAGE, MISSING, NEAR, RECORD, STORY, Fix, Tries
 from iim.explain.trying import Outcome, judge
@@ -35,9 +34,6 @@ TRANSFER, VALUE, BETWEEN, BIT, PLACE, DATASET, BYTE, OTHER, NOTE = range(9)
 
 # The conversions that are named also if they make only more of the envelope valid.
 PARTIAL = "With each CR LF changed to LF", "With UTF-8 converted"
-
-# The kinds of findings by which an envelope is complete inside the file.
-AROUND = "inside", "front", "bare message", "between"
 
 BINARY = "transfer the file again in binary mode"
 
@@ -137,29 +133,6 @@ class Findings:
     def is_foreign(self) -> bool:
         """Whether the file is something else than IIM, so that its bytes are not envelopes'."""
         return self.kind is not None or self.is_message
-
-    @property
-    def has_received_all(self) -> bool:
-        """Whether every envelope was received complete and valid, with others' bytes around it."""
-        for each in self.all:
-            if each.kind == "after the last":
-                return self._is_only_filler()
-            if each.kind in AROUND:
-                return each.outcome is not None and each.outcome.is_all
-        return False
-
-    def _is_only_filler(self) -> bool:
-        """Check whether what follows the last envelope is no part of another one.
-
-        It is text, one byte repeated, or the end of the envelope before it once more.
-        """
-        rest = self._tries.source.size - self._tries.at
-        octets = self.octets
-        if rest > len(octets):
-            return False
-        before = self._tries.source.take(max(0, self._tries.at - rest), rest)
-        is_text = all(octet >= 32 or octet in b"\t\n\r\x0c" for octet in octets)
-        return is_text or (len(set(octets)) == 1 and octets[0] != 0x1C) or octets == before
 
     @functools.cached_property
     def is_message(self) -> bool:
@@ -446,20 +419,11 @@ class Findings:
         if item is not None:
             total = self._sizes.announced
             best: List[Finding] = []
-            places = located(self.octets, item, self._octet, total)
-            for place in () if self._has_all_tags else places:
+            for place in located(self.octets, item, self._octet, total):
                 best += self._place(place)
             best.sort(key=Finding.order)
             yield from best[: 1 if best and best[0].is_whole else 2]
         yield from self._joined()
-
-    @property
-    def _has_all_tags(self) -> bool:
-        """Whether only sizes disagree: each dataset has what it counts, up to 9:10."""
-        if self._refusal.cause not in (23, 24, 25):
-            return False
-        parts, _ = split(self.octets)
-        return bool(parts) and parts[-1].record == 9 and parts[0].record == 1
 
     def _suspect(self) -> Optional[Item]:
         """Return the dataset that may be longer or shorter than it counts."""
@@ -589,10 +553,9 @@ class Findings:
                 )
         if refusal.layer in (RECORD, "object"):
             for each in rebuilt(self.octets):
-                for found in self._tried(
+                yield from self._tried(
                     DATASET, "rebuilt", each.how, each.octets, each.reason, each.advice
-                ):
-                    yield found._replace(text=found.text + each.warning)
+                )
         yield from self._skipped()
 
     def _without(self, here: Item) -> Iterator[Finding]:
@@ -803,8 +766,7 @@ class Findings:
             before = f"All {nth - 1:,} envelopes before it are"
         last = f"the last {counted(rest, 'octet')}{what}"
         kind = recognition.kind_of(octets)
-        verb = "follows" if rest == 1 else "follow"
-        reason = f"{counted(rest, 'octet')} {verb} the last envelope"
+        reason = f"{counted(rest, 'octet')} follow the last envelope"
         reason += what or (f": {kind.name}" if kind else "")
         yield Finding(
             NOTE,

@@ -1,14 +1,12 @@
 """Choose the likely reason of a refusal, and what to do: by what was tried, or by the dataset."""
 from __future__ import annotations
 
-from typing import Dict, Iterator, List, NamedTuple, Optional, Tuple
+from typing import Dict, List, NamedTuple, Optional, Tuple
 
 import iim
 from iim.explain import recognition, words
 from iim.explain.causes import CAUSES
-from iim.explain.channels import Tag, plain_tags
-from iim.explain.findings import BIT, Finding, Findings
-from iim.explain.rebuilding import split, sums_of
+from iim.explain.findings import BIT, OTHER, Finding, Findings
 from iim.explain.tries import Tries
 from iim.explain.words import counted, name, titled
 
@@ -24,9 +22,6 @@ class Reason(NamedTuple):
     reason: str
     advice: str
 
-
-# The octets of an envelope of which the sizes are added.
-SUMMED = 1 << 21
 
 # The formats of an object, by the value of 1:20 (IIM 4, appendix A).
 FORMATS = {
@@ -102,8 +97,6 @@ def reason_of(tries: Tries, findings: Findings) -> Reason:
         )
     if own is not None:
         return own
-    if any(each.kind in GUESSES for each in findings.all) and not tries.ends:
-        return SEVERAL
     if (
         refusal.cause == 1
         and not findings.octets[:1] == b"\x1c"
@@ -117,26 +110,13 @@ def reason_of(tries: Tries, findings: Findings) -> Reason:
     return default(tries)
 
 
-# The kinds of findings that are seen in the file, whatever is accepted after them; and of those
-# that are changes of some bytes, which only explain a refusal if the envelope is accepted then.
-SEEN = "inside", "bare message", "record 1"
-GUESSES = "single byte", "place"
-SEVERAL = Reason(
-    "no single change that was tried makes the envelope accepted: a span of octets may be"
-    " replaced, or more than one place is damaged",
-    "transfer the file again in binary mode, and compare both",
-)
-
-
 def best_of(findings: Findings) -> Optional[Finding]:
-    """Return the finding that explains a refusal, or `None`.
-
-    That is one after which the envelope is accepted, or one that is seen in the file.
-    """
-    for each in findings.all:
-        if each.is_whole or each.reason and (each.outcome is None or each.kind in SEEN):
+    """Return the finding that explains a refusal, or `None`."""
+    found = findings.all
+    for each in found:
+        if each.is_whole or each.outcome is None and each.reason:
             return each
-    return None
+    return found[0] if found and found[0].likelihood < OTHER else None
 
 
 def default(tries: Tries) -> Reason:
@@ -170,33 +150,7 @@ def of_value(tries: Tries) -> Optional[Reason]:
     rule = iim.row(tries.refusal.record, tries.refusal.number)
     if rule is None:
         return None
-    return short_value(tries) or (OF_TEXTS if rule.kind in range(1, 4) else OF_KINDS.get(rule.kind))
-
-
-def short_value(tries: Tries) -> Optional[Reason]:
-    """Return the reason of a value inside which the next dataset begins, or `None`."""
-    here = tries.here
-    if here is None or here.size is None or tries.place.begun != "data":
-        return None
-    # (a line end in the tag may be the octet that is rejected)
-    begins = range(max(here.at + here.head, tries.octet - 4), tries.octet + 1)
-    found = [begin for begin in begins if any(tag_in(tries.take(begin, 5)))]
-    if not found:
-        return None
-    missing = counted(here.at + here.head + here.size - found[-1], "octet")
-    return Reason(
-        f"{titled(here.record, here.number)} at {here.at:,} is {missing} shorter than it counts"
-        f" ({here.size:,}): the next dataset begins inside it",
-        "transfer the file again in binary mode",
-    )
-
-
-def tag_in(head: bytes) -> Iterator[Tag]:
-    """Yield the tag of which some bytes are the head, if its dataset is known."""
-    for tag in plain_tags(head, 0):
-        rule = iim.row(tag.record, tag.number)
-        if rule is not None and rule.least <= tag.size <= rule.greatest:
-            yield tag
+    return OF_TEXTS if rule.kind in range(1, 4) else OF_KINDS.get(rule.kind)
 
 
 def of_count(tries: Tries) -> Optional[Reason]:
@@ -289,14 +243,6 @@ def of_sizes(tries: Tries) -> Optional[Reason]:
     envelope = iim.Envelope(tries.refusal.ticket, nth=1, at=0, length=tries.octet)
     sizes = envelope.sizes
     if cause == 24 and sizes.announced is not None:
-        sums = sums_of(split(tries.take(0, SUMMED))[0])
-        if sums is not None and sizes.total == sum(sums.sizes):
-            less = counted(sums.stated - sizes.total, "octet")
-            return Reason(
-                f"the object is {less} shorter than 7:90 and 9:10 both state, and each subfile has"
-                " what it counts: a subfile is lost, or the story was changed after it was packed",
-                "do not use the story as it is; ask for it again",
-            )
         missing = sizes.announced - sizes.total
         return Reason(
             f"a subfile is missing, or octets of the object: {counted(missing, 'octet')} fewer than"

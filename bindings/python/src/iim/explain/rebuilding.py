@@ -17,8 +17,6 @@ SINGLY = [bytes([value]) for value in range(256)]
 class Rebuilt(NamedTuple):
     """An envelope that was built again.
 
-    A warning is a sentence on what the change would hide, or empty.
-
     Attributes:
         how: What was done, as the beginning of a sentence.
         octets: The bytes of the envelope, and what follows it.
@@ -30,34 +28,6 @@ class Rebuilt(NamedTuple):
     octets: bytes
     reason: str
     advice: str
-    warning: str = ""
-
-
-class Sums(NamedTuple):
-    """The sizes of an object of which all tags and counts agree.
-
-    Attributes:
-        sizes: The size of each subfile.
-        most: The size that 7:20 declares.
-        stated: The size that 7:90 and 9:10 state, both the same.
-    """
-
-    sizes: List[int]
-    most: int
-    stated: int
-
-
-def sums_of(parts: List[Part]) -> Optional[Sums]:
-    """Return the sizes of a complete object, or `None` if 7:90 and 9:10 do not agree."""
-    numbers = {
-        (part.record, part.number): int.from_bytes(part.data, "big")
-        for part in parts
-        if part.record in (7, 9)
-    }
-    stated, most = numbers.get((9, 10)), numbers.get((7, 20))
-    if stated is None or most is None or numbers.get((7, 90)) != stated:
-        return None
-    return Sums([len(part.data) for part in parts if part.record == 8], most, stated)
 
 
 def split(octets: bytes) -> Tuple[List[Part], int]:
@@ -113,15 +83,7 @@ def rebuilt(octets: bytes) -> Iterator[Rebuilt]:
     if not parts:
         return
     rest = octets[end:]
-    for build in (
-        _in_order,
-        _without_doubled,
-        _with_subfile,
-        _without_repetition,
-        _without_others,
-        _with_records,
-        _with_sizes,
-    ):
+    for build in (_in_order, _without_repetition, _without_others, _with_records, _with_sizes):
         yield from build(parts, rest)
 
 
@@ -219,45 +181,6 @@ def _with_records(parts: List[Part], rest: bytes) -> Iterator[Rebuilt]:
     )
 
 
-def _without_doubled(parts: List[Part], rest: bytes) -> Iterator[Rebuilt]:
-    """Yield the envelope without a subfile that is equal to the one before it."""
-    at = 0
-    for nth, part in enumerate(parts):
-        size = len(encoded([part]))
-        if part.record == 8 and nth and parts[nth - 1] == part:
-            first = at - size
-            yield Rebuilt(
-                f"The subfiles at {first:,} and {at:,} are equal: without the second",
-                encoded(parts[:nth] + parts[nth + 1 :]) + rest,
-                f"the subfile at {first:,} was sent or stored twice",
-                "remove the second of the two subfiles, and check what repeats them",
-            )
-        at += size
-
-
-def _with_subfile(parts: List[Part], rest: bytes) -> Iterator[Rebuilt]:
-    """Yield the envelope with as many full subfiles put in as its sizes lack."""
-    sums = sums_of(parts)
-    if sums is None or not sums.most or len(sums.sizes) < 2:
-        return
-    lacking = sums.stated - sum(sums.sizes)
-    count = lacking // sums.most
-    if lacking <= 0 or lacking % sums.most or set(sums.sizes[:-1]) != {sums.most}:
-        return
-    last = max(nth for nth, part in enumerate(parts) if part.record == 8)
-    put = [Part(8, 10, b"x" * sums.most)] * count
-    subfiles = words.counted(count, "subfile")
-    yield Rebuilt(
-        f"7:90 and 9:10 state {lacking:,} octets more than the subfiles have, the size of"
-        f" {subfiles} of 7:20, and each subfile that is there has what it counts: with"
-        f" {subfiles} put in between them",
-        encoded(parts[:last] + put + parts[last:]) + rest,
-        f"{subfiles} of {sums.most:,} octets {'is' if count == 1 else 'are'} lost, with"
-        f" {'its tag' if count == 1 else 'their tags'}; after which subfile is not known",
-        "do not use the story, in which text is missing; transfer the file again",
-    )
-
-
 def _with_sizes(parts: List[Part], rest: bytes) -> Iterator[Rebuilt]:
     """Yield the envelope with the sizes that its subfiles have."""
     made = sized(parts)
@@ -272,11 +195,6 @@ def _with_sizes(parts: List[Part], rest: bytes) -> Iterator[Rebuilt]:
             for key in sorted(new)
             if old.get(key) != new[key]
         ]
-        sums = sums_of(parts)
-        warning = (
-            " But 7:90 and 9:10 agree with each other: if text is lost or doubled, a mutilated"
-            " story would pass with that change."
-        )
         gone = [words.titled(*key) for key in sorted(old) if key not in new]
         how_in_all = [*how, *(f"no {each}" for each in gone)]
         yield Rebuilt(
@@ -284,7 +202,6 @@ def _with_sizes(parts: List[Part], rest: bytes) -> Iterator[Rebuilt]:
             encoded(changed) + rest,
             "",
             "count the octets that were received: if none are lost, the sender counts wrong",
-            warning if sums is not None and sum(sums.sizes) != sums.stated else "",
         )
 
 

@@ -82,10 +82,6 @@ SIGNATURES: List[Tuple[bytes, Kind]] = [
 TAR = Kind("a tar archive", "unpack it with `tar -x`")
 MAIL = Kind("a mail", "save the attachment or the text of the mail as a file of its own")
 HTTP = Kind("a response of a web server", "save the body alone, without the header")
-CHUNKED = Kind(
-    "a body of HTTP in chunks, with the sizes between them",
-    "decode it, or fetch the file again with a client that decodes chunks",
-)
 FORM = Kind("a form that a browser sent", "save the part with the file alone")
 UTF_8_BOM = Kind("text that begins with a byte order mark (EF BB BF)", "save it without that mark")
 UTF_16 = Kind("UTF-16 text", "transfer the file in binary mode: an editor saved it as text")
@@ -238,8 +234,6 @@ def coded_of(octets: bytes) -> Optional[Kind]:
         return PERCENT
     if re.match(rb"=1C=01", head, re.I):
         return QUOTED
-    if re.match(rb"[0-9A-F]{1,8}[ \t]*(;[^\r\n]*)?\r?\n\x1c\x01", head, re.I):
-        return CHUNKED
     body = re.sub(rb"\s", b"", re.sub(rb"^data:[^,]*,|^-----BEGIN[^\n]*\n", b"", head))
     if len(body) > 16 and re.fullmatch(rb"[A-Za-z0-9+/_-]+={0,2}(-----END.*)?", body, re.S):
         return BASE64
@@ -452,11 +446,6 @@ def of_http(octets: bytes) -> Opened:
     yield "Its body", body
 
 
-def of_chunks(octets: bytes) -> Opened:
-    """Yield the data of the chunks of a body without a header."""
-    yield "With the sizes of its chunks removed", unchunked(octets)
-
-
 def unchunked(body: bytes) -> bytes:
     """Return the data of the chunks of a body."""
     parts, at = [], 0
@@ -501,7 +490,6 @@ OPENERS: Dict[str, Callable[[bytes], Opened]] = {
     PERCENT.name: of_percent,
     SCRIPT.name: of_script,
     HTTP.name: of_http,
-    CHUNKED.name: of_chunks,
     MAIL.name: of_mail,
     FORM.name: of_mail,
 }
