@@ -85,7 +85,7 @@ def released(date: bytes) -> bytes:
 
 
 def judge(octets: Optional[bytes], limits: Limits = rules.LIMITS) -> str:
-    """Return the result for a ticket. None stands for octets that are not a ticket."""
+    """Return the result for a ticket. `None` means that the octets are not a ticket."""
     return tickets.judged(octets or b"", limits)
 
 

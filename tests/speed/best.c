@@ -154,7 +154,7 @@ static int is_time(const uint8_t *p) {
            decimal(p + 7, 2) < 24 && decimal(p + 9, 2) < 60;
 }
 
-/* Returns whether N octets are of the kind, where the row permits so many. */
+/* Returns whether N octets are of the kind, if the row permits N. */
 static int is_of(int kind, const uint8_t *p, size_t n) {
     switch (kind) {
     case OCTETS:

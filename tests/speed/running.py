@@ -115,7 +115,7 @@ def seconds(words: List[str]) -> float:
 def least(turns: int, runs: Sequence[Optional[List[str]]]) -> List[Optional[float]]:
     """Return the least processor time of each run. A turn runs each of them once.
 
-    A run that is None has the result None.
+    The result of a run `None` is `None`.
     """
     taken = [[seconds(words) if words else None for words in runs] for _ in range(turns)]
     return [

@@ -68,7 +68,7 @@ def move_counter(draw: DrawFn, place: Place) -> Place:
 
 
 def move_begun(draw: DrawFn, place: Place) -> Place:
-    """Draw another partial dataset, or another partial tag if there is none."""
+    """Draw another partial dataset, or another partial tag if no other exists."""
     if place.begun is None:
         tag = draw_changed(draw, place.tag + b"\x1c")[:12]
         return place._replace(tag=tag) if place.phase == 0 else place

@@ -19,7 +19,7 @@ from support.bindings.explaining import (
     of_lines,
     on_a_terminal,
     tags_of,
-    text_told,
+    printed_text,
     unwrapped,
 )
 from support.bindings.paths import environment, SAMPLES, SECONDS, TOP
@@ -184,7 +184,7 @@ def test_bounds_the_size_of_a_page(folder: str) -> None:
     longer = of_lines(20_000)
     cut = explain_page.page(case_of(longer[:-1] + b"\0"))
     assert "left out" in cut and "<mark" in cut and len(cut) <= 2 << 20, f"{len(cut):,} octets"
-    text = text_told(case_of(longer, shows_all=True))
+    text = printed_text(case_of(longer, shows_all=True))
     assert (
         "are left out" in text and len(text.splitlines()) < 200
     ), f"{len(text.splitlines())} lines"

@@ -10,7 +10,7 @@ import pytest
 import rules
 from damages.damage import Damage
 from newsroom import COPIES
-from support.bindings.explaining import case_of, text_told, unwrapped
+from support.bindings.explaining import case_of, printed_text, unwrapped
 
 
 @functools.lru_cache(maxsize=None)
@@ -43,7 +43,7 @@ def test_prints_at_most_five_changes() -> None:
     most = 0
     for damage in corpus().values():
         case = case_of(damage.octets)
-        shown = re.findall(numbered, text_told(case), re.M)
+        shown = re.findall(numbered, printed_text(case), re.M)
         found = case.findings.all if case.findings else []
         assert shown == [str(nth + 1) for nth in range(min(5, len(found)))], damage.name
         most = max(most, len(found))
@@ -53,7 +53,7 @@ def test_prints_at_most_five_changes() -> None:
 @pytest.mark.parametrize("name", sorted(corpus()))
 def test_explains_what_people_bring(name: str) -> None:
     damage = corpus()[name]
-    text = text_told(case_of(damage.octets))
+    text = printed_text(case_of(damage.octets))
     missing = [each for each in damage.sentences if each not in unwrapped(text)]
     assert missing == [], text
     assert text.splitlines()[-1].startswith(("Ask ", "Nothing has to be sent again.")), text

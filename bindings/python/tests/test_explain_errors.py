@@ -38,7 +38,7 @@ from support.bindings.explaining import (
     case_of,
     explained_samples,
     reach,
-    text_told,
+    printed_text,
     unwrapped,
 )
 
@@ -149,7 +149,7 @@ def named(many: Iterable[bytes]) -> int:
 def explained(octets: bytes) -> Optional[Tuple[Case, str]]:
     """Check the explanation of an input, and return it, or `None` if the input is accepted."""
     case = case_of(octets)
-    text = text_told(case)
+    text = printed_text(case)
     assert all(len(line) <= 80 for line in text.splitlines()), max(text.splitlines(), key=len)
     if case.refusal is None:
         return None
@@ -174,7 +174,7 @@ def side_by_side(function: Callable[[List[T]], Result], things: List[T]) -> List
 def test_locates_the_error_of_each_sample() -> None:
     for name, (octets, lines) in explained_samples().items():
         case = case_of(octets)
-        text = text_told(case)
+        text = printed_text(case)
         accepted = [
             f"{found.nth} accepted {found.length} octets"
             for found in case.listed()
@@ -301,7 +301,7 @@ def test_lists_the_likeliest_fix_first() -> None:
     assert [(each.first, each.last, each.octets, each.whole) for each in outputs] == [
         (at, at, frozenset(whole[at]), True) for at in [*MENDING, NUMBER]
     ]
-    printed = text_told(case).partition("WHAT TO DO\n")[2].partition("\n\n")[0]
+    printed = printed_text(case).partition("WHAT TO DO\n")[2].partition("\n\n")[0]
     assert re.findall(r"\d\. Octet (\d+) ", printed) == [str(at) for at in MENDING]
     # (if no fix makes the envelope complete, the fixes that make more of it valid have the same
     # order)

@@ -10,7 +10,13 @@ import rules
 from envelopes import SMALLEST, STORY
 from iim.explain import page as explain_page, sections as explain_sections
 from support.bindings.comparing import by_rules
-from support.bindings.explaining import BAD_DATE, case_of, explained_samples, text_told, unwrapped
+from support.bindings.explaining import (
+    BAD_DATE,
+    case_of,
+    explained_samples,
+    printed_text,
+    unwrapped,
+)
 
 
 BLOCK_OF_PICTURE = (
@@ -120,11 +126,11 @@ HINTS = {
 def test_prints_each_hint_only_where_it_applies(folder: str) -> None:
     for words, (asking, others) in HINTS.items():
         for octets in asking:
-            text = unwrapped(text_told(case_of(octets)))
+            text = unwrapped(printed_text(case_of(octets)))
             assert words in text, f"{words!r} is not printed for {octets!r}: {text}"
         for octets in others:
             assert words not in unwrapped(
-                text_told(case_of(octets))
+                printed_text(case_of(octets))
             ), f"{words!r} is printed for {octets!r}"
 
 
@@ -139,14 +145,14 @@ def test_accepts_envelopes_with_record_1_restored(folder: str) -> None:
         )
     assert by_rules(front + STORY[RECORD_1:-1])[:20] == f"refused at octet {RECORD_1 + 190}"
     # (there is no hint under limits that are too small for a record 1)
-    assert "inserted" not in text_told(
+    assert "inserted" not in printed_text(
         case_of(STORY[RECORD_1:], iim.Limits(20, 5))
     ), "a record 1 was inserted"
 
 
 def test_prints_no_transfer_hint_for_other_samples(folder: str) -> None:
     for name, (octets, _) in explained_samples().items():
-        text = unwrapped(text_told(case_of(octets)))
+        text = unwrapped(printed_text(case_of(octets)))
         for words in (
             "changed to LF",
             "changed to CR LF",
@@ -169,7 +175,7 @@ def test_names_its_sections(folder: str) -> None:
     assert titles(BAD_DATE) == ["Where", "Why", "What to do", accepted, "Note"]
     assert titles(SMALLEST[:100])[3] == "Bytes accepted next"
     assert (titles(b""), titles(SMALLEST)) == (["Empty file"], [])
-    text = text_told(case_of(BAD_DATE))
+    text = printed_text(case_of(BAD_DATE))
     for line in (
         "  Likely reason: a date that does not exist, or in another form.",
         "  First: ask the sender to send it as CCYYMMDD.",
@@ -188,7 +194,7 @@ def test_names_its_sections(folder: str) -> None:
 def test_states_that_nothing_was_repaired(folder: str) -> None:
     for name, (octets, _) in explained_samples().items():
         case = case_of(octets)
-        reported = [unwrapped(text_told(case)), unwrapped(explain_page.page(case))]
+        reported = [unwrapped(printed_text(case)), unwrapped(explain_page.page(case))]
         assert (name, [explain_sections.NOTE in each for each in reported]) == (
             name,
             [case.refusal is not None] * 2,

@@ -10,8 +10,8 @@ import rules
 from envelopes import SMALLEST, STORY
 from iim.explain import page as explain_page
 from newsroom import COPIES, NORWEGIAN
-from support.bindings.explaining import case_of, explained_samples, text_told
-from support.bindings.sentences import Told, file_of, number, told
+from support.bindings.explaining import case_of, explained_samples, printed_text
+from support.bindings.sentences import Claim, claims, file_of, number
 
 
 def refused_files() -> Dict[str, bytes]:
@@ -32,7 +32,7 @@ def refused_files() -> Dict[str, bytes]:
     return files
 
 
-def wrong(found: List[Told]) -> List[Told]:
+def wrong(found: List[Claim]) -> List[Claim]:
     """Return what was printed otherwise than computed."""
     return [each for each in found if each.printed != each.computed]
 
@@ -40,7 +40,7 @@ def wrong(found: List[Told]) -> List[Told]:
 def test_prints_the_numbers_of_the_file() -> None:
     count = 0
     for name, octets in refused_files().items():
-        found = list(told(octets, text_told(case_of(octets))))
+        found = list(claims(octets, printed_text(case_of(octets))))
         assert (name, wrong(found)) == (name, [])
         count += len(found)
     assert count > 3_000, f"{count} numbers"
@@ -121,7 +121,7 @@ def test_says_how_much_a_page_leaves_out() -> None:
 def test_prints_both_ends_of_a_long_story() -> None:
     lines = [b"Line %03d" % nth for nth in range(100)]
     octets = rules.packed(NORWEGIAN.fields, rules.object_of(NORWEGIAN.head, lines, b""), 8_192)
-    text = text_told(case_of(octets, shows_all=True))
+    text = printed_text(case_of(octets, shows_all=True))
     shown = re.findall(r"line(?:, CR LF)? +(Line \d+)", text)
     assert shown == [line.decode() for line in [*lines[:20], *lines[-20:]]]
     (until,) = re.findall(r"\.\.\. octets up to ([\d,]+) are left out", text)
@@ -138,5 +138,5 @@ def test_lists_all_lines_of_a_story() -> None:
         # (a line that is in two subfiles is shown in two parts)
         lines = [line.decode(copy.encoding) for line in copy.lines]
         assert (name, "".join(shown)) == (name, "".join(lines))
-    text = text_told(case_of(STORY, shows_all=True))
+    text = printed_text(case_of(STORY, shows_all=True))
     assert re.findall(r"line, CR LF +(.*)", text) == ["Rates stay."]

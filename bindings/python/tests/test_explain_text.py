@@ -25,7 +25,7 @@ from support.bindings.explaining import (
     iim_text,
     on_a_terminal,
     accepted_after,
-    text_told,
+    printed_text,
     unwrapped,
 )
 from support.bindings.running import write_file
@@ -76,7 +76,7 @@ def test_describes_values_in_words(folder: str) -> None:
     assert words.names(set(range(256)) - {3}) == "any octet except ETX"
     assert words.names([]) == "no octet"
     release = explained_samples()["release.iim"][0]
-    assert "Released at 2024-03-01T13:00:00Z." in text_told(
+    assert "Released at 2024-03-01T13:00:00Z." in printed_text(
         case_of(release, shows_all=True)
     ), "the release"
 
@@ -178,7 +178,7 @@ def test_never_truncates_ids(folder: str) -> None:
             (whole[:-1], "a file that ends early"),
             (whole.replace(b"\3\4", b"\2\4"), "an octet"),
         ]:
-            text = text_told(case_of(SMALLEST + octets))
+            text = printed_text(case_of(SMALLEST + octets))
             rows = [line for line in text.splitlines() if line.endswith("  REFUSED")]
             assert (kind, [row.split(" octets  ")[1] for row in rows]) == (
                 kind,

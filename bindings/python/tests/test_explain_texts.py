@@ -8,7 +8,7 @@ from newsroom import NORWEGIAN
 
 from iim.designations import encoding_of
 from iim.explain import charsets, page, recognition
-from support.bindings.explaining import case_of, text_told, unwrapped
+from support.bindings.explaining import case_of, printed_text, unwrapped
 from support.running import TOP
 
 # Designations of the register ISO-IR, each with some bytes and the letters that the set has there:
@@ -146,7 +146,7 @@ def test_guesses_the_encoding_of_long_lines() -> None:
         8_192,
     )
     assert line[:2_048].decode("utf-8", "replace")[-1] == "\ufffd"
-    text = text_told(case_of(octets, shows_all=True))
+    text = printed_text(case_of(octets, shows_all=True))
     assert "Text is shown in utf-8, a guess," in unwrapped(text)
     assert "Длинная строка, Длинная" in text
 
@@ -154,7 +154,7 @@ def test_guesses_the_encoding_of_long_lines() -> None:
 def test_isolates_right_to_left_text() -> None:
     headline = "שלום abc".encode("iso8859-8")
     fields = [*SMALLEST_FIELDS[:6], (1, 90, b"\x1b-H"), *SMALLEST_FIELDS[6:], (2, 105, headline)]
-    text = text_told(case_of(rules.packed(fields, STORY_OBJECT, 1_024), shows_all=True))
+    text = printed_text(case_of(rules.packed(fields, STORY_OBJECT, 1_024), shows_all=True))
     headed = text.partition("2:105 Headline, 8")[2].split("\n", 2)
     shown = [part.strip() for part in headed[:2]]
     assert shown == ["\u2068שלום abc\u2069", r"[\xF9\xEC\xE5\xED abc]"]
@@ -172,8 +172,8 @@ def test_isolates_right_to_left_text() -> None:
     ],
 )
 def test_says_what_to_ask_for_last(octets: bytes, sentence: str) -> None:
-    assert text_told(case_of(octets)).splitlines()[-1] == sentence
-    assert unwrapped(text_told(case_of(octets))).count(sentence) == 2
+    assert printed_text(case_of(octets)).splitlines()[-1] == sentence
+    assert unwrapped(printed_text(case_of(octets))).count(sentence) == 2
 
 
 @pytest.mark.parametrize("name", ["smallest", "story"])

@@ -95,7 +95,7 @@ def in_program(text: str, words: Sequence[Name]) -> Tuple[int, List[Row], str]:
 def called(*words: Name) -> Tuple[int, str, str]:
     """Run iim-archive in this process, and return the status, the output and the errors.
 
-    It takes a third of a second less than a process of its own.
+    It takes a third of a second less than a separate process.
     """
     from iim.archive import program
 

@@ -60,7 +60,7 @@ def case_of(
     return Case(held, limits, wanted, shows_all=shows_all, encoding=encoding)
 
 
-def text_told(case: Case) -> str:
+def printed_text(case: Case) -> str:
     """Return the text that is printed for a case."""
     return "\n".join(lines(case, Paint(False)))
 

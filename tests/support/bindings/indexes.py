@@ -31,12 +31,14 @@ def envelope_cells(file: int, nth: int, **columns: Any) -> List[Any]:
 
 def refusal_row(file: int, nth: int, at: int, cause: int = 15, name: str = "BadValue") -> Any:
     """Return a row of a refusal."""
-    told = f'{{"envelope": {nth}, "at": {at}, "refused": {{"layer": "record", "dataset": "1:70",'
-    told += f' "octet": 54, "octet_in_file": {at + 54}, "cause": {cause}, "cause_name": "{name}",'
-    told += ' "name": "Date Sent"}, "id": {"service": "TST", "number": null, "date_sent": null},'
+    refusal = f'{{"envelope": {nth}, "at": {at}, "refused": {{"layer": "record", "dataset": "1:70",'
+    refusal += (
+        f' "octet": 54, "octet_in_file": {at + 54}, "cause": {cause}, "cause_name": "{name}",'
+    )
+    refusal += ' "name": "Date Sent"}, "id": {"service": "TST", "number": null, "date_sent": null},'
     # (of other days, so that an index by days is of use)
     date = f"2024{file % 12 + 1:02}{file % 28 + 1:02}"
-    return (file, nth, at, cause, name, "TST", None, date, told + ' "fields": []}')
+    return (file, nth, at, cause, name, "TST", None, date, refusal + ' "fields": []}')
 
 
 def made_index(
